@@ -1,0 +1,24 @@
+-- Worked examples of the definitions. A wrong reading of one fails the check.
+use Rattle.std.specs.Prelude.{◌≡◌, refl, [], Some, None, codes, true, false}
+use Rattle.ht_base.specs.Name.{is_name, name_of}
+
+a_letter : is_name (codes "a") ≡ true
+a_letter = refl
+
+each_mark : is_name (codes "A_z.9-") ≡ true
+each_mark = refl
+
+thirty_two_bytes : is_name (codes "abcdefghijklmnopqrstuvwxyz012345") ≡ true
+thirty_two_bytes = refl
+
+thirty_three_bytes : is_name (codes "abcdefghijklmnopqrstuvwxyz0123456") ≡ false
+thirty_three_bytes = refl
+
+no_bytes : name_of [] ≡ None
+no_bytes = refl
+
+a_blank : name_of (codes "a b") ≡ None
+a_blank = refl
+
+a_name : name_of (codes "p0") ≡ Some (codes "p0")
+a_name = refl

@@ -1,0 +1,6 @@
+pub mod Bytes
+pub mod Examples
+pub mod Name
+pub mod NameBytes
+pub mod Role
+pub mod State

@@ -1,0 +1,29 @@
+//! The plain types that every other crate speaks in: names, persons, tasks, moments, the states
+//! and roles of a task, and the events, replies and refusals of the task machine.
+#![tactic(auto)]
+
+mod bytes;
+mod event;
+mod memory;
+mod moment;
+mod name;
+mod operation;
+mod person;
+mod reply;
+mod role;
+mod state;
+mod task_id;
+#[cfg(test)]
+mod tests;
+
+pub use bytes::Bytes;
+pub use event::{Command, Event};
+pub use memory::Memory;
+pub use moment::{LAST, Moment};
+pub use name::Name;
+pub use operation::Op;
+pub use person::Person;
+pub use reply::{Answer, Limit, Refusal, Reply};
+pub use role::{Role, Roles};
+pub use state::{State, StateSet};
+pub use task_id::TaskId;

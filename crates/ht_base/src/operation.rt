@@ -1,0 +1,27 @@
+/// An operation on a task (WS-HumanTask 1.1, 7.1 "Client operations").
+#[derive(Clone, Copy, Debug, PartialEq, Eq)]
+pub enum Op {
+    Create,
+    Claim,
+    Start,
+    Stop,
+    Release,
+    Delegate,
+    Forward,
+    Nominate,
+    Activate,
+    SetRole,
+    SetPriority,
+    Suspend,
+    SuspendUntil,
+    Resume,
+    SetOutput,
+    Complete,
+    Fail,
+    Skip,
+    Exit,
+    Error,
+    AddComment,
+    InstantiateSubTask,
+    Get,
+}

@@ -1,0 +1,91 @@
+use crate::{Bytes, LAST, Moment, Name, Role, Roles, State, StateSet};
+use std::alloc::AllocError;
+use std::test::Fail;
+
+#[test]
+fn names_are_read(rt: HostRuntime) -> Result<(), Fail> {
+    let table: [(&[u8], bool); 11] = [
+        (b"anna", true),
+        (b"p0", true),
+        (b"A_z.9-", true),
+        (b"-", true),
+        (b"abcdefghijklmnopqrstuvwxyz012345", true),
+        (b"abcdefghijklmnopqrstuvwxyz0123456", false),
+        (b"", false),
+        (b"a b", false),
+        (b"a/b", false),
+        (b"caf\xc3\xa9", false),
+        (b"a\0", false),
+    ];
+    for (bytes, is_name) in table {
+        match Name::of(bytes) {
+            Some(name) => {
+                assert!(rt; is_name, "{bytes:?}");
+                assert_eq!(rt; name.as_bytes(), bytes);
+            }
+            None => assert!(rt; !is_name, "{bytes:?}"),
+        }
+    }
+    let (first, second) = (Name::of(b"p1"), Name::of(b"p10"));
+    assert!(rt; first < second);
+    assert!(rt; first != second);
+    Ok(())
+}
+
+#[test]
+fn bytes_grow_and_are_copied(rt: HostRuntime) -> Result<(), Fail> {
+    let mut bytes = Bytes::new(rt.alloc());
+    bytes.reserve(16)?;
+    bytes.extend(b"task")?;
+    let copy = bytes.copy(rt.alloc())?;
+    bytes.clear();
+    bytes.extend(b"s")?;
+    assert_eq!(rt; bytes.as_slice(), b"s".as_slice());
+    assert_eq!(rt; copy.as_slice(), b"task".as_slice());
+    let of = Bytes::of(rt.alloc(), b"row")?;
+    assert_eq!(rt; of.as_slice(), b"row".as_slice());
+    Ok(())
+}
+
+#[test]
+fn sets_hold_what_was_put_in(rt: HostRuntime) {
+    let states = StateSet::NONE.with(State::Ready).with(State::Obsolete);
+    let mut held = 0usize;
+    for state in [
+        State::Created,
+        State::Ready,
+        State::Reserved,
+        State::InProgress,
+        State::SuspendedReady,
+        State::SuspendedReserved,
+        State::SuspendedInProgress,
+        State::Completed,
+        State::Failed,
+        State::Error,
+        State::Exited,
+        State::Obsolete,
+    ] {
+        if states.contains(state) {
+            held = held.saturating_add(state.name().len());
+        }
+    }
+    assert_eq!(rt; held, "Ready".len() + "Obsolete".len());
+    let roles = Roles::NONE.with(Role::PotentialOwner);
+    assert!(rt; roles.contains(Role::PotentialOwner));
+    assert!(rt; !roles.contains(Role::Operator));
+    assert_eq!(rt; Role::PotentialOwner.name(), "potentialOwner");
+}
+
+#[test]
+fn the_last_moment_is_the_end_of_9999(rt: HostRuntime) {
+    // 2932896 is the day number of 9999-12-31.
+    assert_eq!(rt; Moment(LAST), Moment(2_932_896 * 86_400_000 + 86_399_999));
+}
+
+#[test]
+fn want_of_memory_is_told(rt: HostRuntime) -> Result<(), Fail> {
+    let memory = crate::Memory::from(AllocError);
+    let text = format!(in rt.alloc(); "{memory}")?;
+    assert_eq!(rt; text.as_str(), "out of memory");
+    Ok(())
+}

@@ -1,0 +1,6 @@
+pub mod Deciding
+pub mod Directory
+pub mod Examples
+pub mod History
+pub mod Kept
+pub mod Tables

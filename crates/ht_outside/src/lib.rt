@@ -1,0 +1,24 @@
+//! The outside of the server as traits: where bytes come from and where they go. Each object
+//! counts its faults, and an object that can tell its bytes tells them. Beside each trait stand a
+//! form in memory for tests and an adapter to the real thing.
+#![tactic(auto)]
+
+mod failed;
+mod link;
+mod memory_sink;
+mod memory_source;
+mod sink;
+mod source;
+mod std_sink;
+mod std_source;
+#[cfg(test)]
+mod tests;
+
+pub use failed::Failed;
+pub use link::{Link, Pair};
+pub use memory_sink::MemorySink;
+pub use memory_source::MemorySource;
+pub use sink::Sink;
+pub use source::Source;
+pub use std_sink::StdSink;
+pub use std_source::StdSource;

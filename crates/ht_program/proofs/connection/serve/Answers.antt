@@ -1,0 +1,36 @@
+use Rattle.std.proofs.Common.{◌≡◌, ap, arith}
+use Rattle.std.specs.Prelude.{Some}
+use Rattle.ht_program.specs.Running.{budget}
+use Rattle.ht_program.proofs.Continuing.{goes_on, goes_ran, goes_follows}
+use Rattle.ht_program.proofs.Exchanging.{begun, not_begun}
+use Rattle.ht_program.proofs.connection.serve.Goals as goal
+
+pub returns-in_default-clause-ran : goal.returns-in_default-clause-ran
+returns-in_default-clause-ran g c = not_begun _ _ _ _ _
+
+pub returns-in_default-new-clause-ran : goal.returns-in_default-new-clause-ran
+returns-in_default-new-clause-ran g c = not_begun _ _ _ _ _
+
+pub loop-number-init : goal.loop-number-init
+loop-number-init g c = record {
+  goes = begun _ _ _ _ _ _ _ c.in-Ok.ensures c.in-Ok-new.ensures.0;
+  room = c.in-Ok-new.ensures.1;
+  read = omega arith;
+  write = omega arith;
+}
+
+pub returns-in-Some-clause-ran : goal.returns-in-Some-clause-ran
+returns-in-Some-clause-ran g c = goes_ran _ _ _ _ _ _ _ _ _ _ _ _ _ _ _ (λ e. c.in-Some.ensures.under (ap Some e)) c.loop-number.invariant.goes c.in-Some.ensures.served
+
+pub loop-number-preserved : goal.loop-number-preserved
+loop-number-preserved g c = record {
+  goes = goes_on _ _ _ _ _ _ _ _ _ _ _ _ _ _ _ _ _ c.loop-number.invariant.goes c.in_default-served.ensures.served;
+  room = c.serve_next-served.ensures.room;
+  read = omega (arith, c.loop-number.invariant.read, c.serve_next-served.ensures.causes.read_later);
+  write = omega (arith, c.loop-number.invariant.write, c.serve_next-served.ensures.causes.write_later);
+}
+
+pub returns-clause-ran : goal.returns-clause-ran
+returns-clause-ran g c =
+    let all : c.loop-number.number ≡ budget = omega (arith, c.loop-number-test.false, c.loop-number.auto.number-end) in
+    goes_follows _ _ _ _ _ _ _ _ _ _ _ (rw all at c.loop-number.invariant.goes) _ c.what_follows.ensures.follows

@@ -1,0 +1,160 @@
+ghost use Rattle.std.specs.Prelude.{◌≡◌, ◌≢◌, ◌+◌, ◌≤◌, [], length, Some, IfOk, MatchOption};
+ghost use Rattle.ht_outside.specs.Causes.{HasCause};
+ghost use Rattle.ht_machine.specs.Tables.{no_tables};
+ghost use Rattle.ht_machine.specs.Deciding.{IsValid, decide};
+ghost use Rattle.ht_wire.specs.Reading.{HasReadCause};
+ghost use Rattle.ht_wire.specs.Replies.{IsReplyStatus};
+ghost use Rattle.ht_program.specs.Answering.{Answers, Decides};
+ghost use Rattle.ht_program.specs.Running.{Follows, Goes, HasCauses, Ran};
+ghost use Rattle.ht_program.specs.Words.{last_moment};
+
+use crate::ending::Ending;
+use crate::routing::event_of;
+use crate::texts::{HEAD_TEXT, MEMORY_TEXT, TEXT_ROOM, api_reply, put, status_of, write_answer};
+use crate::words::Run;
+use ht_base::{Bytes, Event, Memory, Moment};
+use ht_machine::{Tables, run_one};
+use ht_outside::{Failed, Sink, Source};
+use ht_wire::{Buffer, Next, Request, next_request, write_reply};
+use std::alloc::Global;
+
+/// The most requests that one run answers.
+const BUDGET: u64 = 1_048_576;
+
+/// What was read and not answered yet, and the text of the last reply.
+#[derive(Drop)]
+struct Buffers {
+    input: Buffer,
+    text: Bytes,
+}
+
+/// Serves the connection over input and output, from no tasks on.
+pub(crate) fn serve<S: Source, K: Sink>(
+    alloc: Global,
+    run: &Run,
+    input: &mut S,
+    output: &mut K,
+) -> Ending
+    ensures ran { Ran run.now.from run.now.step 0 no_tables (S.flow input.old) (S.flow input.new) [] (K.written output.old) (K.written output.new) result }
+    ensures causes { HasCauses (S.read_faults input.old) (S.read_faults input.new) (K.write_faults output.old) (K.write_faults output.new) (Some result) }
+{
+    let Ok(mut tables) = Tables::builtin(alloc) else {
+        return Ending::Memory;
+    };
+    let Ok(mut buffers) = Buffers::new(alloc) else {
+        return Ending::Memory;
+    };
+    for number in 0..BUDGET {
+        let served = serve_next(alloc, run, number, &mut tables, input, output, &mut buffers);
+        if let Some(ending) = served {
+            return ending;
+        }
+    }
+    what_follows(alloc, input, &mut buffers.input)
+}
+
+impl Buffers {
+    fn new(alloc: Global) -> Result<Buffers, Memory>
+        ensures { IfOk result (λ b. (b.input ≡ []) × (1024 ≤ b.text.spare + length b.text.items)) }
+    {
+        let input = Buffer::new(alloc)?;
+        let mut text = Bytes::new(alloc);
+        text.reserve(TEXT_ROOM)?;
+        Ok(Buffers { input, text })
+    }
+}
+
+// Reads the request of this number and answers it, or says how the connection ended.
+fn serve_next<S: Source, K: Sink>(
+    alloc: Global,
+    run: &Run,
+    number: u64,
+    tables: &mut Tables,
+    input: &mut S,
+    output: &mut K,
+    buffers: &mut Buffers,
+) -> Option<Ending>
+    requires { 1024 ≤ buffers.old.text.spare + length buffers.old.text.items }
+    ensures served { MatchOption result
+        (Goes run.now.from run.now.step number (number + 1) tables.old tables.new (S.flow input.old) (S.flow input.new) buffers.old.input buffers.new.input (K.written output.old) (K.written output.new))
+        (Ran run.now.from run.now.step number tables.old (S.flow input.old) (S.flow input.new) buffers.old.input (K.written output.old) (K.written output.new)) }
+    ensures causes { HasCauses (S.read_faults input.old) (S.read_faults input.new) (K.write_faults output.old) (K.write_faults output.new) result }
+    ensures room { 1024 ≤ buffers.new.text.spare + length buffers.new.text.items }
+    ensures under { result ≢ Some Ending.Budget }
+{
+    match next_request(alloc, input, &mut buffers.input) {
+        Next::Request(request) => {
+            let status = answer(tables, &request, run.moment(number), &mut buffers.text);
+            match write_reply(output, status, buffers.text.as_slice(), request.last) {
+                Ok(()) => {
+                    if request.last {
+                        return Some(Ending::Done);
+                    }
+                    None
+                }
+                Err(Failed) => Some(Ending::WriteFault),
+            }
+        }
+        Next::End => Some(Ending::Done),
+        Next::Refused(code) => match write_reply(output, code, HEAD_TEXT, true) {
+            Ok(()) => Some(Ending::Wire(code)),
+            Err(Failed) => Some(Ending::WriteFault),
+        },
+        Next::ReadFault => Some(Ending::ReadFault),
+        Next::Memory => Some(Ending::Memory),
+    }
+}
+
+// Whether more input stands behind the last request that may be answered.
+fn what_follows<S: Source>(alloc: Global, input: &mut S, buffer: &mut Buffer) -> Ending
+    ensures follows { Follows (S.flow input.old) (S.flow input.new) buffer.old result }
+    ensures cause { HasCauses (S.read_faults input.old) (S.read_faults input.new) 0 0 (Some result) }
+{
+    match next_request(alloc, input, buffer) {
+        Next::Request(_) => Ending::Budget,
+        Next::End => Ending::Done,
+        Next::Refused(_) => Ending::Budget,
+        Next::ReadFault => Ending::ReadFault,
+        Next::Memory => Ending::Memory,
+    }
+}
+
+// The status of the reply to a request, whose text is put in place of the last one.
+fn answer(tables: &mut Tables, request: &Request, at: Moment, text: &mut Bytes) -> u16
+    requires at { at.0 ≤ last_moment }
+    requires room { 1024 ≤ text.old.spare + length text.old.items }
+    ensures answers { Answers tables.old tables.new request.now at.0 result text.new.items }
+    ensures known { IsReplyStatus result }
+    ensures room { 1024 ≤ text.new.spare + length text.new.items }
+{
+    text.clear();
+    match event_of(request, at) {
+        Ok(event) => decide_into(tables, &event, text),
+        Err(refusal) => {
+            let (status, bytes) = api_reply(refusal);
+            put(bytes, text);
+            status
+        }
+    }
+}
+
+// The status of the reply to an event, whose text is put into the empty buffer.
+fn decide_into(tables: &mut Tables, event: &Event, text: &mut Bytes) -> u16
+    requires valid { IsValid event.now }
+    requires empty { text.old.items ≡ [] }
+    requires room { 1024 ≤ text.old.spare }
+    ensures decides { Decides tables.old tables.new event.now result text.new.items }
+    ensures known { IsReplyStatus result }
+    ensures room { 1024 ≤ text.new.spare + length text.new.items }
+{
+    match run_one(tables, event) {
+        Ok(reply) => {
+            write_answer(&reply.answer, text);
+            status_of(event, &reply.answer)
+        }
+        Err(Memory) => {
+            put(MEMORY_TEXT, text);
+            500
+        }
+    }
+}

@@ -1,0 +1,49 @@
+//! `office`: a task server. Here are the words of the command line, the loop over one connection,
+//! and the top call. Which event a request is and the text of its answer stand here until they
+//! have a crate of their own.
+#![tactic(auto)]
+
+mod connection;
+mod ending;
+mod routing;
+mod status;
+#[cfg(test)]
+mod tests;
+mod texts;
+mod top_call;
+mod words;
+
+use ht_outside::{StdSink, StdSource};
+pub use status::Status;
+use std::env;
+use std::io::{self, ErrorKind};
+use std::process::ExitCode;
+use std::rt::Env;
+pub use top_call::office;
+
+fn main(rt: HostRuntime) -> ExitCode {
+    let words = match words_of(&rt) {
+        Ok(words) => words,
+        Err(error) => {
+            if error.kind() == ErrorKind::OutOfMemory {
+                return ExitCode::from(8);
+            }
+            // Words that are no text are not in the grammar, as none are.
+            Vec::new(rt.alloc())
+        }
+    };
+    let mut input = StdSource::new(rt.stdin());
+    let mut output = StdSink::new(rt.stdout());
+    let mut complaints = StdSink::new(rt.stderr());
+    let status = office(rt.alloc(), &words, &mut input, &mut output, &mut complaints);
+    ExitCode::from(status.0)
+}
+
+// The words behind the program's name.
+fn words_of(rt: &(impl Env + AllocGlobal)) -> io::Result<Vec<String>> {
+    let mut words = Vec::new(rt.alloc());
+    for word in env::args(rt)?.skip(1) {
+        words.push(word)?;
+    }
+    Ok(words)
+}

@@ -1,0 +1,66 @@
+ghost use Rattle.std.specs.Prelude.{◌≡◌, ◌+◌, ◌≤◌, [], ◌++◌, length, codes, decimal};
+ghost use Rattle.ht_program.specs.Running.{ending_line, ending_status};
+
+use crate::ending::Ending;
+use arrayvec::ArrayVec;
+
+/// The exit status of the program: 0 done, 1 a request that can't be read, 2 wrong words, 7 a
+/// fault of input or output, 8 no memory, 9 more requests than one run answers.
+#[derive(Clone, Copy, Debug, PartialEq, Eq)]
+pub struct Status(pub u8);
+
+impl Status {
+    pub const USAGE: Status = Status(2);
+}
+
+/// A line on complaints, with its line feed.
+pub(crate) type Line = ArrayVec<u8, 64>;
+
+/// The line for wrong words.
+pub(crate) const USAGE_LINE: &[u8] = b"usage: office run, serve, check, load or export\n";
+
+pub(crate) fn status_of(ending: Ending) -> Status
+    ensures { result.0 ≡ ending_status ending }
+{
+    Status(match ending {
+        Ending::Done => 0,
+        Ending::Wire(_) => 1,
+        Ending::ReadFault => 7,
+        Ending::WriteFault => 7,
+        Ending::Memory => 8,
+        Ending::Budget => 9,
+    })
+}
+
+/// The line on complaints about an ending, empty where there is none.
+pub(crate) fn line_of(ending: Ending) -> Line
+    ensures { result.items ≡ ending_line ending }
+{
+    let mut line = Line::new();
+    match ending {
+        Ending::Done => {}
+        Ending::Wire(code) => put_wire(&mut line, code),
+        Ending::ReadFault => {}
+        Ending::WriteFault => {}
+        Ending::Memory => put(&mut line, b"memory\n"),
+        Ending::Budget => put(&mut line, b"budget\n"),
+    }
+    line
+}
+
+fn put_wire(line: &mut Line, code: u16)
+    requires { line.old.items ≡ [] }
+    ensures { line.new.items ≡ codes "wire: " ++ decimal code ++ codes "\n" }
+{
+    let mut digits = itoa::Buffer::new();
+    put(line, b"wire: ");
+    put(line, digits.format(code).as_bytes());
+    put(line, b"\n");
+}
+
+fn put(line: &mut Line, bytes: &[u8])
+    requires { length line.old.items + length bytes.now ≤ 64 }
+    ensures { line.new.items ≡ line.old.items ++ bytes.now }
+{
+    let _ = line.try_extend_from_slice(bytes);
+}

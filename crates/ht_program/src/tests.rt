@@ -1,0 +1,219 @@
+use crate::{Status, office};
+use ht_base::Bytes;
+use ht_outside::{MemorySink, MemorySource};
+use std::alloc::Global;
+use std::test::Fail;
+
+// What a run of the program leaves.
+#[derive(Drop)]
+struct Ran {
+    status: Status,
+    output: MemorySink,
+    complaints: MemorySink,
+    left: usize,
+}
+
+fn words(alloc: Global, line: &str) -> Result<Vec<String>, Fail> {
+    let mut words = Vec::new(alloc);
+    for word in line.split_whitespace() {
+        words.push(String::from_str(alloc, word)?)?;
+    }
+    Ok(words)
+}
+
+fn run_with(
+    alloc: Global,
+    line: &str,
+    input: &str,
+    reads: &[u32],
+    writes: &[u32],
+) -> Result<Ran, Fail> {
+    let words = words(alloc, line)?;
+    let bytes = Bytes::of(alloc, input.as_bytes())?;
+    let mut source = MemorySource::make(alloc, bytes, Vec::from_slice(alloc, reads)?)?;
+    let mut output = MemorySink::make(alloc, Vec::from_slice(alloc, writes)?)?;
+    let mut complaints = MemorySink::make(alloc, Vec::new(alloc))?;
+    let status = office(alloc, &words, &mut source, &mut output, &mut complaints);
+    Ok(Ran {
+        status,
+        output,
+        complaints,
+        left: source.left().len(),
+    })
+}
+
+fn run(alloc: Global, input: &str) -> Result<Ran, Fail> {
+    run_with(alloc, "run --from 1000 --step 1000", input, &[], &[])
+}
+
+// The bytes of a reply with this status line and this text.
+fn reply(alloc: Global, line: &str, text: &str, close: bool) -> Result<String, Fail> {
+    let closing = if close { "connection: close\r\n" } else { "" };
+    let length = text.len();
+    let head = format!(in alloc; "HTTP/1.1 {line}\r\ncontent-type: application/json\r\n")?;
+    Ok(format!(in alloc; "{head}content-length: {length}\r\n{closing}\r\n{text}")?)
+}
+
+const CREATE: &str = "POST /tasks HTTP/1.1\r\nHost: a\r\nx-person: p3\r\n\r\n";
+
+#[test]
+fn a_create_is_answered(rt: HostRuntime) -> Result<(), Fail> {
+    let ran = run(rt.alloc(), CREATE)?;
+    let want = "HTTP/1.1 201 Created\r\ncontent-type: application/json\r\n\
+        content-length: 39\r\n\r\n{\"owner\":null,\"state\":\"Ready\",\"task\":1}";
+    assert_eq!(rt; ran.status, Status(0));
+    assert_eq!(rt; ran.output.written(), want.as_bytes());
+    assert!(rt; ran.complaints.written().is_empty());
+    Ok(())
+}
+
+#[test]
+fn requests_are_answered_by_their_form(rt: HostRuntime) -> Result<(), Fail> {
+    let ready = "{\"owner\":null,\"state\":\"Ready\",\"task\":1}";
+    let route = "{\"fault\":\"Route\"}";
+    let person = "{\"fault\":\"Person\"}";
+    let table = [
+        (
+            "POST /tasks HTTP/1.1\r\nX-PERSON: p15\r\n\r\n",
+            "201 Created",
+            ready,
+            false,
+        ),
+        (
+            "POST /tasks HTTP/1.0\r\nx-person: p0\r\n\r\n",
+            "201 Created",
+            ready,
+            true,
+        ),
+        (
+            "POST /tasks HTTP/1.1\r\n\r\n",
+            "401 Unauthorized",
+            person,
+            false,
+        ),
+        (
+            "POST /tasks HTTP/1.1\r\nx-person: p16\r\n\r\n",
+            "401 Unauthorized",
+            person,
+            false,
+        ),
+        (
+            "POST /tasks HTTP/1.1\r\nx-person: a b\r\n\r\n",
+            "401 Unauthorized",
+            person,
+            false,
+        ),
+        (
+            "POST /tasks HTTP/1.1\r\nx-person: p1\r\nx-person: p1\r\n\r\n",
+            "401 Unauthorized",
+            person,
+            false,
+        ),
+        (
+            "POST /tasks/ HTTP/1.1\r\nx-person: p1\r\n\r\n",
+            "404 Not Found",
+            route,
+            false,
+        ),
+        (
+            "post /tasks HTTP/1.1\r\nx-person: p1\r\n\r\n",
+            "404 Not Found",
+            route,
+            false,
+        ),
+        (
+            "POST /tasks/1/claim HTTP/1.1\r\nx-person: p1\r\n\r\n",
+            "404 Not Found",
+            route,
+            false,
+        ),
+        (
+            "GET /tasks/1 HTTP/1.1\r\nconnection: close\r\n\r\n",
+            "404 Not Found",
+            route,
+            true,
+        ),
+    ];
+    for (input, line, text, close) in table {
+        let ran = run(rt.alloc(), input)?;
+        let want = reply(rt.alloc(), line, text, close)?;
+        assert_eq!(rt; ran.status, Status(0), "{input:?}");
+        assert_eq!(rt; ran.output.written(), want.as_bytes(), "{input:?}");
+    }
+    Ok(())
+}
+
+#[test]
+fn an_input_that_is_no_head_is_refused(rt: HostRuntime) -> Result<(), Fail> {
+    let want = reply(rt.alloc(), "400 Bad Request", "{\"fault\":\"Head\"}", true)?;
+    for input in [
+        "POST",
+        "POST /tasks HTTP/1.1\r\nContent-Length: 0\r\n\r\n",
+        "POST /tasks HTTP/1.1\r\nTransfer-Encoding: chunked\r\n\r\n",
+        "?? /tasks\r\n\r\n",
+    ] {
+        let ran = run(rt.alloc(), input)?;
+        assert_eq!(rt; ran.status, Status(1), "{input:?}");
+        assert_eq!(rt; ran.output.written(), want.as_bytes(), "{input:?}");
+        assert_eq!(rt; ran.complaints.written(), b"wire: 400\n".as_slice());
+    }
+    Ok(())
+}
+
+#[test]
+fn an_empty_input_is_done(rt: HostRuntime) -> Result<(), Fail> {
+    for input in ["", "\r\n\r\n"] {
+        let ran = run(rt.alloc(), input)?;
+        assert_eq!(rt; ran.status, Status(0));
+        assert!(rt; ran.output.written().is_empty());
+        assert!(rt; ran.complaints.written().is_empty());
+    }
+    Ok(())
+}
+
+#[test]
+fn wrong_words_are_told(rt: HostRuntime) -> Result<(), Fail> {
+    let usage = "usage: office run, serve, check, load or export\n";
+    for line in [
+        "",
+        "run",
+        "run --from 0",
+        "run --from 0 --from 0",
+        "run --from 0 --step 00",
+        "run --from 0 --step +1",
+        "run --from 0 --step 253402300800000",
+        "run --from=0 --step=0",
+        "run --from 0 --step 0 --limit 1048576",
+        "serve --from 0 --step 0",
+    ] {
+        let ran = run_with(rt.alloc(), line, CREATE, &[], &[])?;
+        assert_eq!(rt; ran.status, Status(2), "{line:?}");
+        assert_eq!(rt; ran.left, CREATE.len());
+        assert!(rt; ran.output.written().is_empty());
+        assert_eq!(rt; ran.complaints.written(), usage.as_bytes());
+    }
+    for line in [
+        "run --step 0 --from 253402300799999",
+        "run --from 0 --step 253402300799999",
+    ] {
+        let ran = run_with(rt.alloc(), line, "", &[], &[])?;
+        assert_eq!(rt; ran.status, Status(0), "{line:?}");
+    }
+    Ok(())
+}
+
+#[test]
+fn a_fault_of_the_pipe_is_told_by_the_status(rt: HostRuntime) -> Result<(), Fail> {
+    let line = "run --from 0 --step 0";
+    let ran = run_with(rt.alloc(), line, CREATE, &[1], &[])?;
+    assert_eq!(rt; ran.status, Status(7));
+    assert_eq!(rt; ran.left, CREATE.len());
+    let ran = run_with(rt.alloc(), line, CREATE, &[2], &[])?;
+    assert_eq!(rt; ran.status, Status(7));
+    assert!(rt; ran.output.written().ends_with(b"\"task\":1}"));
+    let ran = run_with(rt.alloc(), line, CREATE, &[], &[1])?;
+    assert_eq!(rt; ran.status, Status(7));
+    assert!(rt; ran.output.written().is_empty());
+    assert!(rt; ran.complaints.written().is_empty());
+    Ok(())
+}

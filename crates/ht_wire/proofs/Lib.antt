@@ -1,0 +1,5 @@
+pub mod Buffered
+pub mod Finding
+pub mod Outcomes
+pub mod Phrases
+pub mod Written

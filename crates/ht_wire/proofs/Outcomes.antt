@@ -1,0 +1,35 @@
+-- What is seen at the front of a stream holds of the stream as it goes on.
+use Rattle.std.proofs.Common.{◌≡◌, ℕ, ◌+◌, ◌-◌, ◌≤◌, List, ◌++◌, length, take, arith, append-nil, append_assoc, ap, ◌∙◌}
+use lib.Seq.{take-append-add}
+use Rattle.httparse.specs.Grammar.{RequestHead, ReadsRequest, NeverHasRequest}
+use Rattle.httparse.specs.Grammar as httparse
+use Rattle.httparse.specs.Spans.{RequestExceeds, RequestOverflows}
+use Rattle.http_header.specs.Token as header
+use Rattle.ht_wire.specs.Window.{window, room, front}
+
+pub reads_on : (buf more : List ℕ) (h : RequestHead) (rest : List ℕ) → ReadsRequest buf h rest → ReadsRequest (buf ++ more) h (rest ++ more)
+reads_on buf more h rest reads = (reads.0, ap (λ b. b ++ more) reads.1 ∙ append_assoc _ rest more)
+
+pub never_on : (buf more : List ℕ) → NeverHasRequest buf → NeverHasRequest (buf ++ more)
+never_on buf more never later = rw append_assoc (never (more ++ later))
+
+pub exceeds_on : (buf more : List ℕ) → RequestExceeds room buf → RequestExceeds room (buf ++ more)
+exceeds_on buf more e = (e.0, e.1 ++ more, ap (λ b. b ++ more) e.2 ∙ append_assoc e.0 e.1 more, e.3, e.4, e.5)
+
+pub overflows_on : (buf more : List ℕ) → RequestOverflows room buf → RequestOverflows room (buf ++ more)
+overflows_on buf more over later = rw append_assoc (over (more ++ later))
+
+pub front_of : (buf left : List ℕ) → length buf ≤ window → front (buf ++ left) ≡ buf ++ take (window - length buf) left
+front_of buf left within =
+    let cut : window ≡ length buf + (window - length buf) = omega (arith, within) in
+    ap (λ k. take k (buf ++ left)) cut ∙ take-append-add buf left (window - length buf)
+
+pub front_full : (buf left : List ℕ) → length buf ≤ window → window ≤ length buf → front (buf ++ left) ≡ buf
+front_full buf left within full =
+    let cut : window ≡ length buf + 0 = omega (arith, within, full) in
+    ap (λ k. take k (buf ++ left)) cut ∙ take-append-add buf left 0 ∙ append-nil buf
+
+-- a token of httparse is one of http
+pub token_is : (bytes : List ℕ) → httparse.IsToken bytes → header.IsToken bytes
+unfolding httparse.is_token_byte header.is_token_byte
+token_is bytes token = token

@@ -1,0 +1,40 @@
+-- What stands at the front of a stream of bytes: the end, a whole head within the limits, or what
+-- is refused. The grammar of heads is httparse's (RFC 9112, sections 2 to 5).
+use Rattle.std.specs.Prelude.{◌≡◌, ◌⊎◌, ℕ, ◌<◌, ◌≤◌, true, List, length, map, All}
+use Rattle.httparse.specs.Grammar.{RequestHead, print_request, ReadsRequest, HasNoRequest, NeverHasRequest, MayBecomeRequest}
+use Rattle.httparse.specs.Spans.{RequestExceeds, RequestOverflows, name_and_value}
+use Rattle.ht_wire.specs.Fields.{has_body}
+use Rattle.ht_wire.specs.Window.{window, room, front}
+
+-- CR or LF
+abbrev pub IsLineByte : ℕ → Type 0
+IsLineByte b = (b ≡ 13) ⊎ (b ≡ 10)
+
+-- the end of the requests: fewer bytes than a head may have, and all of them CR or LF
+pub record IsEnd (stream : List ℕ) : Type 0 where
+  pub short : length stream < window
+  pub blank : All IsLineByte stream
+
+-- the head h, of at most 16,384 bytes and 64 fields, and then rest
+pub record IsHead (stream : List ℕ) (h : RequestHead) (rest : List ℕ) : Type 0 where
+  pub reads : ReadsRequest stream h rest
+  pub short : length (print_request h) ≤ window
+  pub few : length h.fields ≤ room
+
+-- the fields of a head by name and value
+abbrev pub fields_of : RequestHead → List (List ℕ × List ℕ)
+fields_of h = map name_and_value h.fields
+
+-- a whole head, of a request with a body
+abbrev pub HasBody : List ℕ → Type 0
+HasBody stream = (h : RequestHead) × (rest : List ℕ) × IsHead stream h rest × (has_body (fields_of h) ≡ true)
+
+-- more than 64 fields, or 16,384 bytes that are no whole head but may begin one
+abbrev pub IsTooLong : List ℕ → Type 0
+IsTooLong stream =
+    (RequestExceeds room (front stream) × RequestOverflows room (front stream))
+    ⊎ ((window ≤ length stream) × HasNoRequest (front stream) × MayBecomeRequest (front stream))
+
+-- no continuation makes a head, or the bytes end before the head does
+abbrev pub IsNoHead : List ℕ → Type 0
+IsNoHead stream = NeverHasRequest (front stream) ⊎ ((length stream < window) × HasNoRequest (front stream))

@@ -1,0 +1,11 @@
+pub mod Buffer
+pub mod BufferBytes
+pub mod Examples
+pub mod Fields
+pub mod GivingOut
+pub mod Heads
+pub mod Looking
+pub mod Reading
+pub mod Replies
+pub mod Requests
+pub mod Window

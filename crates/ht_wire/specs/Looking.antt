@@ -1,0 +1,16 @@
+-- What a look at the bytes so far says of them.
+use Rattle.std.specs.Prelude.{◌⊎◌, ℕ, ◌<◌, ◌≤◌, List, length, All}
+use Rattle.httparse.specs.declared.spans.HeaderSpan.{HeaderSpan}
+use Rattle.httparse.specs.Grammar.{RequestHead, HasNoRequest, NeverHasRequest, MayBecomeRequest}
+use Rattle.httparse.specs.Spans.{IsRequestAt, IsRequestWithin, RequestExceeds, RequestOverflows}
+use Rattle.ht_wire.specs.declared.looking.Sight.{Sight}
+use Rattle.ht_wire.specs.declared.looking.Sight.TheVariants.{Head, TooLong, NoHead, Blank, Partial}
+use Rattle.ht_wire.specs.Heads.{IsLineByte}
+use Rattle.ht_wire.specs.Window.{window, room}
+
+abbrev pub Sees : List ℕ → List HeaderSpan → Sight → Type 0
+Sees bytes headers (Head r) = IsRequestWithin bytes headers r × ((h : RequestHead) × IsRequestAt bytes headers r h × (length h.fields ≤ room))
+Sees bytes headers TooLong = (RequestExceeds room bytes × RequestOverflows room bytes) ⊎ ((window ≤ length bytes) × HasNoRequest bytes × MayBecomeRequest bytes)
+Sees bytes headers NoHead = NeverHasRequest bytes
+Sees bytes headers Blank = (length bytes < window) × All IsLineByte bytes
+Sees bytes headers Partial = (length bytes < window) × HasNoRequest bytes

@@ -1,0 +1,16 @@
+//! The wire: bytes to requests, and replies to bytes (HTTP/1.1, RFC 9112).
+#![tactic(auto)]
+
+mod buffer;
+mod fields;
+mod looking;
+mod reading;
+mod replying;
+mod request;
+#[cfg(test)]
+mod tests;
+
+pub use buffer::Buffer;
+pub use reading::{Next, next_request};
+pub use replying::write_reply;
+pub use request::Request;

@@ -1,0 +1,50 @@
+ghost use Rattle.std.specs.Prelude.{◌≡◌, ◌≤◌, All, IsTrue, length};
+ghost use Rattle.ht_wire.specs.Heads.{IsLineByte};
+ghost use Rattle.ht_wire.specs.Looking.{Sees};
+
+use crate::buffer::WINDOW;
+use httparse::spans::{HeaderSpan, RequestSpans, parse_request};
+use httparse::{Error, Status};
+
+/// The most fields that a head has.
+pub(crate) const ROOM: usize = 64;
+
+/// What stands at the front of the bytes that are there so far.
+#[derive(Clone, Copy)]
+pub(crate) enum Sight {
+    Head(RequestSpans),
+    /// More fields than a head has, or as many bytes as one has at most and no whole head.
+    TooLong,
+    /// No bytes can follow that make a head.
+    NoHead,
+    /// Only CR and LF.
+    Blank,
+    /// The beginning of a head.
+    Partial,
+}
+
+pub(crate) fn look(bytes: &[u8], headers: &mut [HeaderSpan; ROOM]) -> Sight
+    requires { length bytes.now ≤ 16384 }
+    ensures { Sees bytes.now headers.new result }
+{
+    if bytes.len() < WINDOW && is_blank(bytes) {
+        return Sight::Blank;
+    }
+    match parse_request(bytes, headers) {
+        Ok(Status::Complete(head)) => Sight::Head(head),
+        Ok(Status::Partial) => {
+            if bytes.len() == WINDOW {
+                return Sight::TooLong;
+            }
+            Sight::Partial
+        }
+        Err(Error::TooManyHeaders) => Sight::TooLong,
+        Err(_) => Sight::NoHead,
+    }
+}
+
+fn is_blank(bytes: &[u8]) -> bool
+    ensures { IsTrue result → All IsLineByte bytes.now }
+{
+    bytes.iter().all(|b| *b == b'\r' || *b == b'\n')
+}

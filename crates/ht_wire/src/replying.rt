@@ -1,0 +1,92 @@
+ghost use Rattle.std.specs.Prelude.{◌≡◌, ◌+◌, ◌≤◌, ◌++◌, length};
+ghost use Rattle.ht_outside.specs.Causes.{HasCause};
+ghost use Rattle.ht_outside.specs.Tells.{WriteGrows};
+ghost use Rattle.ht_wire.specs.Replies.{IsReplyStatus, phrase_of, closing, reply_head, reply_bytes};
+
+use arrayvec::ArrayVec;
+use ht_outside::{Failed, Sink};
+use http::StatusCode;
+
+// A reply whose head and body fit goes out by one write.
+type Piece = ArrayVec<u8, 1024>;
+
+/// Writes a reply with a JSON body. The reply to the `last` request says that the connection
+/// closes. It takes no memory.
+pub fn write_reply<K: Sink>(
+    sink: &mut K,
+    status: u16,
+    body: &[u8],
+    last: bool,
+) -> Result<(), Failed>
+    requires { IsReplyStatus status }
+    ensures written { WriteGrows (K.written sink.old) (K.written sink.new) result (reply_bytes status body.now last) }
+    ensures beside { K.beside_sink sink.new ≡ K.beside_sink sink.old }
+    ensures cause { HasCause (K.write_faults sink.old) (K.write_faults sink.new) result }
+{
+    let mut piece = head_of(status, body.len(), last);
+    if piece.remaining_capacity() < body.len() {
+        return write_both(sink, &piece, body);
+    }
+    put(&mut piece, body);
+    sink.write(&piece)
+}
+
+// By two writes.
+fn write_both<K: Sink>(sink: &mut K, first: &[u8], second: &[u8]) -> Result<(), Failed>
+    ensures written { WriteGrows (K.written sink.old) (K.written sink.new) result (first.now ++ second.now) }
+    ensures beside { K.beside_sink sink.new ≡ K.beside_sink sink.old }
+    ensures cause { HasCause (K.write_faults sink.old) (K.write_faults sink.new) result }
+{
+    sink.write(first)?;
+    sink.write(second)
+}
+
+// The status line and the fields.
+fn head_of(status: u16, length: usize, last: bool) -> Piece
+    requires { IsReplyStatus status }
+    ensures { result.items ≡ reply_head status length last }
+{
+    let mut digits = itoa::Buffer::new();
+    let mut head = Piece::new();
+    put(&mut head, b"HTTP/1.1 ");
+    put(&mut head, digits.format(status).as_bytes());
+    put(&mut head, b" ");
+    put(&mut head, phrase(status).as_bytes());
+    put(
+        &mut head,
+        b"\r\ncontent-type: application/json\r\ncontent-length: ",
+    );
+    put(&mut head, digits.format(length).as_bytes());
+    put(&mut head, b"\r\n");
+    put(&mut head, closing_field(last));
+    put(&mut head, b"\r\n");
+    head
+}
+
+fn put(piece: &mut Piece, bytes: &[u8])
+    requires { length piece.old.items + length bytes.now ≤ 1024 }
+    ensures { piece.new.items ≡ piece.old.items ++ bytes.now }
+{
+    let _ = piece.try_extend_from_slice(bytes);
+}
+
+fn phrase(status: u16) -> &'static str
+    requires { IsReplyStatus status }
+    ensures value { result.now ≡ phrase_of status }
+    ensures short { length result.now ≤ 31 }
+{
+    match StatusCode::from_u16(status) {
+        Ok(code) => match code.canonical_reason() {
+            Some(phrase) => phrase,
+            None => "",
+        },
+        Err(_) => unreachable!(),
+    }
+}
+
+fn closing_field(last: bool) -> &'static [u8]
+    ensures value { result.now ≡ closing last }
+    ensures short { length result.now ≤ 19 }
+{
+    if last { b"connection: close\r\n" } else { b"" }
+}
