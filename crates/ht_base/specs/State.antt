@@ -1,5 +1,5 @@
 -- The states of a task by name, and sets of them.
-use Rattle.std.specs.Prelude.{ℕ, List, Bool, true, codes}
+use Rattle.std.specs.Prelude.{ℕ, List, [], ◌∷◌, Bool, true, false, codes}
 use Rattle.ht_base.specs.declared.state.State.{State}
 use Rattle.ht_base.specs.declared.state.State.TheVariants.{Created, Ready, Reserved, InProgress, SuspendedReady, SuspendedReserved, SuspendedInProgress, Completed, Failed, Error, Exited, Obsolete}
 use Rattle.ht_base.specs.declared.state.StateSet.{StateSet}
@@ -17,6 +17,10 @@ state_name Failed = codes "Failed"
 state_name Error = codes "Error"
 state_name Exited = codes "Exited"
 state_name Obsolete = codes "Obsolete"
+
+-- every state, in the order in which states are listed
+abbrev pub all_states : List State
+all_states = Created ∷ Ready ∷ Reserved ∷ InProgress ∷ SuspendedReady ∷ SuspendedReserved ∷ SuspendedInProgress ∷ Completed ∷ Failed ∷ Error ∷ Exited ∷ Obsolete ∷ []
 
 abbrev pub contains_state : StateSet → State → Bool
 contains_state s Created = s.created
@@ -45,3 +49,19 @@ with_state s Failed = record s { failed = true }
 with_state s Error = record s { error = true }
 with_state s Exited = record s { exited = true }
 with_state s Obsolete = record s { obsolete = true }
+
+abbrev pub no_states : StateSet
+no_states = record {
+  created = false;
+  ready = false;
+  reserved = false;
+  in_progress = false;
+  suspended_ready = false;
+  suspended_reserved = false;
+  suspended_in_progress = false;
+  completed = false;
+  failed = false;
+  error = false;
+  exited = false;
+  obsolete = false;
+}

@@ -66,7 +66,7 @@ impl Bytes {
         ensures ok { OnOk result (self.new.items ≡ self.old.items ++ bytes.now) }
         ensures err { OnErr result (self.new.items ≡ self.old.items) }
         ensures room { length bytes.now ≤ self.old.spare → IsOk result }
-        ensures spare { OnOk result (self.old.spare ≤ self.new.spare + length bytes.now) }
+        ensures kept { self.old.spare + length self.old.items ≤ self.new.spare + length self.new.items }
     {
         self.items.extend_from_slice(bytes)?;
         Ok(())

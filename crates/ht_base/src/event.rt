@@ -5,6 +5,15 @@ use crate::{Moment, Name, TaskId};
 pub enum Command {
     /// A new task of the first model, created by the caller.
     Create,
+    /// The caller becomes the actual owner of a ready task.
+    Claim,
+}
+
+/// What is asked of the tables.
+#[derive(Clone, Copy, Debug)]
+pub enum Query {
+    /// The sheet of a task.
+    Sheet(TaskId),
 }
 
 /// One thing that happens to the task machine.
@@ -16,5 +25,10 @@ pub enum Event {
         caller: Name,
         task: TaskId,
         command: Command,
+    },
+    /// A caller asks what the tables hold. It changes nothing.
+    Read {
+        caller: Name,
+        query: Query,
     },
 }

@@ -7,23 +7,27 @@ mod event;
 mod memory;
 mod moment;
 mod name;
+mod names;
 mod operation;
 mod person;
 mod reply;
 mod role;
+mod sheet;
 mod state;
 mod task_id;
 #[cfg(test)]
 mod tests;
 
 pub use bytes::Bytes;
-pub use event::{Command, Event};
+pub use event::{Command, Event, Query};
 pub use memory::Memory;
 pub use moment::{LAST, Moment};
 pub use name::Name;
+pub use names::Names;
 pub use operation::Op;
 pub use person::Person;
 pub use reply::{Answer, Limit, Refusal, Reply};
 pub use role::{Role, Roles};
+pub use sheet::Sheet;
 pub use state::{State, StateSet};
 pub use task_id::TaskId;

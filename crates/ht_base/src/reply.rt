@@ -1,4 +1,4 @@
-use crate::{Name, State, TaskId};
+use crate::{Name, Sheet, State, StateSet, TaskId};
 
 /// The limit that a command would pass.
 #[derive(Clone, Copy, Debug, PartialEq, Eq)]
@@ -12,11 +12,15 @@ pub enum Limit {
 pub enum Refusal {
     /// The caller is no person of the directory.
     Person,
+    /// There is no such task.
+    Task(TaskId),
+    /// The operation is not allowed in the task's state, but in the allowed ones.
+    State { allowed: StateSet, state: State },
     Limit(Limit),
 }
 
 /// What an event is answered with.
-#[derive(Clone, Copy, Debug)]
+#[derive(Drop)]
 pub enum Answer {
     /// The command was accepted. The state and the owner are those of the task afterwards.
     Done {
@@ -24,11 +28,12 @@ pub enum Answer {
         state: State,
         owner: Option<Name>,
     },
+    Sheet(Sheet),
     Refused(Refusal),
 }
 
 /// The reply to an event. `taken` is the number of timed actions that were taken before it.
-#[derive(Clone, Copy, Debug)]
+#[derive(Drop)]
 pub struct Reply {
     pub taken: u32,
     pub answer: Answer,

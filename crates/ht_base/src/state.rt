@@ -19,6 +19,22 @@ pub enum State {
 }
 
 impl State {
+    /// Every state, in the order in which states are listed.
+    pub const ALL: [State; 12] = [
+        State::Created,
+        State::Ready,
+        State::Reserved,
+        State::InProgress,
+        State::SuspendedReady,
+        State::SuspendedReserved,
+        State::SuspendedInProgress,
+        State::Completed,
+        State::Failed,
+        State::Error,
+        State::Exited,
+        State::Obsolete,
+    ];
+
     /// Its name in replies, routes and exports.
     pub fn name(self) -> &'static str
         ensures value { result.now ≡ state_name self }

@@ -1,4 +1,4 @@
-use crate::{Bytes, LAST, Moment, Name, Role, Roles, State, StateSet};
+use crate::{Bytes, LAST, Moment, Name, Names, Role, Roles, State, StateSet};
 use std::alloc::AllocError;
 use std::test::Fail;
 
@@ -51,20 +51,7 @@ fn bytes_grow_and_are_copied(rt: HostRuntime) -> Result<(), Fail> {
 fn sets_hold_what_was_put_in(rt: HostRuntime) {
     let states = StateSet::NONE.with(State::Ready).with(State::Obsolete);
     let mut held = 0usize;
-    for state in [
-        State::Created,
-        State::Ready,
-        State::Reserved,
-        State::InProgress,
-        State::SuspendedReady,
-        State::SuspendedReserved,
-        State::SuspendedInProgress,
-        State::Completed,
-        State::Failed,
-        State::Error,
-        State::Exited,
-        State::Obsolete,
-    ] {
+    for state in State::ALL {
         if states.contains(state) {
             held = held.saturating_add(state.name().len());
         }
@@ -87,5 +74,17 @@ fn want_of_memory_is_told(rt: HostRuntime) -> Result<(), Fail> {
     let memory = crate::Memory::from(AllocError);
     let text = format!(in rt.alloc(); "{memory}")?;
     assert_eq!(rt; text.as_str(), "out of memory");
+    Ok(())
+}
+
+#[test]
+fn lists_of_names_grow_and_are_copied(rt: HostRuntime) -> Result<(), Fail> {
+    let mut names = Names::new(rt.alloc());
+    for text in ["anna", "ben"] {
+        names.push(Name::of(text.as_bytes()).ok_or("a name")?)?;
+    }
+    let copy = names.copy(rt.alloc())?;
+    assert_eq!(rt; copy.as_slice().len(), 2);
+    assert!(rt; copy.as_slice().first().copied() == Name::of(b"anna"));
     Ok(())
 }

@@ -3,6 +3,7 @@
 
 mod deciding;
 mod directory;
+mod sheets;
 mod tables;
 #[cfg(test)]
 mod tests;

@@ -1,18 +1,20 @@
-ghost use Rattle.std.specs.Prelude.{◌≡◌, IfOk};
-ghost use Rattle.ht_machine.specs.Tables.{no_tables};
+ghost use Rattle.std.specs.Prelude.{◌≡◌, ◌≤◌, length, IfOk, IfSome, option_map};
+ghost use Rattle.ht_machine.specs.Tables.{no_tables, row_at};
 
-use ht_base::{Memory, Moment, Person, State};
+use ht_base::{Memory, Moment, Name, State, TaskId};
 use std::alloc::Global;
 use std::marker::Model;
 
 /// The most tasks that there may be.
 pub(crate) const MOST_TASKS: usize = 50_000;
 
-/// What is known of one task. Its number is its place in the tables, counted from 1.
+/// What is known of one task. Its number is its place in the tables, counted from 1. The built-in
+/// persons are kept by their names.
 #[derive(Clone, Copy, Debug)]
 pub struct Row {
     pub state: State,
-    pub initiator: Person,
+    pub owner: Option<Name>,
+    pub initiator: Name,
     pub created: Moment,
 }
 
@@ -45,5 +47,14 @@ impl Tables {
             rows: Vec::new(alloc),
             last: Moment(0),
         })
+    }
+
+    /// The row of a task, if there is such a task.
+    pub(crate) fn row(&self, task: TaskId) -> Option<&Row>
+        requires { 1 ≤ task.0 }
+        ensures value { option_map (λ r. r.now) result ≡ row_at task.0 self.now.rows }
+        ensures within { IfSome result (λ _. task.0 ≤ length self.now.rows) }
+    {
+        self.rows.get(task.0 as usize - 1)
     }
 }

@@ -1,5 +1,5 @@
 -- One exchange, and none.
-use Rattle.std.proofs.Common.{◌≡◌, inl, inr, ⊎_elim, ℕ, ◌+◌, true, false, List, [], ◌∷◌, ◌++◌, refl, sym, ap, subst, ◌∙◌, append-nil, Option, Some, None, Ok, Err}
+use Rattle.std.proofs.Common.{◌≡◌, ◌⊎◌, inl, inr, ⊎_elim, ℕ, ◌+◌, true, false, List, [], ◌∷◌, ◌++◌, refl, sym, ap, subst, ◌∙◌, append-nil, Option, Some, None, Ok, Err}
 use Rattle.ht_base.specs.declared.event.Event.{Event}
 use Rattle.ht_outside.specs.Tells.{Flow, Takes, Grows, GrowsPart}
 use Rattle.ht_machine.specs.History.{Entry, IsLegal, end_of}
@@ -10,15 +10,15 @@ use Rattle.ht_wire.specs.Reading.{Reads, EndsAt, RefusedAt}
 use Rattle.ht_wire.specs.Replies.{reply_bytes}
 use Rattle.ht_program.specs.declared.ending.Ending.TheVariants as ending
 use Rattle.ht_program.specs.declared.routing.ApiRefusal.{ApiRefusal}
-use Rattle.ht_program.specs.Answering.{Answers, Decides, Decided, Starves}
-use Rattle.ht_program.specs.Exchanges.{Exchange, unheard, starved, entered, entry_of, replies, spelled, status_of}
-use Rattle.ht_program.specs.Routing.{event_of}
+use Rattle.ht_program.specs.Answering.{Answers, Decides, Decided, Withholds, Starves}
+use Rattle.ht_program.specs.Exchanges.{Exchange, unheard, starved, entered, unsaid, entry_of, replies, spelled, status_of}
+use Rattle.ht_program.specs.Routing.{IsEvent}
 use Rattle.ht_program.specs.Running.{Serves, Goes, Ran, refusal_bytes}
 use Rattle.ht_program.specs.Texts.{api_status, api_text}
 use Rattle.ht_program.specs.Words.{moment_of}
 
 -- what the machine decides is an outcome of the request
-decided : (t u : TablesOf) (r : Request) (m status : ℕ) (text : List ℕ) (e : Event) → event_of r m ≡ Ok e → Decided t u e status text → Answers t u r m status text
+decided : (t u : TablesOf) (r : Request) (m status : ℕ) (text : List ℕ) (e : Event) → IsEvent r m (Ok e) → Decided t u e status text → Answers t u r m status text
 decided t u r m status text e event d = record {
   outcome = entered (record { event = e; reply = d.reply; after = u });
   may = event;
@@ -28,20 +28,31 @@ decided t u r m status text e event d = record {
   text_is = d.text_is;
 }
 
-starves : (t u : TablesOf) (r : Request) (m status : ℕ) (text : List ℕ) (e : Event) → event_of r m ≡ Ok e → Starves t u status text → Answers t u r m status text
+withholds : (t u : TablesOf) (r : Request) (m status : ℕ) (text : List ℕ) (e : Event) → IsEvent r m (Ok e) → Withholds t u e status text → Answers t u r m status text
+withholds t u r m status text e event d = record {
+  outcome = unsaid (record { event = e; reply = d.reply; after = u });
+  may = (event, d.is_sheet);
+  legal = (d.decided, tt);
+  ends = refl;
+  status_is = d.status_is;
+  text_is = d.text_is;
+}
+
+starves : (t u : TablesOf) (r : Request) (m status : ℕ) (text : List ℕ) (e : Event) → IsEvent r m (Ok e) → Starves t u status text → Answers t u r m status text
 starves t u r m status text e event d = record {
   outcome = starved;
-  may = rw event refl;
+  may = (e, event);
   legal = tt;
   ends = sym d.same;
   status_is = d.status_is;
   text_is = d.text_is;
 }
 
-pub answers_event : (t u : TablesOf) (r : Request) (m status : ℕ) (text : List ℕ) (e : Event) → event_of r m ≡ Ok e → Decides t u e status text → Answers t u r m status text
-answers_event t u r m status text e event d = ⊎_elim (decided t u r m status text e event) (starves t u r m status text e event) d
+pub answers_event : (t u : TablesOf) (r : Request) (m status : ℕ) (text : List ℕ) (e : Event) → IsEvent r m (Ok e) → Decides t u e status text → Answers t u r m status text
+answers_event t u r m status text e event d =
+    ⊎_elim (decided t u r m status text e event) (λ (w : Withholds t u e status text ⊎ Starves t u status text). ⊎_elim (withholds t u r m status text e event) (starves t u r m status text e event) w) d
 
-pub answers_refusal : (t : TablesOf) (r : Request) (m status : ℕ) (text : List ℕ) (why : ApiRefusal) → event_of r m ≡ Err why → status ≡ api_status why → text ≡ api_text why → Answers t t r m status text
+pub answers_refusal : (t : TablesOf) (r : Request) (m status : ℕ) (text : List ℕ) (why : ApiRefusal) → IsEvent r m (Err why) → status ≡ api_status why → text ≡ api_text why → Answers t t r m status text
 answers_refusal t r m status text why event status_is text_is = record {
   outcome = unheard why;
   may = event;

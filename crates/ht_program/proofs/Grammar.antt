@@ -1,9 +1,9 @@
 -- Which words the command run is given.
-use Rattle.std.proofs.Common.{◌≡◌, ℕ, ◌<◌, ◌≤◌, Bool, true, false, inl, inr, ⊎_elim, List, [], ◌∷◌, length, get_or, codes, sym, ap, ◌∙◌, subst, arith, ◌^◌, Option, Some, None, Result, Ok, bytes_eq}
+use Rattle.std.proofs.Common.{◌≡◌, ℕ, ◌<◌, ◌≤◌, Bool, true, false, inl, inr, ⊎_elim, List, [], ◌∷◌, length, get_or, codes, decimal, sym, ap, ◌∙◌, subst, arith, ◌^◌, Option, Some, None, Result, Ok, bytes_eq}
 use Rattle.std.specs.Prelude.{IfSome, IfNone}
 use Rattle.std.specs.Result.{result_ok}
-use Rattle.std.specs.Str.Parse.{ParsesUnsigned}
-use Rattle.std.proofs.lemmas.Fmt.{parse-decimal}
+use Rattle.std.specs.Str.Parse.{ParsesUnsigned, digits_value}
+use Rattle.std.proofs.lemmas.Fmt.{parse-decimal, decimal_is_IsNumeral}
 use Rattle.std.proofs.lemmas.Slice.Eq.{bytes_eq-Decides}
 use Rattle.std.proofs.lemmas.Bool.Decides.{not_from_Decides}
 use Rattle.ht_program.specs.declared.words.Run.{Run}
@@ -15,16 +15,14 @@ same_text a b r is positive = (bytes_eq-Decides a b).0 (sym is ∙ positive)
 pub other_text : (a b : List ℕ) (r : Bool) → r ≡ bytes_eq a b → r ≡ false → a ≡ b → ⊥
 other_text a b r is negative same = not_from_Decides (bytes_eq a b) (bytes_eq-Decides a b) (sym is ∙ negative) same
 
-number_parses : {E : Type 0} (word : List ℕ) (r : Result ℕ E) (n : ℕ) → ParsesUnsigned 64 10 word r → IsNumber word n → r ≡ Ok n
-number_parses word r n parses is =
-    let small : n < 2 ^ 64 = let s = is.small in omega arith in
-    parse-decimal 64 n word r small small is.spelled parses
+number_parses : {E : Type 0} (text : List ℕ) (r : Result ℕ E) (n : ℕ) → ParsesUnsigned 64 10 text r → n < 2 ^ 64 → text ≡ decimal n → r ≡ Ok n
+number_parses text r n parses small is = parse-decimal 64 n text r small small is parses
 
-pub no_number : {E : Type 0} (word : List ℕ) (r : Result ℕ E) (n : ℕ) → ParsesUnsigned 64 10 word r → result_ok r ≡ None → IsNumber word n → ⊥
-no_number word r n parses none is = let ok = number_parses word r n parses is in let found : Some n ≡ None = ap result_ok (sym ok) ∙ none in absurd (cc)
+pub no_number : {E : Type 0} (text : List ℕ) (r : Result ℕ E) (n : ℕ) → ParsesUnsigned 64 10 text r → result_ok r ≡ None → n < 2 ^ 64 → text ≡ decimal n → ⊥
+no_number text r n parses none small is = let ok = number_parses text r n parses small is in let found : Some n ≡ None = ap result_ok (sym ok) ∙ none in absurd (cc)
 
-pub that_number : {E : Type 0} (word : List ℕ) (r : Result ℕ E) (m n : ℕ) → ParsesUnsigned 64 10 word r → result_ok r ≡ Some m → IsNumber word n → m ≡ n
-that_number word r m n parses some is = let ok = number_parses word r n parses is in let found : Some n ≡ Some m = ap result_ok (sym ok) ∙ some in cc
+pub that_number : {E : Type 0} (text : List ℕ) (r : Result ℕ E) (m n : ℕ) → ParsesUnsigned 64 10 text r → result_ok r ≡ Some m → n < 2 ^ 64 → text ≡ decimal n → m ≡ n
+that_number text r m n parses some small is = let ok = number_parses text r n parses small is in let found : Some n ≡ Some m = ap result_ok (sym ok) ∙ some in cc
 
 module _ {A : Type 0} where
   pub list_of_five : (xs : List A) (a b c d e : A) → 5 ≤ length xs → length xs < 6 → a ≡ get_or xs 0 a → b ≡ get_or xs 1 b → c ≡ get_or xs 2 c → d ≡ get_or xs 3 d → e ≡ get_or xs 4 e → xs ≡ a ∷ b ∷ c ∷ d ∷ e ∷ []
@@ -61,3 +59,7 @@ module _ (words : List (List ℕ)) (a b c d e : List ℕ) (five : words ≡ a �
       (λ (o : words ≡ codes "run" ∷ codes "--from" ∷ is.from_word ∷ codes "--step" ∷ is.step_word ∷ []). differ (sym (ap (λ ws. get_or ws 1 []) (sym five ∙ o)) ∙ first))
       (λ (o : words ≡ codes "run" ∷ codes "--step" ∷ is.step_word ∷ codes "--from" ∷ is.from_word ∷ []). let p : is.from_word ≡ e = cc in let q : is.step_word ≡ c = cc in none from step (subst (λ (w : List ℕ). IsNumber w from) p is.from_is) (subst (λ (w : List ℕ). IsNumber w step) q is.step_is))
       is.order
+
+-- two numbers that are spelled alike are one
+pub same_number : (m n : ℕ) → m < 2 ^ 64 → n < 2 ^ 64 → decimal m ≡ decimal n → m ≡ n
+same_number m n small other same = sym (decimal_is_IsNumeral m small).1 ∙ ap (digits_value 10) same ∙ (decimal_is_IsNumeral n other).1

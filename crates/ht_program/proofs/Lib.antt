@@ -1,3 +1,5 @@
 pub mod Continuing
+pub mod Adding
 pub mod Exchanging
 pub mod Grammar
+pub mod Listing

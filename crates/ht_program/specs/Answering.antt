@@ -7,7 +7,7 @@ use Rattle.ht_machine.specs.History.{IsLegal, end_of}
 use Rattle.ht_machine.specs.Tables.{TablesOf}
 use Rattle.ht_wire.specs.declared.request.Request.{Request}
 use Rattle.ht_program.specs.Exchanges.{Outcome, IsOutcome, status_of, text_of, entry_of}
-use Rattle.ht_program.specs.Texts.{answer_status, answer_text, memory_text}
+use Rattle.ht_program.specs.Texts.{IsSheet, answer_status, answer_text, memory_text}
 
 -- the reply is what the machine decides
 pub record Decided (t u : TablesOf) (e : Event) (status : ℕ) (text : List ℕ) : Type 0 where
@@ -22,8 +22,16 @@ pub record Starves (t u : TablesOf) (status : ℕ) (text : List ℕ) : Type 0 wh
   pub status_is : status ≡ 500
   pub text_is : text ≡ memory_text
 
+-- the reply is a sheet, for whose text there is no memory
+pub record Withholds (t u : TablesOf) (e : Event) (status : ℕ) (text : List ℕ) : Type 0 where
+  pub reply : Reply
+  pub decided : decide t e ≡ (u, reply)
+  pub is_sheet : IsSheet reply.answer
+  pub status_is : status ≡ 500
+  pub text_is : text ≡ memory_text
+
 abbrev pub Decides : TablesOf → TablesOf → Event → ℕ → List ℕ → Type 0
-Decides t u e status text = Decided t u e status text ⊎ Starves t u status text
+Decides t u e status text = Decided t u e status text ⊎ (Withholds t u e status text ⊎ Starves t u status text)
 
 pub record Answers (t u : TablesOf) (r : Request) (moment status : ℕ) (text : List ℕ) : Type 0 where
   pub outcome : Outcome

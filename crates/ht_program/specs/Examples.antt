@@ -1,36 +1,38 @@
 -- Worked examples of the definitions. A wrong reading of one fails the check.
 use Rattle.std.specs.Prelude.{◌≡◌, refl, List, ℕ, [], Option, Some, None, Ok, Err, codes, false}
+use Rattle.std.proofs.Common.{lit≤, lit<}
 use Rattle.std.specs.Fmt.{digits}
-use Rattle.ht_base.specs.declared.event.Event.TheVariants.{Ask}
-use Rattle.ht_base.specs.declared.event.Command.TheVariants.{Create}
+use Rattle.ht_base.specs.declared.event.Event.TheVariants.{Ask, Read}
+use Rattle.ht_base.specs.declared.event.Command.TheVariants as command
+use Rattle.ht_base.specs.declared.event.Query.TheVariants as query
 use Rattle.ht_base.specs.declared.reply.Answer.TheVariants.{Done, Refused}
 use Rattle.ht_base.specs.declared.reply.Limit.TheVariants.{Tasks}
-use Rattle.ht_base.specs.declared.reply.Refusal.TheVariants.{Limit}
-use Rattle.ht_base.specs.declared.state.State.TheVariants.{Ready}
+use Rattle.ht_base.specs.declared.reply.Refusal.TheVariants as refusal
+use Rattle.ht_base.specs.declared.state.State.TheVariants.{Ready, Reserved, Obsolete}
+use Rattle.ht_base.specs.State.{no_states, with_state}
 use Rattle.ht_wire.specs.declared.request.Request.{Request}
-use Rattle.ht_program.specs.declared.routing.ApiRefusal.TheVariants.{Route, Person}
-use Rattle.ht_program.specs.Routing.{event_of}
-use Rattle.ht_program.specs.Texts.{answer_text}
+use Rattle.ht_program.specs.declared.routing.ApiRefusal.TheVariants.{Person}
+use Rattle.ht_program.specs.declared.routing.Form.TheVariants as form
+use Rattle.ht_program.specs.Routing.{IsEvent}
+use Rattle.ht_program.specs.Texts.{answer_text, list_text}
 use Rattle.ht_program.specs.Words.{moment_of}
 
 abbrev asked : List ℕ → List ℕ → Option (List ℕ) → Request
 asked method target person = record { method = method; target = record { items = target; spare = 0 }; person = person; last = false; body = record { items = []; spare = 0 } }
 
-a_create : event_of (asked (codes "POST") (codes "/tasks") (Some (codes "p3"))) 1000 ≡ Ok (Ask (record { 0 = 1000 }) (codes "p3") (record { 0 = 0 }) Create)
-a_create = refl
+a_create : IsEvent (asked (codes "POST") (codes "/tasks") (Some (codes "p3"))) 1000 (Ok (Ask (record { 0 = 1000 }) (codes "p3") (record { 0 = 0 }) command.Create))
+a_create = (form.Create, codes "p3", (refl, refl), refl, refl)
 
-another_method : event_of (asked (codes "post") (codes "/tasks") (Some (codes "p3"))) 0 ≡ Err Route
-another_method = refl
+a_claim : IsEvent (asked (codes "POST") (codes "/tasks/12/claim") (Some (codes "p0"))) 5 (Ok (Ask (record { 0 = 5 }) (codes "p0") (record { 0 = 12 }) command.Claim))
+unfolding digits
+a_claim = (form.Claim (record { 0 = 12 }), codes "p0", (refl, record { some = lit≤ tt; small = lit< tt }, refl), refl, refl)
 
-another_target : event_of (asked (codes "POST") (codes "/tasks/") (Some (codes "p3"))) 0 ≡ Err Route
-another_target = refl
+a_sheet : IsEvent (asked (codes "GET") (codes "/tasks/4294967295") (Some (codes "p5"))) 5 (Ok (Read (codes "p5") (query.Sheet (record { 0 = 4294967295 }))))
+unfolding digits
+a_sheet = (form.Sheet (record { 0 = 4294967295 }), codes "p5", (refl, record { some = lit≤ tt; small = lit< tt }, refl), refl, refl)
 
--- the route goes before the person
-neither : event_of (asked (codes "GET") (codes "/") None) 0 ≡ Err Route
-neither = refl
-
-no_person : event_of (asked (codes "POST") (codes "/tasks") None) 0 ≡ Err Person
-no_person = refl
+no_person : IsEvent (asked (codes "POST") (codes "/tasks") None) 0 (Err Person)
+no_person = (form.Create, (refl, refl), refl)
 
 the_first_reply : answer_text (Done (record { 0 = 1 }) Ready None) ≡ codes "{\"owner\":null,\"state\":\"Ready\",\"task\":1}"
 unfolding digits
@@ -40,7 +42,7 @@ an_owner : answer_text (Done (record { 0 = 12 }) Ready (Some (codes "p0"))) ≡ 
 unfolding digits
 an_owner = refl
 
-too_many : answer_text (Refused (Limit Tasks)) ≡ codes "{\"fault\":\"Limit\",\"limit\":\"tasks\"}"
+too_many : answer_text (Refused (refusal.Limit Tasks)) ≡ codes "{\"fault\":\"Limit\",\"limit\":\"tasks\"}"
 too_many = refl
 
 the_third_moment : moment_of 1000 1000 2 ≡ 3000
@@ -48,3 +50,16 @@ the_third_moment = refl
 
 moments_end : moment_of 1 253402300799999 1 ≡ 253402300799999
 moments_end = refl
+
+a_wrong_state : answer_text (Refused (refusal.State (with_state no_states Ready) Reserved)) ≡ codes "{\"allowed\":[\"Ready\"],\"fault\":\"State\",\"state\":\"Reserved\"}"
+a_wrong_state = refl
+
+states_in_order : answer_text (Refused (refusal.State (with_state (with_state no_states Obsolete) Ready) Reserved)) ≡ codes "{\"allowed\":[\"Ready\",\"Obsolete\"],\"fault\":\"State\",\"state\":\"Reserved\"}"
+states_in_order = refl
+
+no_such_task : answer_text (Refused (refusal.Task (record { 0 = 9 }))) ≡ codes "{\"fault\":\"Task\",\"task\":9}"
+unfolding digits
+no_such_task = refl
+
+an_empty_list : list_text [] ≡ codes "[]"
+an_empty_list = refl

@@ -1,19 +1,22 @@
 -- What came of each request of a connection.
-use Rattle.std.specs.Prelude.{◌≡◌, ℕ, ◌+◌, List, [], ◌∷◌, map, Ok, Err, IsOk}
+use Rattle.std.specs.Prelude.{◌≡◌, ℕ, ◌+◌, List, [], ◌∷◌, map, Ok, Err}
 use Rattle.std.specs.List.{flat_map}
+use Rattle.ht_base.specs.declared.event.Event.{Event}
 use Rattle.ht_machine.specs.History.{Entry}
 use Rattle.ht_wire.specs.declared.request.Request.{Request}
 use Rattle.ht_wire.specs.Replies.{reply_bytes}
 use Rattle.ht_program.specs.declared.routing.ApiRefusal.{ApiRefusal}
-use Rattle.ht_program.specs.Routing.{event_of}
-use Rattle.ht_program.specs.Texts.{answer_status, answer_text, api_status, api_text, memory_text}
+use Rattle.ht_program.specs.Routing.{IsEvent}
+use Rattle.ht_program.specs.Texts.{IsSheet, answer_status, answer_text, api_status, api_text, memory_text}
 use Rattle.ht_program.specs.Words.{moment_of}
 
--- a request makes no event, or it makes one for which there is no memory, or an entry of the history
+-- What came of a request: it makes no event; it makes one for which there is no memory; it makes an
+-- entry of the history; or it makes one that is a read, for whose text there is no memory.
 pub data Outcome : Type 0 where
   unheard : ApiRefusal → Outcome
   starved : Outcome
   entered : Entry → Outcome
+  unsaid : Entry → Outcome
 
 pub record Exchange : Type 0 where
   pub request : Request
@@ -22,20 +25,23 @@ pub record Exchange : Type 0 where
 
 -- the outcome is one of the event that the request makes at that moment
 abbrev pub IsOutcome : Request → ℕ → Outcome → Type 0
-IsOutcome r moment (unheard why) = event_of r moment ≡ Err why
-IsOutcome r moment starved = IsOk (event_of r moment)
-IsOutcome r moment (entered e) = event_of r moment ≡ Ok e.event
+IsOutcome r moment (unheard why) = IsEvent r moment (Err why)
+IsOutcome r moment starved = (e : Event) × IsEvent r moment (Ok e)
+IsOutcome r moment (entered e) = IsEvent r moment (Ok e.event)
+IsOutcome r moment (unsaid e) = IsEvent r moment (Ok e.event) × IsSheet e.reply.answer
 
 -- the status and the text of the reply
 abbrev pub status_of : Outcome → ℕ
 status_of (unheard why) = api_status why
 status_of starved = 500
 status_of (entered e) = answer_status e.event e.reply.answer
+status_of (unsaid e) = 500
 
 abbrev pub text_of : Outcome → List ℕ
 text_of (unheard why) = api_text why
 text_of starved = memory_text
 text_of (entered e) = answer_text e.reply.answer
+text_of (unsaid e) = memory_text
 
 -- the bytes of the reply
 abbrev pub spelled : Exchange → List ℕ
@@ -46,6 +52,7 @@ abbrev pub entry_of : Outcome → List Entry
 entry_of (unheard why) = []
 entry_of starved = []
 entry_of (entered e) = e ∷ []
+entry_of (unsaid e) = e ∷ []
 
 abbrev pub entries : List Exchange → List Entry
 entries xs = flat_map (λ x. entry_of x.outcome) xs

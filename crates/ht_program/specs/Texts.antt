@@ -1,18 +1,26 @@
--- The text of each answer: compact JSON (RFC 8259) with keys in byte order. Names and states need
--- no escapes.
-use Rattle.std.specs.Prelude.{ℕ, List, ◌++◌, Option, Some, None, codes, decimal}
+-- The status and the text of each answer: compact JSON (RFC 8259) with keys in byte order. Names and
+-- states need no escapes.
+use Rattle.std.specs.Prelude.{ℕ, Bool, true, false, List, [], ◌∷◌, ◌++◌, map, filter, Option, Some, None, codes, decimal}
+use Rattle.std.specs.List.{flat_map}
 use Rattle.ht_base.specs.declared.event.Event.{Event}
-use Rattle.ht_base.specs.declared.event.Event.TheVariants.{Ask}
-use Rattle.ht_base.specs.declared.event.Command.TheVariants.{Create}
+use Rattle.ht_base.specs.declared.event.Event.TheVariants.{Ask, Read}
+use Rattle.ht_base.specs.declared.event.Command.TheVariants as command
 use Rattle.ht_base.specs.declared.reply.Answer.{Answer}
-use Rattle.ht_base.specs.declared.reply.Answer.TheVariants.{Done, Refused}
+use Rattle.ht_base.specs.declared.reply.Answer.TheVariants.{Done, Sheet, Refused}
 use Rattle.ht_base.specs.declared.reply.Limit.{Limit}
 use Rattle.ht_base.specs.declared.reply.Limit.TheVariants.{Tasks}
 use Rattle.ht_base.specs.declared.reply.Refusal.{Refusal}
 use Rattle.ht_base.specs.declared.reply.Refusal.TheVariants as refusal
-use Rattle.ht_base.specs.State.{state_name}
+use Rattle.ht_base.specs.declared.moment.Moment.{Moment}
+use Rattle.ht_base.specs.declared.sheet.Sheet.{Sheet as TaskSheet}
+use Rattle.ht_base.specs.declared.state.State.{State}
+use Rattle.ht_base.specs.declared.state.StateSet.{StateSet}
+use Rattle.ht_base.specs.declared.task_id.TaskId.{TaskId}
+use Rattle.ht_base.specs.State.{state_name, all_states, contains_state}
 use Rattle.ht_program.specs.declared.routing.ApiRefusal.{ApiRefusal}
 use Rattle.ht_program.specs.declared.routing.ApiRefusal.TheVariants.{Route, Person}
+
+-- ---- values
 
 abbrev pub quoted : List ℕ → List ℕ
 quoted text = codes "\"" ++ text ++ codes "\""
@@ -20,6 +28,44 @@ quoted text = codes "\"" ++ text ++ codes "\""
 abbrev pub name_or_null : Option (List ℕ) → List ℕ
 name_or_null None = codes "null"
 name_or_null (Some name) = quoted name
+
+abbrev pub task_or_null : Option TaskId → List ℕ
+task_or_null None = codes "null"
+task_or_null (Some task) = decimal task.0
+
+abbrev pub moment_or_null : Option Moment → List ℕ
+moment_or_null None = codes "null"
+moment_or_null (Some moment) = decimal moment.0
+
+abbrev pub bool_text : Bool → List ℕ
+bool_text true = codes "true"
+bool_text false = codes "false"
+
+-- a text of a list, which has a comma before it unless it is the first
+abbrev pub item_text : Bool → List ℕ → List ℕ
+item_text true text = quoted text
+item_text false text = codes "," ++ quoted text
+
+-- what stands behind the first text of a list
+abbrev pub later_items : List (List ℕ) → List ℕ
+later_items texts = flat_map (item_text false) texts
+
+abbrev pub items_text : List (List ℕ) → List ℕ
+items_text [] = []
+items_text (t ∷ texts) = quoted t ++ later_items texts
+
+abbrev pub list_text : List (List ℕ) → List ℕ
+list_text texts = codes "[" ++ items_text texts ++ codes "]"
+
+-- the names of those states that are in the set
+abbrev pub names_among : List State → StateSet → List (List ℕ)
+names_among states set = map state_name (filter (contains_state set) states)
+
+-- the states of a set, in their order
+abbrev pub states_of : StateSet → List (List ℕ)
+states_of set = names_among all_states set
+
+-- ---- refusals
 
 abbrev pub fault : List ℕ → List ℕ
 fault name = codes "{\"fault\":\"" ++ name ++ codes "\"}"
@@ -29,21 +75,76 @@ limit_name Tasks = codes "tasks"
 
 abbrev pub refusal_text : Refusal → List ℕ
 refusal_text refusal.Person = fault (codes "Person")
+refusal_text (refusal.Task task) = codes "{\"fault\":\"Task\",\"task\":" ++ decimal task.0 ++ codes "}"
+refusal_text (refusal.State allowed state) =
+    codes "{\"allowed\":" ++ list_text (states_of allowed) ++ codes ",\"fault\":\"State\",\"state\":" ++ quoted (state_name state) ++ codes "}"
 refusal_text (refusal.Limit limit) = codes "{\"fault\":\"Limit\",\"limit\":\"" ++ limit_name limit ++ codes "\"}"
+
+abbrev pub refusal_status : Refusal → ℕ
+refusal_status refusal.Person = 401
+refusal_status (refusal.Task task) = 404
+refusal_status (refusal.State allowed state) = 409
+refusal_status (refusal.Limit limit) = 507
+
+-- ---- the sheet, in three parts. A task has no comments, parts and sub tasks yet.
+
+abbrev pub sheet_first : TaskSheet → List ℕ
+sheet_first s =
+    (codes "{\"administrators\":" ++ list_text s.administrators)
+    ++ (codes ",\"byGroup\":" ++ bool_text s.by_group)
+    ++ (codes ",\"comments\":[],\"created\":" ++ decimal s.created.0)
+    ++ (codes ",\"excludedOwners\":" ++ list_text s.excluded_owners)
+    ++ (codes ",\"fault\":" ++ name_or_null s.fault)
+    ++ (codes ",\"initiator\":" ++ quoted s.initiator)
+
+abbrev pub sheet_second : TaskSheet → List ℕ
+sheet_second s =
+    (codes ",\"input\":{},\"lastOwner\":" ++ name_or_null s.last_owner)
+    ++ (codes ",\"model\":" ++ quoted s.model)
+    ++ (codes ",\"output\":{},\"owner\":" ++ name_or_null s.owner)
+    ++ (codes ",\"parent\":" ++ task_or_null s.parent)
+    ++ (codes ",\"potentialOwners\":" ++ list_text s.potential_owners)
+
+abbrev pub sheet_third : TaskSheet → List ℕ
+sheet_third s =
+    (codes ",\"priority\":" ++ decimal s.priority)
+    ++ (codes ",\"stakeholders\":" ++ list_text s.stakeholders)
+    ++ (codes ",\"started\":" ++ bool_text s.started)
+    ++ (codes ",\"state\":" ++ quoted (state_name s.state))
+    ++ (codes ",\"subs\":[],\"task\":" ++ decimal s.task.0)
+    ++ (codes ",\"until\":" ++ moment_or_null s.until)
+    ++ (codes ",\"waits\":" ++ moment_or_null s.waits)
+    ++ codes "}"
+
+unfoldable pub sheet_text : TaskSheet → List ℕ
+sheet_text s = sheet_first s ++ sheet_second s ++ sheet_third s
+
+-- ---- answers
 
 abbrev pub answer_text : Answer → List ℕ
 answer_text (Done task state owner) =
     codes "{\"owner\":" ++ name_or_null owner ++ codes ",\"state\":\"" ++ state_name state ++ codes "\",\"task\":" ++ decimal task.0 ++ codes "}"
+answer_text (Sheet s) = sheet_text s
 answer_text (Refused why) = refusal_text why
 
-abbrev pub refusal_status : Refusal → ℕ
-refusal_status refusal.Person = 401
-refusal_status (refusal.Limit limit) = 507
+-- the answer is a sheet
+abbrev pub IsSheet : Answer → Type 0
+IsSheet (Done task state owner) = ⊥
+IsSheet (Sheet s) = Unit {0}
+IsSheet (Refused why) = ⊥
 
--- the status of an answer to an event: 201 where a task was created
+-- 201 where a task was created
+abbrev pub done_status : Event → ℕ
+done_status (Ask at caller task command.Create) = 201
+done_status (Ask at caller task command.Claim) = 200
+done_status (Read caller what) = 200
+
 abbrev pub answer_status : Event → Answer → ℕ
-answer_status (Ask at caller task Create) (Done id state owner) = 201
-answer_status (Ask at caller task Create) (Refused why) = refusal_status why
+answer_status e (Done task state owner) = done_status e
+answer_status e (Sheet s) = 200
+answer_status e (Refused why) = refusal_status why
+
+-- ---- where there is no event, or no memory
 
 abbrev pub api_status : ApiRefusal → ℕ
 api_status Route = 404

@@ -6,6 +6,7 @@ ghost use Rattle.ht_wire.specs.Reading.{HasReadCause};
 ghost use Rattle.ht_wire.specs.Replies.{IsReplyStatus};
 ghost use Rattle.ht_program.specs.Answering.{Answers, Decides};
 ghost use Rattle.ht_program.specs.Running.{Follows, Goes, HasCauses, Ran};
+ghost use Rattle.ht_program.specs.Texts.{memory_text};
 ghost use Rattle.ht_program.specs.Words.{last_moment};
 
 use crate::ending::Ending;
@@ -84,7 +85,13 @@ fn serve_next<S: Source, K: Sink>(
 {
     match next_request(alloc, input, &mut buffers.input) {
         Next::Request(request) => {
-            let status = answer(tables, &request, run.moment(number), &mut buffers.text);
+            let status = answer(
+                alloc,
+                tables,
+                &request,
+                run.moment(number),
+                &mut buffers.text,
+            );
             match write_reply(output, status, buffers.text.as_slice(), request.last) {
                 Ok(()) => {
                     if request.last {
@@ -120,7 +127,13 @@ fn what_follows<S: Source>(alloc: Global, input: &mut S, buffer: &mut Buffer) ->
 }
 
 // The status of the reply to a request, whose text is put in place of the last one.
-fn answer(tables: &mut Tables, request: &Request, at: Moment, text: &mut Bytes) -> u16
+fn answer(
+    alloc: Global,
+    tables: &mut Tables,
+    request: &Request,
+    at: Moment,
+    text: &mut Bytes,
+) -> u16
     requires at { at.0 ≤ last_moment }
     requires room { 1024 ≤ text.old.spare + length text.old.items }
     ensures answers { Answers tables.old tables.new request.now at.0 result text.new.items }
@@ -129,7 +142,7 @@ fn answer(tables: &mut Tables, request: &Request, at: Moment, text: &mut Bytes) 
 {
     text.clear();
     match event_of(request, at) {
-        Ok(event) => decide_into(tables, &event, text),
+        Ok(event) => decide_into(alloc, tables, &event, text),
         Err(refusal) => {
             let (status, bytes) = api_reply(refusal);
             put(bytes, text);
@@ -139,7 +152,7 @@ fn answer(tables: &mut Tables, request: &Request, at: Moment, text: &mut Bytes) 
 }
 
 // The status of the reply to an event, whose text is put into the empty buffer.
-fn decide_into(tables: &mut Tables, event: &Event, text: &mut Bytes) -> u16
+fn decide_into(alloc: Global, tables: &mut Tables, event: &Event, text: &mut Bytes) -> u16
     requires valid { IsValid event.now }
     requires empty { text.old.items ≡ [] }
     requires room { 1024 ≤ text.old.spare }
@@ -147,14 +160,23 @@ fn decide_into(tables: &mut Tables, event: &Event, text: &mut Bytes) -> u16
     ensures known { IsReplyStatus result }
     ensures room { 1024 ≤ text.new.spare + length text.new.items }
 {
-    match run_one(tables, event) {
-        Ok(reply) => {
-            write_answer(&reply.answer, text);
-            status_of(event, &reply.answer)
-        }
-        Err(Memory) => {
-            put(MEMORY_TEXT, text);
-            500
-        }
+    match run_one(alloc, tables, event) {
+        Ok(reply) => match write_answer(&reply.answer, text) {
+            Ok(()) => status_of(event, &reply.answer),
+            Err(Memory) => no_memory(text),
+        },
+        Err(Memory) => no_memory(text),
     }
+}
+
+// The status of the reply where there is no memory, whose text is put in place of what is there.
+fn no_memory(text: &mut Bytes) -> u16
+    requires { 1024 ≤ text.old.spare + length text.old.items }
+    ensures status { result ≡ 500 }
+    ensures text { text.new.items ≡ memory_text }
+    ensures room { 1024 ≤ text.new.spare + length text.new.items }
+{
+    text.clear();
+    put(MEMORY_TEXT, text);
+    500
 }

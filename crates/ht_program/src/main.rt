@@ -5,7 +5,9 @@
 
 mod connection;
 mod ending;
+mod numbers;
 mod routing;
+mod sheet_text;
 mod status;
 #[cfg(test)]
 mod tests;

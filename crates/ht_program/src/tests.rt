@@ -56,11 +56,29 @@ fn reply(alloc: Global, line: &str, text: &str, close: bool) -> Result<String, F
 
 const CREATE: &str = "POST /tasks HTTP/1.1\r\nHost: a\r\nx-person: p3\r\n\r\n";
 
+const CLAIM: &str = "POST /tasks/1/claim HTTP/1.1\r\nHost: a\r\nx-person: p0\r\n\r\n";
+
+const GET: &str = "GET /tasks/1 HTTP/1.1\r\nHost: a\r\nx-person: p5\r\n\r\n";
+
 #[test]
-fn a_create_is_answered(rt: HostRuntime) -> Result<(), Fail> {
-    let ran = run(rt.alloc(), CREATE)?;
-    let want = "HTTP/1.1 201 Created\r\ncontent-type: application/json\r\n\
+fn a_task_is_created_claimed_and_shown(rt: HostRuntime) -> Result<(), Fail> {
+    let again = "POST /tasks/1/claim HTTP/1.1\r\nHost: a\r\nx-person: p1\r\n\r\n";
+    let input = format!(in rt.alloc(); "{CREATE}{CLAIM}{GET}{again}")?;
+    let ran = run(rt.alloc(), input.as_str())?;
+    let sheet = "{\"administrators\":[],\"byGroup\":true,\"comments\":[],\"created\":1000,\
+        \"excludedOwners\":[],\"fault\":null,\"initiator\":\"p3\",\"input\":{},\"lastOwner\":null,\
+        \"model\":\"unit\",\"output\":{},\"owner\":\"p0\",\"parent\":null,\"potentialOwners\":[\"p0\",\
+        \"p1\",\"p2\",\"p3\",\"p4\",\"p5\",\"p6\",\"p7\",\"p8\",\"p9\",\"p10\",\"p11\",\"p12\",\"p13\",\"p14\",\
+        \"p15\"],\"priority\":5,\"stakeholders\":[],\"started\":false,\"state\":\"Reserved\",\
+        \"subs\":[],\"task\":1,\"until\":null,\"waits\":null}";
+    let refused = "{\"allowed\":[\"Ready\"],\"fault\":\"State\",\"state\":\"Reserved\"}";
+    let created = "HTTP/1.1 201 Created\r\ncontent-type: application/json\r\n\
         content-length: 39\r\n\r\n{\"owner\":null,\"state\":\"Ready\",\"task\":1}";
+    let claimed = "HTTP/1.1 200 OK\r\ncontent-type: application/json\r\n\
+        content-length: 42\r\n\r\n{\"owner\":\"p0\",\"state\":\"Reserved\",\"task\":1}";
+    let shown = reply(rt.alloc(), "200 OK", sheet, false)?;
+    let refused = reply(rt.alloc(), "409 Conflict", refused, false)?;
+    let want = format!(in rt.alloc(); "{created}{claimed}{shown}{refused}")?;
     assert_eq!(rt; ran.status, Status(0));
     assert_eq!(rt; ran.output.written(), want.as_bytes());
     assert!(rt; ran.complaints.written().is_empty());
@@ -72,73 +90,149 @@ fn requests_are_answered_by_their_form(rt: HostRuntime) -> Result<(), Fail> {
     let ready = "{\"owner\":null,\"state\":\"Ready\",\"task\":1}";
     let route = "{\"fault\":\"Route\"}";
     let person = "{\"fault\":\"Person\"}";
+    let task = "{\"fault\":\"Task\",\"task\":1}";
     let table = [
         (
-            "POST /tasks HTTP/1.1\r\nX-PERSON: p15\r\n\r\n",
+            "POST /tasks HTTP/1.1\r\nX-PERSON: p15",
             "201 Created",
             ready,
             false,
         ),
         (
-            "POST /tasks HTTP/1.0\r\nx-person: p0\r\n\r\n",
+            "POST /tasks HTTP/1.0\r\nx-person: p0",
             "201 Created",
             ready,
             true,
         ),
+        ("POST /tasks HTTP/1.1", "401 Unauthorized", person, false),
         (
-            "POST /tasks HTTP/1.1\r\n\r\n",
+            "POST /tasks HTTP/1.1\r\nx-person: p16",
             "401 Unauthorized",
             person,
             false,
         ),
         (
-            "POST /tasks HTTP/1.1\r\nx-person: p16\r\n\r\n",
+            "POST /tasks HTTP/1.1\r\nx-person: a b",
             "401 Unauthorized",
             person,
             false,
         ),
         (
-            "POST /tasks HTTP/1.1\r\nx-person: a b\r\n\r\n",
+            "POST /tasks HTTP/1.1\r\nx-person: p1\r\nx-person: p1",
             "401 Unauthorized",
             person,
             false,
         ),
         (
-            "POST /tasks HTTP/1.1\r\nx-person: p1\r\nx-person: p1\r\n\r\n",
+            "POST /tasks/1/claim HTTP/1.1\r\nx-person: p1",
+            "404 Not Found",
+            task,
+            false,
+        ),
+        (
+            "GET /tasks/1 HTTP/1.1\r\nx-person: p1",
+            "404 Not Found",
+            task,
+            false,
+        ),
+        (
+            "GET /tasks/1 HTTP/1.1\r\nx-person: anna",
             "401 Unauthorized",
             person,
             false,
         ),
+        ("GET /tasks/1 HTTP/1.1", "401 Unauthorized", person, false),
         (
-            "POST /tasks/ HTTP/1.1\r\nx-person: p1\r\n\r\n",
+            "POST /tasks/ HTTP/1.1\r\nx-person: p1",
             "404 Not Found",
             route,
             false,
         ),
         (
-            "post /tasks HTTP/1.1\r\nx-person: p1\r\n\r\n",
+            "post /tasks HTTP/1.1\r\nx-person: p1",
             "404 Not Found",
             route,
             false,
         ),
         (
-            "POST /tasks/1/claim HTTP/1.1\r\nx-person: p1\r\n\r\n",
+            "GET /tasks HTTP/1.1\r\nx-person: p1",
             "404 Not Found",
             route,
             false,
         ),
         (
-            "GET /tasks/1 HTTP/1.1\r\nconnection: close\r\n\r\n",
+            "GET /tasks/ HTTP/1.1\r\nx-person: p1",
+            "404 Not Found",
+            route,
+            false,
+        ),
+        (
+            "GET /tasks/0 HTTP/1.1\r\nx-person: p1",
+            "404 Not Found",
+            route,
+            false,
+        ),
+        (
+            "GET /tasks/01 HTTP/1.1\r\nx-person: p1",
+            "404 Not Found",
+            route,
+            false,
+        ),
+        (
+            "GET /tasks/+1 HTTP/1.1\r\nx-person: p1",
+            "404 Not Found",
+            route,
+            false,
+        ),
+        (
+            "GET /tasks/4294967296 HTTP/1.1\r\nx-person: p1",
+            "404 Not Found",
+            route,
+            false,
+        ),
+        (
+            "GET /tasks/1/claim HTTP/1.1\r\nx-person: p1",
+            "404 Not Found",
+            route,
+            false,
+        ),
+        (
+            "POST /tasks/1 HTTP/1.1\r\nx-person: p1",
+            "404 Not Found",
+            route,
+            false,
+        ),
+        (
+            "POST /tasks/1/claim/ HTTP/1.1\r\nx-person: p1",
+            "404 Not Found",
+            route,
+            false,
+        ),
+        (
+            "POST /tasks//claim HTTP/1.1\r\nx-person: p1",
+            "404 Not Found",
+            route,
+            false,
+        ),
+        (
+            "POST /tasks/1/start HTTP/1.1\r\nx-person: p1",
+            "404 Not Found",
+            route,
+            false,
+        ),
+        (
+            "GET / HTTP/1.1\r\nconnection: close",
             "404 Not Found",
             route,
             true,
         ),
     ];
-    for (input, line, text, close) in table {
-        let ran = run(rt.alloc(), input)?;
+    for (head, line, text, close) in table {
+        let input = format!(in rt.alloc(); "{head}\r\n\r\n")?;
+        let ran = run(rt.alloc(), input.as_str())?;
         let want = reply(rt.alloc(), line, text, close)?;
-        assert_eq!(rt; ran.status, Status(0), "{input:?}");
-        assert_eq!(rt; ran.output.written(), want.as_bytes(), "{input:?}");
+        assert_eq!(rt; ran.status, Status(0), "{head:?}");
+        assert_eq!(rt; ran.output.written(), want.as_bytes(), "{head:?}");
     }
     Ok(())
 }

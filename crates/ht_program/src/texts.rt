@@ -1,10 +1,16 @@
-ghost use Rattle.std.specs.Prelude.{◌≡◌, ◌+◌, ◌≤◌, [], ◌++◌, length};
+ghost use Rattle.std.specs.Prelude.{◌≡◌, ◌+◌, ◌*◌, ◌≤◌, [], ◌++◌, length, IsErr};
 ghost use Rattle.ht_base.specs.declared.reply.Answer.TheVariants.{Done};
+ghost use Rattle.ht_base.specs.State.{state_name};
 ghost use Rattle.ht_wire.specs.Replies.{IsReplyStatus};
-ghost use Rattle.ht_program.specs.Texts.{answer_status, answer_text, api_status, api_text, name_or_null, refusal_status, refusal_text};
+ghost use Rattle.ht_program.specs.Adding.{Adds};
+ghost use Rattle.ht_program.specs.Texts as spec;
+ghost use Rattle.ht_program.specs.Texts.{IsSheet, answer_status, answer_text, api_status, api_text, item_text, items_text, list_text, name_or_null, names_among, quoted, refusal_text, states_of};
 
 use crate::routing::ApiRefusal;
-use ht_base::{Answer, Bytes, Command, Event, Limit, Name, Refusal, State, TaskId};
+use crate::sheet_text::add_sheet;
+use ht_base::{
+    Answer, Bytes, Command, Event, Limit, Memory, Name, Refusal, State, StateSet, TaskId,
+};
 
 /// The room that the text of an answer takes at most.
 pub(crate) const TEXT_ROOM: u32 = 1024;
@@ -20,29 +26,50 @@ pub(crate) fn status_of(event: &Event, answer: &Answer) -> u16
     ensures status { result ≡ answer_status event.now answer.now }
     ensures known { IsReplyStatus result }
 {
-    let Event::Ask {
-        at: _,
-        caller: _,
-        task: _,
-        command: Command::Create,
-    } = event;
     match answer {
-        Answer::Done { .. } => 201,
+        Answer::Done { .. } => done_status(event),
+        Answer::Sheet(_) => 200,
         Answer::Refused(Refusal::Person) => 401,
+        Answer::Refused(Refusal::Task(_)) => 404,
+        Answer::Refused(Refusal::State { .. }) => 409,
         Answer::Refused(Refusal::Limit(_)) => 507,
     }
 }
 
-/// Writes the text of an answer into an empty buffer.
-pub(crate) fn write_answer(answer: &Answer, into: &mut Bytes)
+fn done_status(event: &Event) -> u16
+    ensures status { result ≡ spec.done_status event.now }
+    ensures known { IsReplyStatus result }
+{
+    match event {
+        Event::Ask {
+            command: Command::Create,
+            ..
+        } => 201,
+        Event::Ask {
+            command: Command::Claim,
+            ..
+        } => 200,
+        Event::Read { .. } => 200,
+    }
+}
+
+/// Writes the text of an answer into an empty buffer. Only a sheet may want memory.
+pub(crate) fn write_answer(answer: &Answer, into: &mut Bytes) -> Result<(), Memory>
     requires empty { into.old.items ≡ [] }
     requires room { 1024 ≤ into.old.spare }
-    ensures text { into.new.items ≡ answer_text answer.now }
-    ensures spare { into.old.spare ≤ into.new.spare + length into.new.items }
+    ensures text { Adds result into.old into.new (answer_text answer.now) }
+    ensures short { IsErr result → IsSheet answer.now }
 {
     match answer {
-        Answer::Done { task, state, owner } => write_done(*task, *state, owner, into),
-        Answer::Refused(refusal) => put(refusal_bytes(refusal), into),
+        Answer::Done { task, state, owner } => {
+            write_done(*task, *state, owner, into);
+            Ok(())
+        }
+        Answer::Sheet(sheet) => add_sheet(sheet, into),
+        Answer::Refused(refusal) => {
+            write_refusal(refusal, into);
+            Ok(())
+        }
     }
 }
 
@@ -50,7 +77,7 @@ fn write_done(task: TaskId, state: State, owner: &Option<Name>, into: &mut Bytes
     requires empty { into.old.items ≡ [] }
     requires room { 1024 ≤ into.old.spare }
     ensures text { into.new.items ≡ answer_text (Done task state owner.now) }
-    ensures spare { into.old.spare ≤ into.new.spare + length into.new.items }
+    ensures kept { into.old.spare ≤ into.new.spare + length into.new.items }
 {
     let mut digits = itoa::Buffer::new();
     put(b"{\"owner\":", into);
@@ -65,35 +92,113 @@ fn write_done(task: TaskId, state: State, owner: &Option<Name>, into: &mut Bytes
 fn put_name_or_null(name: &Option<Name>, into: &mut Bytes)
     requires { 34 ≤ into.old.spare }
     ensures text { into.new.items ≡ into.old.items ++ name_or_null name.now }
-    ensures spare { into.old.spare ≤ into.new.spare + length (name_or_null name.now) }
-    ensures short { length (name_or_null name.now) ≤ 34 }
+    ensures spare { into.old.spare ≤ into.new.spare + 34 }
+    ensures kept { into.old.spare + length into.old.items ≤ into.new.spare + length into.new.items }
 {
     match name {
-        Some(name) => {
-            put(b"\"", into);
-            put(name.as_bytes(), into);
-            put(b"\"", into);
-        }
+        Some(name) => put_quoted(name.as_bytes(), into),
         None => put(b"null", into),
     }
 }
 
+/// Puts bytes behind those that are there, for which there is room.
 pub(crate) fn put(bytes: &[u8], into: &mut Bytes)
     requires { length bytes.now ≤ into.old.spare }
     ensures items { into.new.items ≡ into.old.items ++ bytes.now }
     ensures spare { into.old.spare ≤ into.new.spare + length bytes.now }
+    ensures kept { into.old.spare + length into.old.items ≤ into.new.spare + length into.new.items }
 {
     let _ = into.extend(bytes);
 }
 
-fn refusal_bytes(refusal: &Refusal) -> &'static [u8]
-    ensures text { result.now ≡ refusal_text refusal.now }
-    ensures short { length result.now ≤ 100 }
+fn write_refusal(refusal: &Refusal, into: &mut Bytes)
+    requires empty { into.old.items ≡ [] }
+    requires room { 1024 ≤ into.old.spare }
+    ensures text { into.new.items ≡ refusal_text refusal.now }
+    ensures kept { into.old.spare ≤ into.new.spare + length into.new.items }
 {
     match refusal {
-        Refusal::Person => b"{\"fault\":\"Person\"}",
-        Refusal::Limit(Limit::Tasks) => b"{\"fault\":\"Limit\",\"limit\":\"tasks\"}",
+        Refusal::Person => put(b"{\"fault\":\"Person\"}", into),
+        Refusal::Task(task) => write_task_refusal(*task, into),
+        Refusal::State { allowed, state } => write_state_refusal(allowed, *state, into),
+        Refusal::Limit(Limit::Tasks) => put(b"{\"fault\":\"Limit\",\"limit\":\"tasks\"}", into),
     }
+}
+
+fn write_task_refusal(task: TaskId, into: &mut Bytes)
+    requires empty { into.old.items ≡ [] }
+    requires room { 1024 ≤ into.old.spare }
+    ensures text { into.new.items ≡ refusal_text (Refusal.Task task) }
+    ensures kept { into.old.spare ≤ into.new.spare + length into.new.items }
+{
+    let mut digits = itoa::Buffer::new();
+    put(b"{\"fault\":\"Task\",\"task\":", into);
+    put(digits.format(task.0).as_bytes(), into);
+    put(b"}", into);
+}
+
+fn write_state_refusal(allowed: &StateSet, state: State, into: &mut Bytes)
+    requires empty { into.old.items ≡ [] }
+    requires room { 1024 ≤ into.old.spare }
+    ensures text { into.new.items ≡ refusal_text (Refusal.State allowed.now state) }
+    ensures kept { into.old.spare ≤ into.new.spare + length into.new.items }
+{
+    put(b"{\"allowed\":", into);
+    put_state_list(allowed, into);
+    put(b",\"fault\":\"State\",\"state\":", into);
+    put_quoted(state.name().as_bytes(), into);
+    put(b"}", into);
+}
+
+// The states of a set, as a list.
+fn put_state_list(set: &StateSet, into: &mut Bytes)
+    requires { 300 ≤ into.old.spare }
+    ensures text { into.new.items ≡ into.old.items ++ list_text (states_of set.now) }
+    ensures spare { into.old.spare ≤ into.new.spare + 300 }
+    ensures kept { into.old.spare + length into.old.items ≤ into.new.spare + length into.new.items }
+{
+    put(b"[", into);
+    put_states(&State::ALL, set, into);
+    put(b"]", into);
+}
+
+// The names of the states that are in the set, with commas between them.
+fn put_states(states: &[State], set: &StateSet, into: &mut Bytes)
+    requires { 22 * length states.now ≤ into.old.spare }
+    ensures text { into.new.items ≡ into.old.items ++ items_text (names_among states.now set.now) }
+    ensures spare { into.old.spare ≤ into.new.spare + 22 * length states.now }
+    ensures kept { into.old.spare + length into.old.items ≤ into.new.spare + length into.new.items }
+{
+    let mut first = true;
+    for state in states {
+        if set.contains(*state) {
+            put_item(first, *state, into);
+            first = false;
+        }
+    }
+}
+
+fn put_item(first: bool, state: State, into: &mut Bytes)
+    requires { 22 ≤ into.old.spare }
+    ensures text { into.new.items ≡ into.old.items ++ item_text first (state_name state) }
+    ensures spare { into.old.spare ≤ into.new.spare + 22 }
+    ensures kept { into.old.spare + length into.old.items ≤ into.new.spare + length into.new.items }
+{
+    if !first {
+        put(b",", into);
+    }
+    put_quoted(state.name().as_bytes(), into);
+}
+
+fn put_quoted(text: &[u8], into: &mut Bytes)
+    requires { length text.now + 2 ≤ into.old.spare }
+    ensures text { into.new.items ≡ into.old.items ++ quoted text.now }
+    ensures spare { into.old.spare ≤ into.new.spare + (length text.now + 2) }
+    ensures kept { into.old.spare + length into.old.items ≤ into.new.spare + length into.new.items }
+{
+    put(b"\"", into);
+    put(text, into);
+    put(b"\"", into);
 }
 
 /// The status and the text of the reply to a request that makes no event.

@@ -1,6 +1,7 @@
 ghost use Rattle.std.specs.Prelude.{◌≡◌, ◌≤◌, ℕ, List, bytes_eq, map, string_bytes, IfSome, IfNone};
 ghost use Rattle.ht_program.specs.Words.{IsNumber, IsRun, last_moment, moment_of};
 
+use crate::numbers::decimal_of;
 use ht_base::{LAST, Moment};
 
 /// The options of the command `run`: request number k, counted from 0, is at the moment
@@ -63,11 +64,13 @@ fn number(word: &str) -> Option<u64>
     ensures some { IfSome result (IsNumber word.now) }
     ensures none { IfNone result ((n : ℕ) → IsNumber word.now n → ⊥) }
 {
-    let n = word.parse::<u64>().ok()?;
-    let mut digits = itoa::Buffer::new();
-    if n <= LAST && digits.format(n) == word {
-        Some(n)
-    } else {
-        None
+    match decimal_of(word) {
+        Some(n) => {
+            if n <= LAST {
+                return Some(n);
+            }
+            None
+        }
+        None => None,
     }
 }
