@@ -1,5 +1,5 @@
 -- How the serving of a connection goes on.
-use Rattle.std.proofs.Common.{◌≡◌, inl, inr, ⊎_elim, ℕ, ◌+◌, List, [], ◌∷◌, ◌++◌, length, refl, sym, ap, subst, ◌∙◌, arith, append_assoc, length-append, Option, Some, None}
+use Rattle.std.proofs.Common.{◌≡◌, inl, inr, ⊎_elim, ℕ, ◌+◌, List, [], ◌∷◌, ◌++◌, length, refl, sym, ap, subst, ◌∙◌, arith, append_assoc, length-append, Option}
 use Rattle.std.proofs.lemmas.List.{map-append}
 use Rattle.std.proofs.lemmas.Grind.{flat_map-append}
 use Rattle.ht_outside.specs.Tells.{Flow, Takes, Grows, GrowsPart}
@@ -7,50 +7,26 @@ use Rattle.ht_machine.specs.History.{Entry, IsLegal, end_of}
 use Rattle.ht_machine.specs.Tables.{TablesOf}
 use Rattle.ht_wire.specs.declared.request.Request.{Request}
 use Rattle.ht_wire.specs.Reading.{EndsAt}
-use Rattle.ht_wire.specs.Requests.{AreRequests, IsRequest}
+use Rattle.ht_wire.specs.Requests.{AreRequests}
+use Rattle.ht_wire.proofs.Finding.{Takes-trans}
+use Rattle.ht_wire.proofs.Outcomes.{request_on}
+use Rattle.ht_wire.proofs.Written.{Grows-trans}
 use Rattle.ht_program.specs.declared.ending.Ending.{Ending}
 use Rattle.ht_program.specs.declared.ending.Ending.TheVariants as ending
 use Rattle.ht_program.specs.Exchanges.{Exchange, AreExchanges, entries, entry_of, replies, requests, spelled}
-use Rattle.ht_program.specs.Running.{Serves, Goes, Ran, GoOn, Close, EndsAs, budget, Follows, FollowsAs}
-
-Takes-trans : (f g h : Option Flow) (xs ys : List ℕ) → Takes f g xs → Takes g h ys → Takes f h (xs ++ ys)
-Takes-trans None None None xs ys a b = tt
-Takes-trans None None (Some h) xs ys a b = b
-Takes-trans None (Some g) h xs ys a b = absurd a
-Takes-trans (Some f) None h xs ys a b = absurd a
-Takes-trans (Some f) (Some g) None xs ys a b = b
-Takes-trans (Some f) (Some g) (Some h) xs ys a b = record {
-  left = a.left ∙ ap (λ l. xs ++ l) b.left ∙ sym (append_assoc xs ys h.left);
-  taken = b.taken ∙ ap (λ l. l ++ ys) a.taken ∙ append_assoc f.taken xs ys;
-}
-
-Grows-trans : (f g h : Option (List ℕ)) (xs ys : List ℕ) → Grows f g xs → Grows g h ys → Grows f h (xs ++ ys)
-Grows-trans None None None xs ys a b = tt
-Grows-trans None None (Some h) xs ys a b = b
-Grows-trans None (Some g) h xs ys a b = absurd a
-Grows-trans (Some f) None h xs ys a b = absurd a
-Grows-trans (Some f) (Some g) None xs ys a b = b
-Grows-trans (Some f) (Some g) (Some h) xs ys a b = b ∙ ap (λ l. l ++ ys) a ∙ append_assoc f xs ys
+use Rattle.ht_program.specs.Inputs.{budget, GoOn, Close}
+use Rattle.ht_program.specs.Running.{Serves, Goes, Ran, EndsAs, Follows, FollowsAs}
 
 part_on : (f g h : Option (List ℕ)) (xs ys : List ℕ) → Grows f g xs → GrowsPart g h ys → GrowsPart f h (xs ++ ys)
 part_on f g h xs ys a b = (xs ++ b.0, b.1, ap (λ l. xs ++ l) b.2 ∙ sym (append_assoc xs b.0 b.1), Grows-trans f g h xs b.0 a b.3)
 
--- a request at the front stays one where the stream goes on
-request_on : (s more : List ℕ) (r : Request) (rest : List ℕ) → IsRequest s r rest → IsRequest (s ++ more) r (rest ++ more)
-request_on s more r rest is = record {
-  head = is.head;
-  stands = record { reads = (is.stands.reads.0, ap (λ b. b ++ more) is.stands.reads.1 ∙ append_assoc _ rest more); short = is.stands.short; few = is.stands.few };
-  bodiless = is.bodiless;
-  carries = is.carries;
-}
-
-chain : (xs : List Exchange) (s more rest : List ℕ) (ys : List Request) (end : List ℕ) → GoOn xs → AreRequests s (requests xs) rest → AreRequests (rest ++ more) ys end → AreRequests (s ++ more) (requests xs ++ ys) end
+chain : (xs : List Exchange) (s more rest : List ℕ) (ys : List Request) (end : List ℕ) → GoOn (requests xs) → AreRequests s (requests xs) rest → AreRequests (rest ++ more) ys end → AreRequests (s ++ more) (requests xs ++ ys) end
 chain [] s more rest ys end going a b = subst (λ (l : List ℕ). AreRequests (l ++ more) ys end) (sym a) b
 chain (x ∷ xs) s more rest ys end going a b =
     (a.0 ++ more, request_on s more x.request a.0 a.1, (λ last. absurd (let no = going.0 in cc)), chain xs a.0 more rest ys end going.1 a.3 b)
 
 -- the requests stay where the stream goes on
-still : (xs : List Exchange) (s more rest : List ℕ) → AreRequests s (requests xs) rest → AreRequests (s ++ more) (requests xs) (rest ++ more)
+pub still : (xs : List Exchange) (s more rest : List ℕ) → AreRequests s (requests xs) rest → AreRequests (s ++ more) (requests xs) (rest ++ more)
 still [] s more rest a = ap (λ l. l ++ more) a
 still (x ∷ xs) s more rest a = (a.0 ++ more, request_on s more x.request a.0 a.1, a.2, still xs a.0 more rest a.3)
 
@@ -72,20 +48,20 @@ entries_on xs ys = flat_map-append (λ (x : Exchange). entry_of x.outcome) xs ys
 replies_on : (xs ys : List Exchange) → replies (xs ++ ys) ≡ replies xs ++ replies ys
 replies_on xs ys = flat_map-append spelled xs ys
 
-GoOn-append : (xs ys : List Exchange) → GoOn xs → GoOn ys → GoOn (xs ++ ys)
+GoOn-append : (xs ys : List Exchange) → GoOn (requests xs) → GoOn (requests ys) → GoOn (requests (xs ++ ys))
 GoOn-append [] ys a b = b
 GoOn-append (x ∷ xs) ys a b = (a.0, GoOn-append xs ys a.1 b)
 
-Close-one : (x : Exchange) (ys : List Exchange) → Close ys → Close (x ∷ ys)
+Close-one : (x : Exchange) (ys : List Exchange) → Close (requests ys) → Close (requests (x ∷ ys))
 Close-one x [] b = absurd b
 Close-one x (y ∷ ys) b = b
 
-Close-append : (xs ys : List Exchange) → Close ys → Close (xs ++ ys)
+Close-append : (xs ys : List Exchange) → Close (requests ys) → Close (requests (xs ++ ys))
 Close-append [] ys b = b
 Close-append (x ∷ xs) ys b = Close-one x (xs ++ ys) (Close-append xs ys b)
 
 module _ (from step k i : ℕ) (t u s : TablesOf) (f g h : Option Flow) (p q r : List ℕ) (xs ys : List Exchange) where
-  serves_on : Serves from step k t u f g p q xs → GoOn xs → i ≡ k + length xs → Serves from step i u s g h q r ys → Serves from step k t s f h p r (xs ++ ys)
+  serves_on : Serves from step k t u f g p q xs → GoOn (requests xs) → i ≡ k + length xs → Serves from step i u s g h q r ys → Serves from step k t s f h p r (xs ++ ys)
   serves_on a going counted b = record {
     taken = a.taken ++ b.taken;
     takes = Takes-trans f g h a.taken b.taken a.takes b.takes;
@@ -106,7 +82,7 @@ serves_more from step k t u f g h p q more xs a takes = record {
   ends = a.ends;
 }
 
-module _ (w v x : Option (List ℕ)) (xs ys : List Exchange) (going : GoOn xs) (wrote : Grows w v (replies xs)) where
+module _ (w v x : Option (List ℕ)) (xs ys : List Exchange) (k i : ℕ) (going : GoOn (requests xs)) (counted : i ≡ k + length xs) (wrote : Grows w v (replies xs)) where
   wrote_on : Grows v x (replies ys) → Grows w x (replies (xs ++ ys))
   wrote_on b = rw (replies_on xs ys) (Grows-trans w v x (replies xs) (replies ys) wrote b)
 
@@ -116,14 +92,17 @@ module _ (w v x : Option (List ℕ)) (xs ys : List Exchange) (going : GoOn xs) (
   part_tail : (tail : List ℕ) → GrowsPart v x (replies ys ++ tail) → GrowsPart w x (replies (xs ++ ys) ++ tail)
   part_tail tail b = subst (λ (l : List ℕ). GrowsPart w x l) (sym (append_assoc (replies xs) (replies ys) tail) ∙ ap (λ l. l ++ tail) (sym (replies_on xs ys))) (part_on w v x (replies xs) (replies ys ++ tail) wrote b)
 
-  ends_on : (e : Ending) (g : Option Flow) (rest : List ℕ) → (e ≡ ending.Budget → ⊥) → EndsAs e g rest v x ys → EndsAs e g rest w x (xs ++ ys)
-  ends_on ending.Done g rest other b =
-      (⊎_elim (λ (c : Close ys). inl (Close-append xs ys c)) (λ (o : GoOn ys × EndsAt g rest). inr (GoOn-append xs ys going o.0, o.1)) b.0, wrote_on b.1)
-  ends_on (ending.Wire code) g rest other b = (GoOn-append xs ys going b.0, b.1, wrote_tail _ b.2)
-  ends_on ending.Budget g rest other b = absurd (other refl)
-  ends_on ending.ReadFault g rest other b = wrote_on b
-  ends_on ending.WriteFault g rest other b = (b.0, b.1, part_tail b.0 b.2)
-  ends_on ending.Memory g rest other b = wrote_on b
+  count_on : k + length (xs ++ ys) ≡ i + length ys
+  count_on = let l = length-append xs ys in let c = counted in omega (arith, l, c)
+
+  ends_on : (e : Ending) (g : Option Flow) (rest : List ℕ) → EndsAs i e g rest v x ys → EndsAs k e g rest w x (xs ++ ys)
+  ends_on ending.Done g rest b =
+      (⊎_elim (λ (c : Close (requests ys)). inl (Close-append xs ys c)) (λ (o : GoOn (requests ys) × EndsAt g rest). inr (GoOn-append xs ys going o.0, o.1)) b.0, rw count_on b.1, wrote_on b.2)
+  ends_on (ending.Wire code) g rest b = (GoOn-append xs ys going b.0, rw count_on b.1, b.2, wrote_tail _ b.3)
+  ends_on ending.Budget g rest b = (GoOn-append xs ys going b.0, rw count_on b.1, b.2, wrote_on b.3)
+  ends_on ending.ReadFault g rest b = wrote_on b
+  ends_on ending.WriteFault g rest b = (b.0, b.1, part_tail b.0 b.2)
+  ends_on ending.Memory g rest b = wrote_on b
 
 module _ (from step k i : ℕ) (t u : TablesOf) (f g h : Option Flow) (p q : List ℕ) (w v x : Option (List ℕ)) where
   pub goes_on : (j : ℕ) (s : TablesOf) (r : List ℕ) → Goes from step k i t u f g p q w v → Goes from step i j u s g h q r v x → Goes from step k j t s f h p r w x
@@ -132,27 +111,27 @@ module _ (from step k i : ℕ) (t u : TablesOf) (f g h : Option Flow) (p q : Lis
     counted = (let m = a.counted in let n = b.counted in let l = length-append a.exchanges b.exchanges in omega arith);
     serves = serves_on from step k i t u s f g h p q r a.exchanges b.exchanges a.serves a.open_still a.counted b.serves;
     open_still = GoOn-append a.exchanges b.exchanges a.open_still b.open_still;
-    wrote = wrote_on w v x a.exchanges b.exchanges a.open_still a.wrote b.wrote;
+    wrote = wrote_on w v x a.exchanges b.exchanges k i a.open_still a.counted a.wrote b.wrote;
   }
 
-  pub goes_ran : (e : Ending) → (e ≡ ending.Budget → ⊥) → Goes from step k i t u f g p q w v → Ran from step i u g h q v x e → Ran from step k t f h p w x e
-  goes_ran e other a b = record {
+  pub goes_ran : (e : Ending) → Goes from step k i t u f g p q w v → Ran from step i u g h q v x e → Ran from step k t f h p w x e
+  goes_ran e a b = record {
     exchanges = a.exchanges ++ b.exchanges;
     after = b.after;
     rest = b.rest;
     serves = serves_on from step k i t u b.after f g h p q b.rest a.exchanges b.exchanges a.serves a.open_still a.counted b.serves;
-    ends = ends_on w v x a.exchanges b.exchanges a.open_still a.wrote e h b.rest other b.ends;
+    ends = ends_on w v x a.exchanges b.exchanges k i a.open_still a.counted a.wrote e h b.rest b.ends;
   }
 
 -- as many requests as may be were answered, and this follows
 module _ (from step : ℕ) (t u : TablesOf) (f g h : Option Flow) (p q : List ℕ) (w v : Option (List ℕ)) (a : Goes from step 0 budget t u f g p q w v) where
-  all_counted : length a.exchanges ≡ budget
+  all_counted : 0 + length a.exchanges ≡ budget
   all_counted = let c = a.counted in omega arith
 
-  ended : (e : Ending) (more : List ℕ) → FollowsAs e h (q ++ more) → EndsAs e h (q ++ more) w v a.exchanges
-  ended ending.Done more follows = (inr (a.open_still, follows), a.wrote)
+  ended : (e : Ending) (more : List ℕ) → FollowsAs e h (q ++ more) → EndsAs 0 e h (q ++ more) w v a.exchanges
+  ended ending.Done more follows = (inr (a.open_still, follows), (let all = all_counted in omega (arith, all)), a.wrote)
   ended (ending.Wire code) more follows = absurd follows
-  ended ending.Budget more follows = (a.open_still, all_counted, a.wrote)
+  ended ending.Budget more follows = (a.open_still, all_counted, follows, a.wrote)
   ended ending.ReadFault more follows = a.wrote
   ended ending.WriteFault more follows = absurd follows
   ended ending.Memory more follows = a.wrote

@@ -1,5 +1,5 @@
 -- One exchange, and none.
-use Rattle.std.proofs.Common.{◌≡◌, ◌⊎◌, inl, inr, ⊎_elim, ℕ, ◌+◌, true, false, List, [], ◌∷◌, ◌++◌, refl, sym, ap, subst, ◌∙◌, append-nil, Option, Some, None, Ok, Err}
+use Rattle.std.proofs.Common.{◌≡◌, ◌⊎◌, inl, inr, ⊎_elim, ℕ, ◌+◌, ◌<◌, arith, true, false, List, [], ◌∷◌, ◌++◌, refl, sym, ap, subst, ◌∙◌, append-nil, Option, Some, None, Ok, Err}
 use Rattle.ht_base.specs.declared.event.Event.{Event}
 use Rattle.ht_outside.specs.Tells.{Flow, Takes, Grows, GrowsPart}
 use Rattle.ht_machine.specs.History.{Entry, IsLegal, end_of}
@@ -7,11 +7,14 @@ use Rattle.ht_machine.specs.Tables.{TablesOf}
 use Rattle.ht_wire.specs.declared.reading.Next.TheVariants as next
 use Rattle.ht_wire.specs.declared.request.Request.{Request}
 use Rattle.ht_wire.specs.Reading.{Reads, EndsAt, RefusedAt}
-use Rattle.ht_wire.specs.Replies.{reply_bytes}
+use Rattle.ht_wire.specs.Replies.{IsReplyStatus, reply_bytes}
+use Rattle.ht_wire.proofs.Finding.{Takes-none}
+use Rattle.ht_wire.specs.Requests.{IsReason, IsRefusalCode}
 use Rattle.ht_program.specs.declared.ending.Ending.TheVariants as ending
 use Rattle.ht_program.specs.declared.routing.ApiRefusal.{ApiRefusal}
 use Rattle.ht_program.specs.Answering.{Answers, Decides, Decided, Withholds, Starves}
 use Rattle.ht_program.specs.Exchanges.{Exchange, unheard, starved, entered, unsaid, entry_of, replies, spelled, status_of}
+use Rattle.ht_program.specs.Inputs.{budget}
 use Rattle.ht_program.specs.Routing.{IsEvent}
 use Rattle.ht_program.specs.Running.{Serves, Goes, Ran, refusal_bytes}
 use Rattle.ht_program.specs.Texts.{api_status, api_text}
@@ -92,13 +95,13 @@ module _ (from step k : ℕ) (t u : TablesOf) (f g : Option Flow) (p q : List �
     wrote = subst (λ (b : List ℕ). Grows w v b) bytes_one wrote;
   }
 
-  pub one_last : r.last ≡ true → Grows w v (reply_bytes status text r.last) → Ran from step k t f g p w v ending.Done
-  one_last last wrote = record {
+  pub one_last : k < budget → r.last ≡ true → Grows w v (reply_bytes status text r.last) → Ran from step k t f g p w v ending.Done
+  one_last few last wrote = record {
     exchanges = made ∷ [];
     after = u;
     rest = q;
     serves = serves_one;
-    ends = (inl last, subst (λ (b : List ℕ). Grows w v b) bytes_one wrote);
+    ends = (inl last, omega (arith, few), subst (λ (b : List ℕ). Grows w v b) bytes_one wrote);
   }
 
   pub one_broken : GrowsPart w v (reply_bytes status text r.last) → Ran from step k t f g p w v ending.WriteFault
@@ -115,13 +118,13 @@ module _ (from step k : ℕ) (t : TablesOf) (f g : Option Flow) (p q : List ℕ)
   serves_none : (taken : List ℕ) → Takes f g taken → q ≡ p ++ taken → Serves from step k t t f g p q []
   serves_none taken takes is = record { taken = taken; takes = takes; stand = sym is; numbered = tt; legal = tt; ends = refl }
 
-  pub none_done : Grows w w [] → Reads f g p q next.End → Ran from step k t f g p w w ending.Done
-  none_done none reads = record {
+  pub none_done : k < budget → Grows w w [] → Reads f g p q next.End → Ran from step k t f g p w w ending.Done
+  none_done few none reads = record {
     exchanges = [];
     after = t;
     rest = q;
     serves = serves_none reads.taken reads.takes reads.finds.0;
-    ends = (inr (tt, subst (λ (b : List ℕ). EndsAt g b) (sym reads.finds.0) reads.finds.1), none);
+    ends = (inr (tt, subst (λ (b : List ℕ). EndsAt g b) (sym reads.finds.0) reads.finds.1), omega (arith, few), none);
   }
 
   pub none_fault : Grows w w [] → Reads f g p q next.ReadFault → Ran from step k t f g p w w ending.ReadFault
@@ -133,13 +136,13 @@ module _ (from step k : ℕ) (t : TablesOf) (f g : Option Flow) (p q : List ℕ)
   refused_here : (code : ℕ) → Reads f g p q (next.Refused code) → RefusedAt g q code
   refused_here code reads = subst (λ (b : List ℕ). RefusedAt g b code) (sym reads.finds.0) reads.finds.1
 
-  pub none_refused : (v : Option (List ℕ)) (code : ℕ) → Reads f g p q (next.Refused code) → Grows w v (refusal_bytes code) → Ran from step k t f g p w v (ending.Wire code)
-  none_refused v code reads wrote = record {
+  pub none_refused : k < budget → (v : Option (List ℕ)) (code : ℕ) → Reads f g p q (next.Refused code) → Grows w v (refusal_bytes code) → Ran from step k t f g p w v (ending.Wire code)
+  none_refused few v code reads wrote = record {
     exchanges = [];
     after = t;
     rest = q;
     serves = serves_none reads.taken reads.takes reads.finds.0;
-    ends = (tt, refused_here code reads, wrote);
+    ends = (tt, omega (arith, few), refused_here code reads, wrote);
   }
 
   pub none_broken : (v : Option (List ℕ)) (code : ℕ) → Reads f g p q (next.Refused code) → GrowsPart w v (refusal_bytes code) → Ran from step k t f g p w v ending.WriteFault
@@ -155,10 +158,6 @@ pub Grows-none : (w : Option (List ℕ)) → Grows w w []
 Grows-none None = tt
 Grows-none (Some w) = sym (append-nil w)
 
-Takes-none : (f : Option Flow) → Takes f f []
-Takes-none None = tt
-Takes-none (Some f) = record { left = refl; taken = sym (append-nil f.taken) }
-
 -- nothing was read yet
 pub not_begun : (from step : ℕ) (t : TablesOf) (f : Option Flow) (w : Option (List ℕ)) → Ran from step 0 t f f [] w w ending.Memory
 not_begun from step t f w = record { exchanges = []; after = t; rest = []; serves = serves_none from step 0 t f f [] [] w [] (Takes-none f) refl; ends = Grows-none w }
@@ -173,6 +172,16 @@ begun from step t u f p w tables buffer = record {
 }
 
 -- every refused connection gets a status of the replies
-pub refused_code : (g : Option Flow) (bytes : List ℕ) (code : ℕ) → RefusedAt g bytes code → code ≡ 400
-refused_code None bytes code is = is
-refused_code (Some flow) bytes code is = is.code_is
+refusal_known : (code : ℕ) → IsRefusalCode code → IsReplyStatus code
+refusal_known code (inl e) = rw e refl
+refusal_known code (inr (inl e)) = rw e refl
+refusal_known code (inr (inr e)) = rw e refl
+
+reason_known : (bytes : List ℕ) (code : ℕ) → IsReason bytes code → IsReplyStatus code
+reason_known bytes code (inl why) = rw why.0 refl
+reason_known bytes code (inr (inl why)) = rw why.0 refl
+reason_known bytes code (inr (inr why)) = rw why.0 refl
+
+pub refused_known : (g : Option Flow) (bytes : List ℕ) (code : ℕ) → RefusedAt g bytes code → IsReplyStatus code
+refused_known None bytes code is = refusal_known code is
+refused_known (Some flow) bytes code is = reason_known (bytes ++ flow.left) code is.why

@@ -2,4 +2,5 @@ pub mod Continuing
 pub mod Adding
 pub mod Exchanging
 pub mod Grammar
+pub mod Inputs
 pub mod Listing

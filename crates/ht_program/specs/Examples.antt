@@ -14,7 +14,7 @@ use Rattle.ht_wire.specs.declared.request.Request.{Request}
 use Rattle.ht_program.specs.declared.routing.ApiRefusal.TheVariants.{Person}
 use Rattle.ht_program.specs.declared.routing.Form.TheVariants as form
 use Rattle.ht_program.specs.Routing.{IsEvent}
-use Rattle.ht_program.specs.Texts.{answer_text, list_text}
+use Rattle.ht_program.specs.Texts.{answer_text, list_text, refused_text}
 use Rattle.ht_program.specs.Words.{moment_of}
 
 abbrev asked : List ℕ → List ℕ → Option (List ℕ) → Request
@@ -63,3 +63,12 @@ no_such_task = refl
 
 an_empty_list : list_text [] ≡ codes "[]"
 an_empty_list = refl
+
+no_head : refused_text 400 ≡ codes "{\"fault\":\"Head\"}"
+no_head = refl
+
+too_long : refused_text 431 ≡ codes "{\"fault\":\"Fields\"}"
+too_long = refl
+
+a_body : refused_text 501 ≡ codes "{\"fault\":\"Coding\"}"
+a_body = refl

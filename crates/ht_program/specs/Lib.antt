@@ -2,6 +2,7 @@ pub mod Adding
 pub mod Answering
 pub mod Examples
 pub mod Exchanges
+pub mod Inputs
 pub mod Routing
 pub mod Running
 pub mod Texts

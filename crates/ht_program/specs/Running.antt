@@ -1,21 +1,19 @@
 -- What a run of the program does: from the tables t, the source f and what was written w, to u, g
 -- and v.
-use Rattle.std.specs.Prelude.{◌≡◌, ◌⊎◌, ℕ, ◌+◌, ◌≤◌, true, false, List, [], ◌∷◌, ◌++◌, length, Option, Some, codes, decimal}
+use Rattle.std.specs.Prelude.{◌≡◌, ◌⊎◌, ℕ, ◌+◌, ◌<◌, ◌≤◌, true, List, [], ◌++◌, length, Option, Some, None, ⊤, codes, decimal}
 use Rattle.ht_outside.specs.Causes.{Rose}
 use Rattle.ht_outside.specs.Tells.{Flow, Takes, Grows, GrowsPart}
 use Rattle.ht_machine.specs.History.{IsLegal, end_of}
 use Rattle.ht_machine.specs.Tables.{TablesOf, no_tables}
+use Rattle.ht_wire.specs.Heads.{IsEnd}
 use Rattle.ht_wire.specs.Reading.{EndsAt, RefusedAt}
 use Rattle.ht_wire.specs.Replies.{reply_bytes}
 use Rattle.ht_wire.specs.Requests.{AreRequests}
 use Rattle.ht_program.specs.declared.ending.Ending.{Ending}
 use Rattle.ht_program.specs.declared.ending.Ending.TheVariants.{Done, Wire, Budget, ReadFault, WriteFault, Memory}
 use Rattle.ht_program.specs.Exchanges.{Exchange, AreExchanges, entries, replies, requests}
-use Rattle.ht_program.specs.Texts.{head_text}
-
--- the most requests of one run
-abbrev pub budget : ℕ
-budget = 1048576
+use Rattle.ht_program.specs.Inputs.{budget, GoOn, Close}
+use Rattle.ht_program.specs.Texts.{refused_text}
 
 -- these exchanges were made, from number k on. The requests are those of the bytes read, in order,
 -- and rest is what was read behind them. The entries are a legal history from t to u.
@@ -27,39 +25,36 @@ pub record Serves (from step k : ℕ) (t u : TablesOf) (f g : Option Flow) (pend
   pub legal : IsLegal t (entries xs)
   pub ends : end_of t (entries xs) ≡ u
 
--- no request is the last of its connection
-abbrev pub GoOn : List Exchange → Type 0
-GoOn [] = Unit {0}
-GoOn (x ∷ xs) = (x.request.last ≡ false) × GoOn xs
-
--- the last exchange is with the last request of the connection
-abbrev pub Close : List Exchange → Type 0
-Close [] = ⊥
-Close (x ∷ []) = x.request.last ≡ true
-Close (x ∷ y ∷ xs) = Close (y ∷ xs)
-
 abbrev pub refusal_bytes : ℕ → List ℕ
-refusal_bytes code = reply_bytes code head_text true
+refusal_bytes code = reply_bytes code (refused_text code) true
 
 -- nothing, or the bytes that refuse what follows
 abbrev pub IsTail : Option Flow → List ℕ → List ℕ → Type 0
 IsTail g rest tail = (tail ≡ []) ⊎ ((code : ℕ) × RefusedAt g rest code × (tail ≡ refusal_bytes code))
 
--- where the exchanges end, and what was written
-abbrev pub EndsAs : Ending → Option Flow → List ℕ → Option (List ℕ) → Option (List ℕ) → List Exchange → Type 0
-EndsAs Done g rest w v xs = (Close xs ⊎ (GoOn xs × EndsAt g rest)) × Grows w v (replies xs)
-EndsAs (Wire code) g rest w v xs = GoOn xs × RefusedAt g rest code × Grows w v (replies xs ++ refusal_bytes code)
-EndsAs Budget g rest w v xs = GoOn xs × (length xs ≡ budget) × Grows w v (replies xs)
-EndsAs ReadFault g rest w v xs = Grows w v (replies xs)
-EndsAs WriteFault g rest w v xs = (tail : List ℕ) × IsTail g rest tail × GrowsPart w v (replies xs ++ tail)
-EndsAs Memory g rest w v xs = Grows w v (replies xs)
+-- the bytes read, and those that the source has left, are not the end of the requests
+abbrev pub IsMoreAt : Option Flow → List ℕ → Type 0
+IsMoreAt None bytes = ⊤
+IsMoreAt (Some flow) bytes = IsEnd (bytes ++ flow.left) → ⊥
+
+-- where the exchanges from number k on end, and what was written
+abbrev pub EndsAs : ℕ → Ending → Option Flow → List ℕ → Option (List ℕ) → Option (List ℕ) → List Exchange → Type 0
+EndsAs k Done g rest w v xs =
+    (Close (requests xs) ⊎ (GoOn (requests xs) × EndsAt g rest)) × (k + length xs ≤ budget) × Grows w v (replies xs)
+EndsAs k (Wire code) g rest w v xs =
+    GoOn (requests xs) × (k + length xs < budget) × RefusedAt g rest code × Grows w v (replies xs ++ refusal_bytes code)
+EndsAs k Budget g rest w v xs =
+    GoOn (requests xs) × (k + length xs ≡ budget) × IsMoreAt g rest × Grows w v (replies xs)
+EndsAs k ReadFault g rest w v xs = Grows w v (replies xs)
+EndsAs k WriteFault g rest w v xs = (tail : List ℕ) × IsTail g rest tail × GrowsPart w v (replies xs ++ tail)
+EndsAs k Memory g rest w v xs = Grows w v (replies xs)
 
 -- a connection was served from number k to before number next, and goes on
 pub record Goes (from step k next : ℕ) (t u : TablesOf) (f g : Option Flow) (pending rest : List ℕ) (w v : Option (List ℕ)) : Type 0 where
   pub exchanges : List Exchange
   pub counted : next ≡ k + length exchanges
   pub serves : Serves from step k t u f g pending rest exchanges
-  pub open_still : GoOn exchanges
+  pub open_still : GoOn (requests exchanges)
   pub wrote : Grows w v (replies exchanges)
 
 -- from number k on, the connection was served to its ending
@@ -68,7 +63,7 @@ pub record Ran (from step k : ℕ) (t : TablesOf) (f g : Option Flow) (pending :
   pub after : TablesOf
   pub rest : List ℕ
   pub serves : Serves from step k t after f g pending rest exchanges
-  pub ends : EndsAs ending g rest w v exchanges
+  pub ends : EndsAs k ending g rest w v exchanges
 
 -- the status of an ending
 abbrev pub ending_status : Ending → ℕ
@@ -110,7 +105,7 @@ pub record HasCauses (reads reads_now writes writes_now : ℕ) (ending : Option 
 abbrev pub FollowsAs : Ending → Option Flow → List ℕ → Type 0
 FollowsAs Done g rest = EndsAt g rest
 FollowsAs (Wire code) g rest = ⊥
-FollowsAs Budget g rest = Unit {0}
+FollowsAs Budget g rest = IsMoreAt g rest
 FollowsAs ReadFault g rest = Unit {0}
 FollowsAs WriteFault g rest = ⊥
 FollowsAs Memory g rest = Unit {0}

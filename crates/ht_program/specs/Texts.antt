@@ -1,6 +1,6 @@
 -- The status and the text of each answer: compact JSON (RFC 8259) with keys in byte order. Names and
 -- states need no escapes.
-use Rattle.std.specs.Prelude.{ℕ, Bool, true, false, List, [], ◌∷◌, ◌++◌, map, filter, Option, Some, None, codes, decimal}
+use Rattle.std.specs.Prelude.{ℕ, Bool, true, false, List, [], ◌∷◌, ◌++◌, map, filter, Option, Some, None, codes, decimal, if◌then◌else◌, ◌==◌}
 use Rattle.std.specs.List.{flat_map}
 use Rattle.ht_base.specs.declared.event.Event.{Event}
 use Rattle.ht_base.specs.declared.event.Event.TheVariants.{Ask, Read}
@@ -154,9 +154,12 @@ abbrev pub api_text : ApiRefusal → List ℕ
 api_text Route = fault (codes "Route")
 api_text Person = fault (codes "Person")
 
--- of a request that can't be read
-abbrev pub head_text : List ℕ
-head_text = fault (codes "Head")
+-- of a connection that is refused with this code
+abbrev pub refused_text : ℕ → List ℕ
+refused_text code =
+    if code == 431 then fault (codes "Fields")
+    else if code == 501 then fault (codes "Coding")
+    else fault (codes "Head")
 
 abbrev pub memory_text : List ℕ
 memory_text = fault (codes "Memory")

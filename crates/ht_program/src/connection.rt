@@ -1,17 +1,18 @@
-ghost use Rattle.std.specs.Prelude.{◌≡◌, ◌≢◌, ◌+◌, ◌≤◌, [], length, Some, IfOk, MatchOption};
+ghost use Rattle.std.specs.Prelude.{◌≡◌, ◌+◌, ◌<◌, ◌≤◌, [], length, Some, IfOk, MatchOption};
 ghost use Rattle.ht_outside.specs.Causes.{HasCause};
 ghost use Rattle.ht_machine.specs.Tables.{no_tables};
 ghost use Rattle.ht_machine.specs.Deciding.{IsValid, decide};
 ghost use Rattle.ht_wire.specs.Reading.{HasReadCause};
 ghost use Rattle.ht_wire.specs.Replies.{IsReplyStatus};
 ghost use Rattle.ht_program.specs.Answering.{Answers, Decides};
+ghost use Rattle.ht_program.specs.Inputs.{budget};
 ghost use Rattle.ht_program.specs.Running.{Follows, Goes, HasCauses, Ran};
 ghost use Rattle.ht_program.specs.Texts.{memory_text};
 ghost use Rattle.ht_program.specs.Words.{last_moment};
 
 use crate::ending::Ending;
 use crate::routing::event_of;
-use crate::texts::{HEAD_TEXT, MEMORY_TEXT, TEXT_ROOM, api_reply, put, status_of, write_answer};
+use crate::texts::{MEMORY_TEXT, TEXT_ROOM, api_reply, put, refused_text, status_of, write_answer};
 use crate::words::Run;
 use ht_base::{Bytes, Event, Memory, Moment};
 use ht_machine::{Tables, run_one};
@@ -75,13 +76,13 @@ fn serve_next<S: Source, K: Sink>(
     output: &mut K,
     buffers: &mut Buffers,
 ) -> Option<Ending>
-    requires { 1024 ≤ buffers.old.text.spare + length buffers.old.text.items }
+    requires few { number < budget }
+    requires room { 1024 ≤ buffers.old.text.spare + length buffers.old.text.items }
     ensures served { MatchOption result
         (Goes run.now.from run.now.step number (number + 1) tables.old tables.new (S.flow input.old) (S.flow input.new) buffers.old.input buffers.new.input (K.written output.old) (K.written output.new))
         (Ran run.now.from run.now.step number tables.old (S.flow input.old) (S.flow input.new) buffers.old.input (K.written output.old) (K.written output.new)) }
     ensures causes { HasCauses (S.read_faults input.old) (S.read_faults input.new) (K.write_faults output.old) (K.write_faults output.new) result }
     ensures room { 1024 ≤ buffers.new.text.spare + length buffers.new.text.items }
-    ensures under { result ≢ Some Ending.Budget }
 {
     match next_request(alloc, input, &mut buffers.input) {
         Next::Request(request) => {
@@ -103,7 +104,7 @@ fn serve_next<S: Source, K: Sink>(
             }
         }
         Next::End => Some(Ending::Done),
-        Next::Refused(code) => match write_reply(output, code, HEAD_TEXT, true) {
+        Next::Refused(code) => match write_reply(output, code, refused_text(code), true) {
             Ok(()) => Some(Ending::Wire(code)),
             Err(Failed) => Some(Ending::WriteFault),
         },

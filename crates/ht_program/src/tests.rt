@@ -238,18 +238,39 @@ fn requests_are_answered_by_their_form(rt: HostRuntime) -> Result<(), Fail> {
 }
 
 #[test]
-fn an_input_that_is_no_head_is_refused(rt: HostRuntime) -> Result<(), Fail> {
-    let want = reply(rt.alloc(), "400 Bad Request", "{\"fault\":\"Head\"}", true)?;
-    for input in [
-        "POST",
-        "POST /tasks HTTP/1.1\r\nContent-Length: 0\r\n\r\n",
-        "POST /tasks HTTP/1.1\r\nTransfer-Encoding: chunked\r\n\r\n",
-        "?? /tasks\r\n\r\n",
-    ] {
+fn an_input_that_is_no_request_is_refused(rt: HostRuntime) -> Result<(), Fail> {
+    let head = ("400 Bad Request", "Head", "wire: 400\n");
+    let fields = (
+        "431 Request Header Fields Too Large",
+        "Fields",
+        "wire: 431\n",
+    );
+    let coding = ("501 Not Implemented", "Coding", "wire: 501\n");
+    let begin = "POST /tasks HTTP/1.1\r\n";
+    let many = "a: b\r\n".repeat(rt.alloc(), 65)?;
+    let long = "x".repeat(rt.alloc(), 16_385 - begin.len() - 7)?;
+    let many = format!(in rt.alloc(); "{begin}{many}\r\n")?;
+    let long = format!(in rt.alloc(); "{begin}a: {long}\r\n\r\n")?;
+    assert_eq!(rt; long.len(), 16_385);
+    let table = [
+        ("POST", head),
+        ("POST /tasks HTTP/1.1\r\nx-person: p0\r\n\r", head),
+        ("?? /tasks\r\n\r\n", head),
+        ("POST /tasks HTTP/1.1\r\nContent-Length: 0\r\n\r\n", coding),
+        (
+            "POST /tasks HTTP/1.1\r\nTransfer-Encoding: chunked\r\n\r\n",
+            coding,
+        ),
+        (many.as_str(), fields),
+        (long.as_str(), fields),
+    ];
+    for (input, (line, fault, complaint)) in table {
         let ran = run(rt.alloc(), input)?;
+        let text = format!(in rt.alloc(); "{{\"fault\":\"{fault}\"}}")?;
+        let want = reply(rt.alloc(), line, text.as_str(), true)?;
         assert_eq!(rt; ran.status, Status(1), "{input:?}");
         assert_eq!(rt; ran.output.written(), want.as_bytes(), "{input:?}");
-        assert_eq!(rt; ran.complaints.written(), b"wire: 400\n".as_slice());
+        assert_eq!(rt; ran.complaints.written(), complaint.as_bytes());
     }
     Ok(())
 }

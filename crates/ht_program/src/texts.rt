@@ -15,9 +15,6 @@ use ht_base::{
 /// The room that the text of an answer takes at most.
 pub(crate) const TEXT_ROOM: u32 = 1024;
 
-/// The text of a reply to a request that can't be read.
-pub(crate) const HEAD_TEXT: &[u8] = b"{\"fault\":\"Head\"}";
-
 /// The text of a reply to a request for whose event there is no memory.
 pub(crate) const MEMORY_TEXT: &[u8] = b"{\"fault\":\"Memory\"}";
 
@@ -199,6 +196,17 @@ fn put_quoted(text: &[u8], into: &mut Bytes)
     put(b"\"", into);
     put(text, into);
     put(b"\"", into);
+}
+
+/// The text of the reply to a connection that is refused with this status.
+pub(crate) fn refused_text(code: u16) -> &'static [u8]
+    ensures { result.now ≡ spec.refused_text code }
+{
+    match code {
+        431 => b"{\"fault\":\"Fields\"}",
+        501 => b"{\"fault\":\"Coding\"}",
+        _ => b"{\"fault\":\"Head\"}",
+    }
 }
 
 /// The status and the text of the reply to a request that makes no event.

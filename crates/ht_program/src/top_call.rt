@@ -1,5 +1,6 @@
 ghost use Rattle.std.specs.Prelude.{◌≡◌, ◌≢◌, ◌⊎◌, ◌↔◌, ℕ, List, map, string_bytes};
 ghost use Rattle.ht_outside.specs.Causes.{Rose};
+ghost use Rattle.ht_program.specs.Inputs.{IsAnswered, IsStatusOf};
 ghost use Rattle.ht_program.specs.Running.{Complains, Runs, usage_line};
 ghost use Rattle.ht_program.specs.Words.{IsRun};
 
@@ -27,6 +28,10 @@ pub fn office<S: Source, K: Sink, Q: Sink>(
     ensures run { result.0 ≢ 2 → (from : ℕ) × (step : ℕ) × IsRun (map string_bytes words.now.items) from step
         × Runs from step (S.flow input.old) (S.flow input.new) (K.written output.old) (K.written output.new)
         (Q.write_faults complaints.old) (Q.write_faults complaints.new) (Q.written complaints.old) (Q.written complaints.new) result.0 }
+    ensures exact { result.0 ≢ 2 → result.0 ≢ 7 → result.0 ≢ 8 → IsStatusOf (S.flow input.old) result.0 }
+    ensures complete { (from step : ℕ) → IsRun (map string_bytes words.now.items) from step
+        → (Rose (S.read_faults input.old) (S.read_faults input.new) → ⊥) → (Rose (K.write_faults output.old) (K.write_faults output.new) → ⊥)
+        → IsAnswered result.0 }
     ensures pipe { result.0 ≡ 7 → Rose (S.read_faults input.old) (S.read_faults input.new) ⊎ Rose (K.write_faults output.old) (K.write_faults output.new) }
 {
     match run_of(words) {

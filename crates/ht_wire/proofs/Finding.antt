@@ -1,5 +1,5 @@
 -- The answers of `next_request`.
-use Rattle.std.proofs.Common.{◌≡◌, ℕ, ◌<◌, ◌≤◌, ◌⊎◌, inl, inr, true, List, [], ◌∷◌, ◌++◌, length, drop, arith, refl, append-nil, append_assoc, length-append, ap, sym, subst, ◌∙◌, Option, Some, None}
+use Rattle.std.proofs.Common.{◌≡◌, ℕ, ◌+◌, ◌<◌, ◌≤◌, ◌⊎◌, inl, inr, true, List, [], ◌∷◌, ◌++◌, length, drop, arith, refl, append-nil, append_assoc, length-append, ap, sym, subst, ◌∙◌, Option, Some, None}
 use Rattle.std.specs.Prelude.{All}
 use Rattle.std.proofs.lemmas.List.{take_all}
 use Rattle.httparse.specs.declared.spans.HeaderSpan.{HeaderSpan}
@@ -17,7 +17,8 @@ use Rattle.ht_wire.specs.Heads.{IsEnd, IsTooLong, IsLineByte, fields_of}
 use Rattle.ht_wire.specs.Reading.{Reads, Finds, EndsAt, RefusedAt}
 use Rattle.ht_wire.specs.Requests.{Carries}
 use Rattle.ht_wire.specs.Window.{window, room}
-use Rattle.ht_wire.proofs.Outcomes.{reads_on, never_on, exceeds_on, overflows_on, front_of, front_full}
+use Rattle.ht_wire.proofs.Outcomes.{reads_on, never_on, exceeds_on, overflows_on, front_of, front_full, more_on}
+use Rattle.ht_wire.proofs.Uniqueness.{exact_of}
 
 pub Takes-trans : (f g h : Option Flow) (xs ys : List ℕ) → Takes f g xs → Takes g h ys → Takes f h (xs ++ ys)
 Takes-trans None None None xs ys a b = tt
@@ -57,6 +58,16 @@ took_still f g h old mid new a b = record {
   behind = b.same ∙ a.behind ∙ ap (λ l. old ++ l) (sym (append-nil a.taken));
 }
 
+pub grew : (g h : Option Flow) (mid new : List ℕ) (n c : ℕ) → Gains g h mid new n → (n ≡ 0 → ⊥) → c ≤ length mid → c + 1 ≤ length new
+grew g h mid new n c b some before =
+    let all : length new ≡ length mid + length b.taken = ap (λ l. length l) b.behind ∙ length-append mid b.taken in
+    let count = b.counted in
+    let more : 0 < n = n_positive n some in
+    omega (arith, all, count, before, more)
+  where
+    n_positive : (n : ℕ) → (n ≡ 0 → ⊥) → 0 < n
+    n_positive n some = omega arith
+
 no_bytes : (bytes : List ℕ) → length bytes ≡ 0 → bytes ≡ []
 no_bytes [] e = refl
 no_bytes (b ∷ bytes) e = absurd (omega arith)
@@ -64,9 +75,15 @@ no_bytes (b ∷ bytes) e = absurd (omega arith)
 none_gained : (g h : Option Flow) (mid new : List ℕ) → Gains g h mid new 0 → new ≡ mid
 none_gained g h mid new b = b.behind ∙ ap (λ l. mid ++ l) (no_bytes b.taken b.counted) ∙ append-nil mid
 
--- the bytes that the answer is about are those that are buffered now
+-- the answer is about the bytes that were buffered when it was found
+reads_of : (f g : Option Flow) (old mid new : List ℕ) (n : Next) → Took f g old mid → Finds mid g new n → Reads f g old new n
+reads_of f g old mid new n a finds =
+    let mine : Finds (old ++ a.taken) g new n = subst (λ (bytes : List ℕ). Finds bytes g new n) a.behind finds in
+    record { taken = a.taken; takes = a.takes; finds = mine; exact = exact_of f g old new a.taken n a.takes mine }
+
+-- they are buffered still
 pub found : (f g : Option Flow) (old new : List ℕ) (n : Next) → Took f g old new → Finds new g new n → Reads f g old new n
-found f g old new n a finds = record { taken = a.taken; takes = a.takes; finds = subst (λ (bytes : List ℕ). Finds bytes g new n) a.behind finds }
+found f g old new n a finds = reads_of f g old new new n a finds
 
 ended_at : (h : Option Flow) (bytes : List ℕ) → IsAtEnd h → IsEnd bytes → EndsAt h bytes
 ended_at None bytes at_end end = tt
@@ -82,47 +99,47 @@ long_on buf left within (inl both) = inl (rw (front_of buf left within) (exceeds
 long_on buf left within (inr full) =
     inr (let more = length-append buf left in let filled = full.0 in omega (arith, more, filled), rw (front_full buf left within full.0) full.1, rw (front_full buf left within full.0) full.2)
 
-long_at : (g : Option Flow) (new : List ℕ) → length new ≤ window → (RequestExceeds room new × RequestOverflows room new) ⊎ ((window ≤ length new) × HasNoRequest new × MayBecomeRequest new) → RefusedAt g new 400
-long_at None new within seen = refl
-long_at (Some flow) new within seen = record { code_is = refl; why = inr (inl (long_on new flow.left within seen)) }
+long_at : (g : Option Flow) (new : List ℕ) → length new ≤ window → (IsEnd new → ⊥) → (RequestExceeds room new × RequestOverflows room new) ⊎ ((window ≤ length new) × HasNoRequest new × MayBecomeRequest new) → RefusedAt g new 431
+long_at None new within more seen = inl refl
+long_at (Some flow) new within more seen = record { more = more_on new flow.left more; why = inl (refl, long_on new flow.left within seen) }
 
-pub found_long : (f g : Option Flow) (old new : List ℕ) → Took f g old new → length new ≤ window → (RequestExceeds room new × RequestOverflows room new) ⊎ ((window ≤ length new) × HasNoRequest new × MayBecomeRequest new) → Reads f g old new (next.Refused 400)
-found_long f g old new a within seen = found f g old new (next.Refused 400) a (refl, long_at g new within seen)
+pub found_long : (f g : Option Flow) (old new : List ℕ) → Took f g old new → length new ≤ window → (IsEnd new → ⊥) × ((RequestExceeds room new × RequestOverflows room new) ⊎ ((window ≤ length new) × HasNoRequest new × MayBecomeRequest new)) → Reads f g old new (next.Refused 431)
+found_long f g old new a within seen = found f g old new (next.Refused 431) a (refl, long_at g new within seen.0 seen.1)
 
-never_at : (g : Option Flow) (new : List ℕ) → length new ≤ window → NeverHasRequest new → RefusedAt g new 400
-never_at None new within never = refl
-never_at (Some flow) new within never = record { code_is = refl; why = inr (inr (inl (rw (front_of new flow.left within) (never_on new _ never)))) }
+never_at : (g : Option Flow) (new : List ℕ) → length new ≤ window → (IsEnd new → ⊥) → NeverHasRequest new → RefusedAt g new 400
+never_at None new within more never = inr (inl refl)
+never_at (Some flow) new within more never = record { more = more_on new flow.left more; why = inr (inl (refl, inl (rw (front_of new flow.left within) (never_on new _ never)))) }
 
-pub found_never : (f g : Option Flow) (old new : List ℕ) → Took f g old new → length new ≤ window → NeverHasRequest new → Reads f g old new (next.Refused 400)
-found_never f g old new a within never = found f g old new (next.Refused 400) a (refl, never_at g new within never)
+pub found_never : (f g : Option Flow) (old new : List ℕ) → Took f g old new → length new ≤ window → (IsEnd new → ⊥) × NeverHasRequest new → Reads f g old new (next.Refused 400)
+found_never f g old new a within never = found f g old new (next.Refused 400) a (refl, never_at g new within never.0 never.1)
 
-cut_at : (h : Option Flow) (bytes : List ℕ) → IsAtEnd h → length bytes < window → HasNoRequest bytes → RefusedAt h bytes 400
-cut_at None bytes at_end short none = refl
-cut_at (Some flow) bytes at_end short none =
+cut_at : (h : Option Flow) (bytes : List ℕ) → IsAtEnd h → (IsEnd bytes → ⊥) → length bytes < window → HasNoRequest bytes → RefusedAt h bytes 400
+cut_at None bytes at_end more short none = inr (inl refl)
+cut_at (Some flow) bytes at_end more short none =
     let whole : bytes ++ flow.left ≡ bytes = ap (λ l. bytes ++ l) at_end ∙ append-nil bytes in
-    record { code_is = refl; why = inr (inr (inr (rw whole short, rw (whole, take_all window bytes (omega (arith, short))) none))) }
+    record { more = more_on bytes flow.left more; why = inr (inl (refl, inr (rw whole short, rw (whole, take_all window bytes (omega (arith, short))) none))) }
 
 -- the bytes end before the head does
-pub found_cut : (f g h : Option Flow) (old mid new : List ℕ) → Took f g old mid → Gains g h mid new 0 → (length mid < window) × HasNoRequest mid → Reads f h old new (next.Refused 400)
+pub found_cut : (f g h : Option Flow) (old mid new : List ℕ) → Took f g old mid → Gains g h mid new 0 → (length mid < window) × (IsEnd mid → ⊥) × HasNoRequest mid → Reads f h old new (next.Refused 400)
 found_cut f g h old mid new a b partial =
     let same : new ≡ mid = none_gained g h mid new b in
-    found f h old new (next.Refused 400) (took_more f g h old mid new 0 a b) (refl, cut_at h new (b.ended refl) (rw same partial.0) (rw same partial.1))
+    found f h old new (next.Refused 400) (took_more f g h old mid new 0 a b) (refl, cut_at h new (b.ended refl) (rw same partial.1) (rw same partial.0) (rw same partial.2))
 
 pub found_fault : (f g h : Option Flow) (old mid new : List ℕ) → Took f g old mid → Stays g h mid new → Reads f h old new next.ReadFault
 found_fault f g h old mid new a b = found f h old new next.ReadFault (took_still f g h old mid new a b) refl
 
 -- a head that was found and given out
 abbrev Seen : List ℕ → List HeaderSpan → RequestSpans → Type 0
-Seen bytes headers r = IsRequestWithin bytes headers r × ((h : RequestHead) × IsRequestAt bytes headers r h × (length h.fields ≤ room))
+Seen bytes headers r = (IsEnd bytes → ⊥) × IsRequestWithin bytes headers r × ((h : RequestHead) × IsRequestAt bytes headers r h × (length h.fields ≤ room))
 
-head_short : (bytes : List ℕ) (headers : List HeaderSpan) (r : RequestSpans) (seen : Seen bytes headers r) → length bytes ≤ window → length (print_request seen.1.0) ≤ window
-head_short bytes headers r seen within = let e = seen.1.1.len in let fits = seen.0.section.len_fits in omega (arith, within, e, fits)
+head_short : (bytes : List ℕ) (headers : List HeaderSpan) (r : RequestSpans) (seen : Seen bytes headers r) → length bytes ≤ window → length (print_request seen.2.0) ≤ window
+head_short bytes headers r seen within = let e = seen.2.1.len in let fits = seen.1.section.len_fits in omega (arith, within, e, fits)
 
-body_at : (g : Option Flow) (bytes : List ℕ) (headers : List HeaderSpan) (r : RequestSpans) (code : ℕ) → length bytes ≤ window → (seen : Seen bytes headers r) → code ≡ 400 → has_body (fields_at bytes headers r) ≡ true → RefusedAt g bytes code
-body_at None bytes headers r code within seen is body = is
+body_at : (g : Option Flow) (bytes : List ℕ) (headers : List HeaderSpan) (r : RequestSpans) (code : ℕ) → length bytes ≤ window → (seen : Seen bytes headers r) → code ≡ 501 → has_body (fields_at bytes headers r) ≡ true → RefusedAt g bytes code
+body_at None bytes headers r code within seen is body = inr (inr is)
 body_at (Some flow) bytes headers r code within seen is body = record {
-  code_is = is;
-  why = inl (seen.1.0, drop r.len bytes ++ flow.left, record { reads = reads_on bytes flow.left seen.1.0 (drop r.len bytes) seen.1.1.reads; short = head_short bytes headers r seen within; few = seen.1.2 }, ap has_body (sym seen.1.1.fields) ∙ body);
+  more = more_on bytes flow.left seen.0;
+  why = inr (inr (is, (seen.2.0, drop r.len bytes ++ flow.left, record { reads = reads_on bytes flow.left seen.2.0 (drop r.len bytes) seen.2.1.reads; short = head_short bytes headers r seen within; few = seen.2.2 }, ap has_body (sym seen.2.1.fields) ∙ body)));
 }
 
 carried : (bytes : List ℕ) (headers : List HeaderSpan) (spans : RequestSpans) (h : RequestHead) (r : Request) → IsRequestAt bytes headers spans h
@@ -137,10 +154,10 @@ carried bytes headers spans h r at is = record {
 
 gives : (g : Option Flow) (bytes : List ℕ) (headers : List HeaderSpan) (spans : RequestSpans) (new : List ℕ) (n : Next) → length bytes ≤ window → Seen bytes headers spans → GivesOut bytes headers spans new n → Finds bytes g new n
 gives g bytes headers spans new (next.Request r) within seen out = record {
-  head = seen.1.0;
-  stands = record { reads = rw out.0 seen.1.1.reads; short = head_short bytes headers spans seen within; few = seen.1.2 };
-  bodiless = ap has_body (sym seen.1.1.fields) ∙ out.1;
-  carries = carried bytes headers spans seen.1.0 r seen.1.1 out.2;
+  head = seen.2.0;
+  stands = record { reads = rw out.0 seen.2.1.reads; short = head_short bytes headers spans seen within; few = seen.2.2 };
+  bodiless = ap has_body (sym seen.2.1.fields) ∙ out.1;
+  carries = carried bytes headers spans seen.2.0 r seen.2.1 out.2;
 }
 gives g bytes headers spans new next.End within seen out = absurd out
 gives g bytes headers spans new (next.Refused code) within seen out = (out.0, body_at g bytes headers spans code within seen out.1 out.2)
@@ -148,4 +165,4 @@ gives g bytes headers spans new next.ReadFault within seen out = absurd out
 gives g bytes headers spans new next.Memory within seen out = out
 
 pub found_head : (f g : Option Flow) (old mid : List ℕ) (headers : List HeaderSpan) (spans : RequestSpans) (new : List ℕ) (n : Next) → Took f g old mid → length mid ≤ window → Seen mid headers spans → GivesOut mid headers spans new n → Reads f g old new n
-found_head f g old mid headers spans new n a within seen out = record { taken = a.taken; takes = a.takes; finds = subst (λ (bytes : List ℕ). Finds bytes g new n) a.behind (gives g mid headers spans new n within seen out) }
+found_head f g old mid headers spans new n a within seen out = reads_of f g old mid new n a (gives g mid headers spans new n within seen out)

@@ -1,11 +1,16 @@
 -- What is seen at the front of a stream holds of the stream as it goes on.
-use Rattle.std.proofs.Common.{◌≡◌, ℕ, ◌+◌, ◌-◌, ◌≤◌, List, ◌++◌, length, take, arith, append-nil, append_assoc, ap, ◌∙◌}
-use lib.Seq.{take-append-add}
+use Rattle.std.proofs.Common.{◌≡◌, ℕ, ◌+◌, ◌-◌, ◌≤◌, List, ◌++◌, length, take, arith, append-nil, append_assoc, length-append, ap, subst, ◌∙◌}
+use Rattle.std.specs.Prelude.{All}
+use Rattle.std.proofs.lemmas.List.Elements.{All-take}
+use Rattle.std.proofs.Math.Seq.{take-append-add, take-append_seam}
 use Rattle.httparse.specs.Grammar.{RequestHead, ReadsRequest, NeverHasRequest}
 use Rattle.httparse.specs.Grammar as httparse
 use Rattle.httparse.specs.Spans.{RequestExceeds, RequestOverflows}
 use Rattle.http_header.specs.Token as header
+use Rattle.ht_wire.specs.Heads.{IsEnd, IsLineByte}
+use Rattle.ht_wire.specs.Requests.{IsRequest}
 use Rattle.ht_wire.specs.Window.{window, room, front}
+use Rattle.ht_wire.specs.declared.request.Request.{Request}
 
 pub reads_on : (buf more : List ℕ) (h : RequestHead) (rest : List ℕ) → ReadsRequest buf h rest → ReadsRequest (buf ++ more) h (rest ++ more)
 reads_on buf more h rest reads = (reads.0, ap (λ b. b ++ more) reads.1 ∙ append_assoc _ rest more)
@@ -33,3 +38,19 @@ front_full buf left within full =
 pub token_is : (bytes : List ℕ) → httparse.IsToken bytes → header.IsToken bytes
 unfolding httparse.is_token_byte header.is_token_byte
 token_is bytes token = token
+
+-- the first bytes of an end are one, and so bytes behind what is no end make none
+all_before : (buf more : List ℕ) → All IsLineByte (buf ++ more) → All IsLineByte buf
+all_before buf more all = subst (λ (l : List ℕ). All IsLineByte l) (take-append_seam buf more) (All-take IsLineByte (length buf) (buf ++ more) all)
+
+pub more_on : (buf more : List ℕ) → (IsEnd buf → ⊥) → IsEnd (buf ++ more) → ⊥
+more_on buf more not_end end =
+    not_end (record { short = (let l = length-append buf more in let e = end.short in omega (arith, l, e)); blank = all_before buf more end.blank })
+
+pub request_on : (s more : List ℕ) (r : Request) (rest : List ℕ) → IsRequest s r rest → IsRequest (s ++ more) r (rest ++ more)
+request_on s more r rest is = record {
+  head = is.head;
+  stands = record { reads = reads_on s more is.head rest is.stands.reads; short = is.stands.short; few = is.stands.few };
+  bodiless = is.bodiless;
+  carries = is.carries;
+}

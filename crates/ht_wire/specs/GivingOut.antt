@@ -16,7 +16,7 @@ abbrev pub GivesOut : List ℕ → List HeaderSpan → RequestSpans → List ℕ
 GivesOut old headers head new (Request r) =
     (new ≡ drop head.len old) × (has_body (fields_at old headers head) ≡ false)
     × Carries (span_bytes old head.method) (span_bytes old head.path) head.version (fields_at old headers head) r
-GivesOut old headers head new (Refused code) = (new ≡ old) × (code ≡ 400) × (has_body (fields_at old headers head) ≡ true)
+GivesOut old headers head new (Refused code) = (new ≡ old) × (code ≡ 501) × (has_body (fields_at old headers head) ≡ true)
 GivesOut old headers head new Memory = new ≡ old
 GivesOut old headers head new End = ⊥
 GivesOut old headers head new ReadFault = ⊥

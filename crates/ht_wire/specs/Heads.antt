@@ -1,7 +1,7 @@
 -- What stands at the front of a stream of bytes: the end, a whole head within the limits, or what
 -- is refused. The grammar of heads is httparse's (RFC 9112, sections 2 to 5).
 use Rattle.std.specs.Prelude.{◌≡◌, ◌⊎◌, ℕ, ◌<◌, ◌≤◌, true, List, length, map, All}
-use Rattle.httparse.specs.Grammar.{RequestHead, print_request, ReadsRequest, HasNoRequest, NeverHasRequest, MayBecomeRequest}
+use Rattle.httparse.specs.Grammar.{RequestHead, print_request, ReadsRequest, HasNoRequest, NeverHasRequest, MayBecomeRequest, EndsInTarget}
 use Rattle.httparse.specs.Spans.{RequestExceeds, RequestOverflows, name_and_value}
 use Rattle.ht_wire.specs.Fields.{has_body}
 use Rattle.ht_wire.specs.Window.{window, room, front}
@@ -38,3 +38,8 @@ IsTooLong stream =
 -- no continuation makes a head, or the bytes end before the head does
 abbrev pub IsNoHead : List ℕ → Type 0
 IsNoHead stream = NeverHasRequest (front stream) ⊎ ((length stream < window) × HasNoRequest (front stream))
+
+-- the two corners, in which a stream may be both too long and no head: its first 16,384 bytes end in
+-- the target, or more than 64 whole fields stand in them
+abbrev pub IsCorner : List ℕ → Type 0
+IsCorner stream = ((window ≤ length stream) × EndsInTarget (front stream)) ⊎ RequestExceeds room (front stream)

@@ -5,12 +5,14 @@ use Rattle.httparse.specs.Grammar.{RequestHead, HasNoRequest, NeverHasRequest, M
 use Rattle.httparse.specs.Spans.{IsRequestAt, IsRequestWithin, RequestExceeds, RequestOverflows}
 use Rattle.ht_wire.specs.declared.looking.Sight.{Sight}
 use Rattle.ht_wire.specs.declared.looking.Sight.TheVariants.{Head, TooLong, NoHead, Blank, Partial}
-use Rattle.ht_wire.specs.Heads.{IsLineByte}
+use Rattle.ht_wire.specs.Heads.{IsEnd, IsLineByte}
 use Rattle.ht_wire.specs.Window.{window, room}
 
 abbrev pub Sees : List ℕ → List HeaderSpan → Sight → Type 0
-Sees bytes headers (Head r) = IsRequestWithin bytes headers r × ((h : RequestHead) × IsRequestAt bytes headers r h × (length h.fields ≤ room))
-Sees bytes headers TooLong = (RequestExceeds room bytes × RequestOverflows room bytes) ⊎ ((window ≤ length bytes) × HasNoRequest bytes × MayBecomeRequest bytes)
-Sees bytes headers NoHead = NeverHasRequest bytes
+Sees bytes headers (Head r) = (IsEnd bytes → ⊥) × IsRequestWithin bytes headers r × ((h : RequestHead) × IsRequestAt bytes headers r h × (length h.fields ≤ room))
+Sees bytes headers TooLong =
+    (IsEnd bytes → ⊥)
+    × ((RequestExceeds room bytes × RequestOverflows room bytes) ⊎ ((window ≤ length bytes) × HasNoRequest bytes × MayBecomeRequest bytes))
+Sees bytes headers NoHead = (IsEnd bytes → ⊥) × NeverHasRequest bytes
 Sees bytes headers Blank = (length bytes < window) × All IsLineByte bytes
-Sees bytes headers Partial = (length bytes < window) × HasNoRequest bytes
+Sees bytes headers Partial = (length bytes < window) × (IsEnd bytes → ⊥) × HasNoRequest bytes

@@ -1,12 +1,13 @@
 -- What one call of `next_request` reads: from the bytes that were buffered and those that it took
 -- from the source, to the bytes that are buffered after it.
-use Rattle.std.specs.Prelude.{◌≡◌, ℕ, ◌≤◌, List, [], ◌++◌, Option, Some, None, ⊤}
+use Rattle.std.specs.Prelude.{◌≡◌, ◌⊎◌, ℕ, ◌≤◌, List, [], ◌++◌, Option, Some, None, ⊤}
 use Rattle.ht_outside.specs.Causes.{Rose}
 use Rattle.ht_outside.specs.Tells.{Flow, Takes}
 use Rattle.ht_wire.specs.declared.reading.Next.{Next}
 use Rattle.ht_wire.specs.declared.reading.Next.TheVariants.{Request, End, Refused, ReadFault, Memory}
-use Rattle.ht_wire.specs.Heads.{IsEnd}
-use Rattle.ht_wire.specs.Requests.{IsRequest, IsRefused}
+use Rattle.ht_wire.specs.declared.request.Request.{Request as OneRequest}
+use Rattle.ht_wire.specs.Heads.{IsEnd, IsCorner}
+use Rattle.ht_wire.specs.Requests.{IsRequest, IsRefused, IsRefusalCode, IsSame}
 
 -- the bytes read are all there are, and they are the end of the requests
 abbrev pub EndsAt : Option Flow → List ℕ → Type 0
@@ -15,7 +16,7 @@ EndsAt (Some flow) bytes = (flow.left ≡ []) × IsEnd bytes
 
 -- the bytes read, and those that the source has left, are refused with this code
 abbrev pub RefusedAt : Option Flow → List ℕ → ℕ → Type 0
-RefusedAt None bytes code = code ≡ 400
+RefusedAt None bytes code = IsRefusalCode code
 RefusedAt (Some flow) bytes code = IsRefused (bytes ++ flow.left) code
 
 -- the answer, of the bytes that were read and not given out yet
@@ -26,11 +27,47 @@ Finds bytes flow new (Refused code) = (new ≡ bytes) × RefusedAt flow bytes co
 Finds bytes flow new ReadFault = new ≡ bytes
 Finds bytes flow new Memory = new ≡ bytes
 
+-- the source failed, or there is no memory
+abbrev pub IsFailure : Next → Type 0
+IsFailure (Request r) = ⊥
+IsFailure End = ⊥
+IsFailure (Refused code) = ⊥
+IsFailure ReadFault = Unit {0}
+IsFailure Memory = Unit {0}
+
+-- the answer is this request
+abbrev pub Gives : OneRequest → Next → Type 0
+Gives r (Request s) = IsSame r s
+Gives r End = ⊥
+Gives r (Refused code) = ⊥
+Gives r ReadFault = ⊥
+Gives r Memory = ⊥
+
+-- the answer is this code, or in a corner any other
+abbrev pub Refuses : List ℕ → ℕ → Next → Type 0
+Refuses stream code (Request s) = ⊥
+Refuses stream code End = ⊥
+Refuses stream code (Refused other) = (other ≡ code) ⊎ IsCorner stream
+Refuses stream code ReadFault = ⊥
+Refuses stream code Memory = ⊥
+
+-- what stands in the stream is what is answered, unless the call fails
+pub record IsTrueTo (stream : List ℕ) (next : Next) : Type 0 where
+  pub request : (r : OneRequest) (rest : List ℕ) → IsRequest stream r rest → Gives r next ⊎ IsFailure next
+  pub end : IsEnd stream → (next ≡ End) ⊎ IsFailure next
+  pub refused : (code : ℕ) → IsRefused stream code → Refuses stream code next ⊎ IsFailure next
+
+-- the stream: the bytes buffered, and those that the source has left, if it tells
+abbrev pub IsExact : Option Flow → List ℕ → Next → Type 0
+IsExact None old next = ⊤
+IsExact (Some flow) old next = IsTrueTo (old ++ flow.left) next
+
 -- old and new: the bytes buffered before and after
 pub record Reads (f g : Option Flow) (old new : List ℕ) (next : Next) : Type 0 where
   pub taken : List ℕ
   pub takes : Takes f g taken
   pub finds : Finds (old ++ taken) g new next
+  pub exact : IsExact f old next
 
 -- the source's count of faults doesn't fall, and it rose where the answer is a fault of it
 pub record HasReadCause (before now : ℕ) (next : Next) : Type 0 where

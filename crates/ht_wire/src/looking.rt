@@ -1,5 +1,5 @@
-ghost use Rattle.std.specs.Prelude.{◌≡◌, ◌≤◌, All, IsTrue, length};
-ghost use Rattle.ht_wire.specs.Heads.{IsLineByte};
+ghost use Rattle.std.specs.Prelude.{◌≡◌, ◌≤◌, ◌↔◌, IsTrue, length};
+ghost use Rattle.ht_wire.specs.Heads.{IsEnd};
 ghost use Rattle.ht_wire.specs.Looking.{Sees};
 
 use crate::buffer::WINDOW;
@@ -27,7 +27,7 @@ pub(crate) fn look(bytes: &[u8], headers: &mut [HeaderSpan; ROOM]) -> Sight
     requires { length bytes.now ≤ 16384 }
     ensures { Sees bytes.now headers.new result }
 {
-    if bytes.len() < WINDOW && is_blank(bytes) {
+    if is_end(bytes) {
         return Sight::Blank;
     }
     match parse_request(bytes, headers) {
@@ -43,8 +43,8 @@ pub(crate) fn look(bytes: &[u8], headers: &mut [HeaderSpan; ROOM]) -> Sight
     }
 }
 
-fn is_blank(bytes: &[u8]) -> bool
-    ensures { IsTrue result → All IsLineByte bytes.now }
+fn is_end(bytes: &[u8]) -> bool
+    ensures { IsTrue result ↔ IsEnd bytes.now }
 {
-    bytes.iter().all(|b| *b == b'\r' || *b == b'\n')
+    bytes.len() < WINDOW && bytes.iter().all(|b| *b == b'\r' || *b == b'\n')
 }

@@ -19,8 +19,12 @@ use std::alloc::Global;
 // Each look but the last is followed by a read of at least one byte.
 const LOOKS: usize = WINDOW + 1;
 
-/// The status of the reply to a connection whose next request can't be read.
+// The status codes of the refusals (RFC 9110, 15.5.1 and 15.6.2; RFC 6585, 5).
 const BAD_REQUEST: u16 = 400;
+
+const FIELDS_TOO_LARGE: u16 = 431;
+
+const NOT_IMPLEMENTED: u16 = 501;
 
 /// What comes next on a connection.
 #[derive(Drop)]
@@ -35,7 +39,8 @@ pub enum Next {
 }
 
 /// Reads the next request (RFC 9112, sections 2 to 5). Bytes behind it stay in the buffer. A head
-/// has at most 16,384 bytes and 64 fields, and a request has no body.
+/// has at most 16,384 bytes and 64 fields: more are refused with 431. What is no head, or ends
+/// before one does, is refused with 400, and a head that announces a body with 501.
 pub fn next_request<S: Source>(alloc: Global, source: &mut S, buffer: &mut Buffer) -> Next
     ensures reads { Reads (S.flow source.old) (S.flow source.new) buffer.old buffer.new result }
     ensures beside { S.beside_source source.new ≡ S.beside_source source.old }
@@ -45,7 +50,7 @@ pub fn next_request<S: Source>(alloc: Global, source: &mut S, buffer: &mut Buffe
     for _ in 0..LOOKS {
         match look(buffer.pending(), &mut headers) {
             Sight::Head(head) => return give_out(alloc, buffer, &headers, &head),
-            Sight::TooLong => return Next::Refused(BAD_REQUEST),
+            Sight::TooLong => return Next::Refused(FIELDS_TOO_LARGE),
             Sight::NoHead => return Next::Refused(BAD_REQUEST),
             Sight::Blank => match buffer.fill(source) {
                 Ok(0) => return Next::End,
@@ -71,7 +76,7 @@ fn give_out(alloc: Global, buffer: &mut Buffer, headers: &[HeaderSpan], head: &R
     let bytes = buffer.pending();
     let fields = &headers[..head.headers];
     if has_body(bytes, fields) {
-        return Next::Refused(BAD_REQUEST);
+        return Next::Refused(NOT_IMPLEMENTED);
     }
     match request_of(alloc, bytes, fields, head) {
         Ok(request) => {

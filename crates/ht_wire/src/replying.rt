@@ -1,4 +1,4 @@
-ghost use Rattle.std.specs.Prelude.{◌≡◌, ◌+◌, ◌≤◌, ◌++◌, length};
+ghost use Rattle.std.specs.Prelude.{◌≡◌, ◌+◌, ◌≤◌, [], ◌++◌, length};
 ghost use Rattle.ht_outside.specs.Causes.{HasCause};
 ghost use Rattle.ht_outside.specs.Tells.{WriteGrows};
 ghost use Rattle.ht_wire.specs.Replies.{IsReplyStatus, phrase_of, closing, reply_head, reply_bytes};
@@ -23,7 +23,8 @@ pub fn write_reply<K: Sink>(
     ensures beside { K.beside_sink sink.new ≡ K.beside_sink sink.old }
     ensures cause { HasCause (K.write_faults sink.old) (K.write_faults sink.new) result }
 {
-    let mut piece = head_of(status, body.len(), last);
+    let mut piece = Piece::new();
+    put_head(status, body.len(), last, &mut piece);
     if piece.remaining_capacity() < body.len() {
         return write_both(sink, &piece, body);
     }
@@ -42,25 +43,24 @@ fn write_both<K: Sink>(sink: &mut K, first: &[u8], second: &[u8]) -> Result<(), 
 }
 
 // The status line and the fields.
-fn head_of(status: u16, length: usize, last: bool) -> Piece
-    requires { IsReplyStatus status }
-    ensures { result.items ≡ reply_head status length last }
+fn put_head(status: u16, length: usize, last: bool, head: &mut Piece)
+    requires known { IsReplyStatus status }
+    requires empty { head.old.items ≡ [] }
+    ensures { head.new.items ≡ reply_head status length last }
 {
     let mut digits = itoa::Buffer::new();
-    let mut head = Piece::new();
-    put(&mut head, b"HTTP/1.1 ");
-    put(&mut head, digits.format(status).as_bytes());
-    put(&mut head, b" ");
-    put(&mut head, phrase(status).as_bytes());
+    put(head, b"HTTP/1.1 ");
+    put(head, digits.format(status).as_bytes());
+    put(head, b" ");
+    put(head, phrase(status).as_bytes());
     put(
-        &mut head,
+        head,
         b"\r\ncontent-type: application/json\r\ncontent-length: ",
     );
-    put(&mut head, digits.format(length).as_bytes());
-    put(&mut head, b"\r\n");
-    put(&mut head, closing_field(last));
-    put(&mut head, b"\r\n");
-    head
+    put(head, digits.format(length).as_bytes());
+    put(head, b"\r\n");
+    put(head, closing_field(last));
+    put(head, b"\r\n");
 }
 
 fn put(piece: &mut Piece, bytes: &[u8])

@@ -1,6 +1,10 @@
-use crate::{Buffer, Next, next_request, write_reply};
+ghost use Rattle.std.specs.Prelude.{Some};
+ghost use Rattle.ht_outside.specs.Causes.{HasCause};
+ghost use Rattle.ht_outside.specs.Tells.{ReadTakes};
+
+use crate::{Buffer, Next, Request, next_request, write_reply};
 use ht_base::Bytes;
-use ht_outside::{MemorySink, MemorySource, Pair};
+use ht_outside::{Failed, MemorySink, MemorySource, Pair, Source};
 use std::alloc::Global;
 use std::test::Fail;
 
@@ -10,33 +14,75 @@ fn link(alloc: Global, bytes: &[u8]) -> Result<Pair<MemorySource, MemorySink>, F
     Ok(Pair { input, output })
 }
 
-// What stands in the bytes, a word each: the persons of the requests (`-` where there is none),
-// `last` behind a last one, and then the end.
+// A source that gives one byte a read.
+#[derive(Drop)]
+struct Drip {
+    source: MemorySource,
+}
+
+impl Source for Drip {
+    ghost flow = { λ s. Some s.source.flow };
+
+    ghost read_faults = { λ s. s.source.faults };
+
+    fn read(&mut self, into: &mut [u8]) -> Result<usize, Failed>
+        ensures bytes { ReadTakes (Some self.old.source.flow) (Some self.new.source.flow) result into.new }
+        ensures cause { HasCause self.old.source.faults self.new.source.faults result }
+    {
+        let most = into.len().min(1);
+        self.source.read(&mut into[..most])
+    }
+}
+
+// What stands in the bytes, a word each, read in large pieces and byte by byte.
 fn read(alloc: Global, bytes: &[u8]) -> Result<String, Fail> {
-    let mut link = link(alloc, bytes)?;
+    let text = read_from(alloc, &mut link(alloc, bytes)?)?;
+    let source = MemorySource::make(alloc, Bytes::of(alloc, bytes)?, Vec::new(alloc))?;
+    let again = read_from(alloc, &mut Drip { source })?;
+    if text != again {
+        return Err(Fail::from("the cut into reads matters"));
+    }
+    Ok(text)
+}
+
+// The persons of the requests (`-` where there is none), `last` behind a last one, and then the end.
+fn read_from<S: Source>(alloc: Global, source: &mut S) -> Result<String, Fail> {
     let mut buffer = Buffer::new(alloc)?;
     let mut text = String::new(alloc);
     for _ in 0..100 {
-        let word = match next_request(alloc, &mut link, &mut buffer) {
-            Next::Request(request) => {
-                match request.person {
-                    Some(person) => text.push_str(str::from_utf8(person.as_bytes())?)?,
-                    None => text.push('-')?,
-                }
-                if request.last { " last " } else { " " }
-            }
-            Next::End => "end",
-            Next::Refused(400) => "400",
-            Next::Refused(_) => "refused",
-            Next::ReadFault => "fault",
-            Next::Memory => "memory",
-        };
-        text.push_str(word)?;
-        if !word.ends_with(" ") {
+        let next = next_request(alloc, source, &mut buffer);
+        if !put_next(&next, &mut text)? {
             break;
         }
     }
     Ok(text)
+}
+
+// Puts the word for what came, and answers whether it was a request.
+fn put_next(next: &Next, text: &mut String) -> Result<bool, Fail> {
+    match next {
+        Next::Request(request) => {
+            put_request(request, text)?;
+            return Ok(true);
+        }
+        Next::End => text.push_str("end")?,
+        Next::Refused(code) => text.push_str(itoa::Buffer::new().format(*code))?,
+        Next::ReadFault => text.push_str("fault")?,
+        Next::Memory => text.push_str("memory")?,
+    }
+    Ok(false)
+}
+
+fn put_request(request: &Request, text: &mut String) -> Result<(), Fail> {
+    match request.person {
+        Some(person) => text.push_str(str::from_utf8(person.as_bytes())?)?,
+        None => text.push('-')?,
+    }
+    if request.last {
+        text.push_str(" last")?;
+    }
+    text.push(' ')?;
+    Ok(())
 }
 
 #[test]
@@ -68,10 +114,25 @@ fn heads_are_read(rt: HostRuntime) -> Result<(), Fail> {
             "GET / HTTP/1.1\r\n\r\nGET / HTTP/1.1\r\nx-person: p2\r\n\r\nG",
             "- p2 400",
         ),
-        ("POST / HTTP/1.1\r\nContent-Length: 0\r\n\r\n", "400"),
+        (
+            "GET / HTTP/1.1\r\nCONNECTION:  cLOSE \r\n\r\n",
+            "- last end",
+        ),
+        ("GET / HTTP/1.1\r\nconnection: closed\r\n\r\n", "- end"),
+        ("GET / HTTP/1.1\r\nconnections: close\r\n\r\n", "- end"),
+        (
+            "GET / HTTP/1.1\r\nConnection: keep-alive\r\nConnection: close\r\n\r\n",
+            "- last end",
+        ),
+        ("\r\n\r\n\n\r\nGET / HTTP/1.1\r\n\r\n", "- end"),
+        ("POST / HTTP/1.1\r\nContent-Length: 0\r\n\r\n", "501"),
         (
             "POST / HTTP/1.1\r\nTransfer-Encoding: chunked\r\n\r\n",
-            "400",
+            "501",
+        ),
+        (
+            "GET / HTTP/1.1\r\n\r\nPOST / HTTP/1.1\r\ncontent-length: 2\r\n\r\n{}",
+            "- 501",
         ),
         ("GET / HTTP/2\r\n\r\n", "400"),
         ("GET /", "400"),
@@ -81,6 +142,47 @@ fn heads_are_read(rt: HostRuntime) -> Result<(), Fail> {
         let text = read(rt.alloc(), bytes.as_bytes())?;
         assert_eq!(rt; text.as_str(), want, "{bytes:?}");
     }
+    Ok(())
+}
+
+#[test]
+fn a_head_that_is_cut_is_refused(rt: HostRuntime) -> Result<(), Fail> {
+    let head = b"\r\nPOST /tasks HTTP/1.1\r\nx-person: p3\r\nconnection: close\r\n\r\n";
+    for cut in 0..=head.len() {
+        let text = read(rt.alloc(), &head[..cut])?;
+        let want = if cut < 3 {
+            "end"
+        } else if cut < head.len() {
+            "400"
+        } else {
+            "p3 last end"
+        };
+        assert_eq!(rt; text.as_str(), want, "cut after {cut}");
+    }
+    Ok(())
+}
+
+#[test]
+fn a_head_has_its_limits(rt: HostRuntime) -> Result<(), Fail> {
+    for (fields, want) in [(0, "- end"), (64, "- end"), (65, "431")] {
+        let field = "a: b\r\n".repeat(rt.alloc(), fields)?;
+        let head = format!(in rt.alloc(); "GET / HTTP/1.1\r\n{field}\r\n")?;
+        let text = read_from(rt.alloc(), &mut link(rt.alloc(), head.as_bytes())?)?;
+        assert_eq!(rt; text.as_str(), want, "{fields} fields");
+    }
+    let rest = "GET /tasks HTTP/1.1\r\na: \r\n\r\n".len();
+    for (bytes, want) in [(16_383, "- end"), (16_384, "- end"), (16_385, "431")] {
+        let value = "x".repeat(rt.alloc(), bytes - rest)?;
+        let head = format!(in rt.alloc(); "GET /tasks HTTP/1.1\r\na: {value}\r\n\r\n")?;
+        assert_eq!(rt; head.len(), bytes);
+        let text = read_from(rt.alloc(), &mut link(rt.alloc(), head.as_bytes())?)?;
+        assert_eq!(rt; text.as_str(), want, "{bytes} bytes");
+    }
+    let blank = "\r\n".repeat(rt.alloc(), 8192)?;
+    let text = read_from(rt.alloc(), &mut link(rt.alloc(), blank.as_bytes())?)?;
+    assert_eq!(rt; text.as_str(), "431");
+    let text = read_from(rt.alloc(), &mut link(rt.alloc(), &blank.as_bytes()[1..])?)?;
+    assert_eq!(rt; text.as_str(), "end");
     Ok(())
 }
 

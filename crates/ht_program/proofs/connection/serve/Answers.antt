@@ -1,6 +1,5 @@
-use Rattle.std.proofs.Common.{◌≡◌, ap, arith}
-use Rattle.std.specs.Prelude.{Some}
-use Rattle.ht_program.specs.Running.{budget}
+use Rattle.std.proofs.Common.{◌≡◌, arith}
+use Rattle.ht_program.specs.Inputs.{budget}
 use Rattle.ht_program.proofs.Continuing.{goes_on, goes_ran, goes_follows}
 use Rattle.ht_program.proofs.Exchanging.{begun, not_begun}
 use Rattle.ht_program.proofs.connection.serve.Goals as goal
@@ -20,7 +19,7 @@ loop-number-init g c = record {
 }
 
 pub returns-in-Some-clause-ran : goal.returns-in-Some-clause-ran
-returns-in-Some-clause-ran g c = goes_ran _ _ _ _ _ _ _ _ _ _ _ _ _ _ _ (λ e. c.in-Some.ensures.under (ap Some e)) c.loop-number.invariant.goes c.in-Some.ensures.served
+returns-in-Some-clause-ran g c = goes_ran _ _ _ _ _ _ _ _ _ _ _ _ _ _ _ c.loop-number.invariant.goes c.in-Some.ensures.served
 
 pub loop-number-preserved : goal.loop-number-preserved
 loop-number-preserved g c = record {

@@ -1,13 +1,14 @@
-use Rattle.std.proofs.Common.{sym, subst}
+use Rattle.std.proofs.Common.{sym, subst, arith, ◌∙◌}
 use Rattle.http_header.specs.Token.{IsToken}
-use Rattle.ht_wire.proofs.Finding.{found_head, found_long, found_never, found_cut}
+use Rattle.ht_wire.proofs.Finding.{grew, took_more, found_end, found_head, found_long, found_never, found_cut}
 use Rattle.ht_wire.proofs.Outcomes.{token_is}
 use Rattle.ht_wire.proofs.reading.next_request.Goals as goal
+use Rattle.ht_wire.proofs.reading.next_request.Goals.{in-Blank+in-Ok, in-Partial+in-Ok-fill}
 
 pub give_out-requires-clause-token : goal.give_out-requires-clause-token
 give_out-requires-clause-token g c =
     let seen = rw c.pending.ensures.value at c.in-Head.ensures in
-    subst IsToken (sym seen.1.1.method) (token_is seen.1.0.method seen.1.1.reads.0.method)
+    subst IsToken (sym seen.2.1.method) (token_is seen.2.0.method seen.2.1.reads.0.method)
 
 pub returns-in-Head-clause-reads : goal.returns-in-Head-clause-reads
 returns-in-Head-clause-reads g c = found_head _ _ _ _ _ _ _ _ c.loop.invariant.took c.pending.ensures.short (rw c.pending.ensures.value at c.in-Head.ensures) c.give_out.ensures
@@ -20,3 +21,25 @@ returns-in-NoHead-clause-reads g c = found_never _ _ _ _ c.loop.invariant.took c
 
 pub returns-in-Ok-eq0-fill-clause-reads : goal.returns-in-Ok-eq0-fill-clause-reads
 returns-in-Ok-eq0-fill-clause-reads g c = found_cut _ _ _ _ _ _ c.loop.invariant.took (rw c.in-Ok-eq0-fill.field-0-test at c.in-Ok-eq0-fill.ensures.bytes) (rw c.pending.ensures.value at c.in-Partial.ensures)
+
+pub returns-in-Ok-eq0-clause-reads : goal.returns-in-Ok-eq0-clause-reads
+returns-in-Ok-eq0-clause-reads g c = found_end _ _ _ _ _ _ c.loop.invariant.took (rw c.in-Ok-eq0.field-0-test at c.in-Ok-eq0.ensures.bytes) (rw c.pending.ensures.value at c.in-Blank.ensures)
+
+pub loop-preserved : goal.loop-preserved
+loop-preserved g c =
+    elim c.match-look.branch [
+      | in-Blank+in-Ok w ↦ record {
+        took = rw (w.source-is, w.buffer-is) (took_more _ _ _ _ _ _ _ c.loop.invariant.took w.in-Ok.ensures.bytes);
+        grown = rw w.buffer-is (grew _ _ _ _ _ _ w.in-Ok.ensures.bytes w.in-Ok.field-0-test.1 c.loop.invariant.grown);
+        few = (let short = (rw c.pending.ensures.value at w.in-Blank.ensures).0 in let grown = c.loop.invariant.grown in omega (arith, short, grown));
+        later = rw w.source-is (let one = c.loop.invariant.later in let two = w.in-Ok.ensures.cause.later in omega (arith, one, two));
+        beside = rw w.source-is (w.in-Ok.ensures.beside ∙ c.loop.invariant.beside);
+      }
+      | in-Partial+in-Ok-fill w ↦ record {
+        took = rw (w.source-is, w.buffer-is) (took_more _ _ _ _ _ _ _ c.loop.invariant.took w.in-Ok-fill.ensures.bytes);
+        grown = rw w.buffer-is (grew _ _ _ _ _ _ w.in-Ok-fill.ensures.bytes w.in-Ok-fill.field-0-test.1 c.loop.invariant.grown);
+        few = (let short = (rw c.pending.ensures.value at w.in-Partial.ensures).0 in let grown = c.loop.invariant.grown in omega (arith, short, grown));
+        later = rw w.source-is (let one = c.loop.invariant.later in let two = w.in-Ok-fill.ensures.cause.later in omega (arith, one, two));
+        beside = rw w.source-is (w.in-Ok-fill.ensures.beside ∙ c.loop.invariant.beside);
+      }
+    ]

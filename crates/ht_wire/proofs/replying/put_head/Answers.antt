@@ -1,6 +1,6 @@
 use Rattle.std.proofs.Common.{rules}
 use Rattle.ht_wire.specs.Replies.{reply_head}
-use Rattle.ht_wire.proofs.replying.head_of.Goals as goal
+use Rattle.ht_wire.proofs.replying.put_head.Goals as goal
 
 pub returns : goal.returns
 unfolding reply_head

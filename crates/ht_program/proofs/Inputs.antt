@@ -1,0 +1,150 @@
+-- An input ends in one way, and the status says in which.
+use Rattle.std.proofs.Common.{◌≡◌, ◌⊎◌, inl, inr, ℕ, ◌<◌, ◌≤◌, true, false, List, [], ◌∷◌, ◌++◌, length, refl, sym, ap, subst, ◌∙◌, arith, append-nil, Option, Some, None}
+use Rattle.std.proofs.lemmas.List.{length-map}
+use Rattle.ht_outside.specs.Tells.{Flow}
+use Rattle.ht_machine.specs.Tables.{TablesOf}
+use Rattle.ht_wire.specs.declared.request.Request.{Request}
+use Rattle.ht_wire.specs.Heads.{IsEnd}
+use Rattle.ht_wire.specs.Reading.{EndsAt}
+use Rattle.ht_wire.specs.Requests.{AreRequests, IsRequest, IsRefused}
+use Rattle.ht_wire.proofs.Uniqueness.{one_request, request_or_end, request_or_refused}
+use Rattle.ht_program.specs.declared.ending.Ending.{Ending}
+use Rattle.ht_program.specs.declared.ending.Ending.TheVariants as ending
+use Rattle.ht_program.specs.Exchanges.{Exchange, requests}
+use Rattle.ht_program.specs.Inputs.{budget, GoOn, Close, IsWhole, IsBroken, IsTooMuch, IsStatusOf}
+use Rattle.ht_program.specs.Running.{Ran, ending_status}
+use Rattle.ht_program.proofs.Continuing.{still}
+
+-- ---- one input, read twice
+
+-- the first requests of both lists are one, and the rest is one input
+same_rest : (s : List ℕ) (q r : Request) (a b : List ℕ) → IsRequest s q a → IsRequest s r b → (r.last ≡ q.last) × (a ≡ b)
+same_rest s q r a b x y = let same = one_request s q r a b x y in (same.0.last, same.1)
+
+-- an end behind requests, or a last request among them
+abbrev Ends : List Request → List ℕ → Type 0
+Ends rs rest = Close rs ⊎ (GoOn rs × IsEnd rest)
+
+no_close : (q r : Request) → r.last ≡ q.last → q.last ≡ true → r.last ≡ false → ⊥
+no_close q r same closes goes = absurd (cc)
+
+-- what follows in an input that ends so
+ends_later : (q : Request) (qs : List Request) (rest : List ℕ) → (q.last ≡ true → ⊥) → Ends (q ∷ qs) rest → Ends qs rest
+ends_later q [] rest going (inl close) = absurd (going close)
+ends_later q (p ∷ qs) rest going (inl close) = inl close
+ends_later q qs rest going (inr both) = inr (both.0.1, both.1)
+
+whole_or_broken : (s : List ℕ) (qs rs : List Request) (a b : List ℕ) (code : ℕ) → AreRequests s qs a → Ends qs a → AreRequests s rs b → GoOn rs → IsRefused b code → ⊥
+whole_or_broken s [] [] a b code x (inl close) y going refused = close
+whole_or_broken s [] [] a b code x (inr both) y going refused = refused.more (subst IsEnd (sym x ∙ y) both.1)
+whole_or_broken s [] (r ∷ rs) a b code x (inl close) y going refused = close
+whole_or_broken s [] (r ∷ rs) a b code x (inr both) y going refused = request_or_end s r y.0 y.1 (subst IsEnd (sym x) both.1)
+whole_or_broken s (q ∷ qs) [] a b code x ends y going refused = request_or_refused s q x.0 code x.1 (subst (λ (l : List ℕ). IsRefused l code) (sym y) refused)
+whole_or_broken s (q ∷ qs) (r ∷ rs) a b code x ends y going refused =
+    let same = same_rest s q r x.0 y.0 x.1 y.1 in
+    whole_or_broken x.0 qs rs a b code x.3 (ends_later q qs a (λ last. no_close q r same.0 last going.0) ends) (subst (λ (l : List ℕ). AreRequests l rs b) (sym same.1) y.3) going.1 refused
+
+whole_or_much : (n : ℕ) (s : List ℕ) (qs rs : List Request) (a b : List ℕ) → AreRequests s qs a → length qs ≤ n → Ends qs a → AreRequests s rs b → length rs ≡ n → GoOn rs → (IsEnd b → ⊥) → ⊥
+whole_or_much n s [] [] a b x few (inl close) y all going more = close
+whole_or_much n s [] [] a b x few (inr both) y all going more = more (subst IsEnd (sym x ∙ y) both.1)
+whole_or_much n s [] (r ∷ rs) a b x few (inl close) y all going more = close
+whole_or_much n s [] (r ∷ rs) a b x few (inr both) y all going more = request_or_end s r y.0 y.1 (subst IsEnd (sym x) both.1)
+whole_or_much n s (q ∷ qs) [] a b x few ends y all going more = absurd (omega (arith, few, all))
+whole_or_much n s (q ∷ qs) (r ∷ rs) a b x few ends y all going more =
+    let same = same_rest s q r x.0 y.0 x.1 y.1 in
+    whole_or_much (length rs) x.0 qs rs a b x.3 (omega (arith, few, all)) (ends_later q qs a (λ last. no_close q r same.0 last going.0) ends) (subst (λ (l : List ℕ). AreRequests l rs b) (sym same.1) y.3) refl going.1 more
+
+broken_or_much : (n : ℕ) (s : List ℕ) (qs rs : List Request) (a b : List ℕ) (code : ℕ) → AreRequests s qs a → length qs < n → IsRefused a code → AreRequests s rs b → length rs ≡ n → ⊥
+broken_or_much n s [] [] a b code x few refused y all = absurd (omega (arith, few, all))
+broken_or_much n s [] (r ∷ rs) a b code x few refused y all = request_or_refused s r y.0 code y.1 (subst (λ (l : List ℕ). IsRefused l code) (sym x) refused)
+broken_or_much n s (q ∷ qs) [] a b code x few refused y all = absurd (omega (arith, few, all))
+broken_or_much n s (q ∷ qs) (r ∷ rs) a b code x few refused y all =
+    let same = same_rest s q r x.0 y.0 x.1 y.1 in
+    broken_or_much (length rs) x.0 qs rs a b code x.3 (omega (arith, few, all)) refused (subst (λ (l : List ℕ). AreRequests l rs b) (sym same.1) y.3) refl
+
+not_both : (n : ℕ) (s : List ℕ) → IsWhole n s → IsBroken n s → ⊥
+not_both n s a b = whole_or_broken s a.asked b.asked a.rest b.rest b.code a.stand a.ends b.stand b.open_still b.refused
+
+not_whole : (n : ℕ) (s : List ℕ) → IsWhole n s → IsTooMuch n s → ⊥
+not_whole n s a b = whole_or_much n s a.asked b.asked a.rest b.rest a.stand a.few a.ends b.stand b.all b.open_still b.more
+
+not_broken : (n : ℕ) (s : List ℕ) → IsBroken n s → IsTooMuch n s → ⊥
+not_broken n s a b = broken_or_much n s a.asked b.asked a.rest b.rest a.code a.stand a.few a.refused b.stand b.all
+
+-- ---- the status of each
+
+zero : (s : List ℕ) (taken : List ℕ) (status : ℕ) → status ≡ 0 → IsWhole budget s → IsStatusOf (Some (record { left = s; taken = taken })) status
+zero s taken status is whole = (
+  ((λ _. whole), (λ _. is)),
+  ((λ one. absurd (omega (arith, is, one))), (λ broken. absurd (not_both budget s whole broken))),
+  ((λ nine. absurd (omega (arith, is, nine))), (λ much. absurd (not_whole budget s whole much))),
+)
+
+one : (s : List ℕ) (taken : List ℕ) (status : ℕ) → status ≡ 1 → IsBroken budget s → IsStatusOf (Some (record { left = s; taken = taken })) status
+one s taken status is broken = (
+  ((λ none. absurd (omega (arith, is, none))), (λ whole. absurd (not_both budget s whole broken))),
+  ((λ _. broken), (λ _. is)),
+  ((λ nine. absurd (omega (arith, is, nine))), (λ much. absurd (not_broken budget s broken much))),
+)
+
+nine : (s : List ℕ) (taken : List ℕ) (status : ℕ) → status ≡ 9 → IsTooMuch budget s → IsStatusOf (Some (record { left = s; taken = taken })) status
+nine s taken status is much = (
+  ((λ none. absurd (omega (arith, is, none))), (λ whole. absurd (not_whole budget s whole much))),
+  ((λ once. absurd (omega (arith, is, once))), (λ broken. absurd (not_broken budget s broken much))),
+  ((λ _. much), (λ _. is)),
+)
+
+module _ (from step : ℕ) (t : TablesOf) (f g : Flow) (w v : Option (List ℕ)) where
+  -- the whole input: the bytes read, and those that the source has left
+  stands : (e : Ending) (a : Ran from step 0 t (Some f) (Some g) [] w v e) → AreRequests f.left (requests a.exchanges) (a.rest ++ g.left)
+  stands e a = subst (λ (l : List ℕ). AreRequests l (requests a.exchanges) (a.rest ++ g.left)) (sym a.serves.takes.left) (still a.exchanges a.serves.taken g.left a.rest a.serves.stand)
+
+  counted : (xs : List Exchange) → length (requests xs) ≡ length xs
+  counted xs = length-map xs (λ (x : Exchange). x.request)
+
+  whole_end : (xs : List Exchange) (rest : List ℕ) → Close (requests xs) ⊎ (GoOn (requests xs) × EndsAt (Some g) rest) → Ends (requests xs) (rest ++ g.left)
+  whole_end xs rest (inl close) = inl close
+  whole_end xs rest (inr both) = inr (both.0, subst IsEnd (sym (append-nil rest) ∙ ap (λ l. rest ++ l) (sym both.1.0)) both.1.1)
+
+  is_whole : Ran from step 0 t (Some f) (Some g) [] w v ending.Done → IsWhole budget f.left
+  is_whole a = record {
+    asked = requests a.exchanges;
+    rest = a.rest ++ g.left;
+    stand = stands ending.Done a;
+    few = (let n = counted a.exchanges in let few = a.ends.1 in omega (arith, n, few));
+    ends = whole_end a.exchanges a.rest a.ends.0;
+  }
+
+  is_broken : (code : ℕ) → Ran from step 0 t (Some f) (Some g) [] w v (ending.Wire code) → IsBroken budget f.left
+  is_broken code a = record {
+    asked = requests a.exchanges;
+    rest = a.rest ++ g.left;
+    stand = stands (ending.Wire code) a;
+    few = (let n = counted a.exchanges in let few = a.ends.1 in omega (arith, n, few));
+    open_still = a.ends.0;
+    code = code;
+    refused = a.ends.2;
+  }
+
+  is_much : Ran from step 0 t (Some f) (Some g) [] w v ending.Budget → IsTooMuch budget f.left
+  is_much a = record {
+    asked = requests a.exchanges;
+    rest = a.rest ++ g.left;
+    stand = stands ending.Budget a;
+    all = (let n = counted a.exchanges in let all = a.ends.1 in omega (arith, n, all));
+    open_still = a.ends.0;
+    more = a.ends.2;
+  }
+
+  told : (e : Ending) (status : ℕ) → Ran from step 0 t (Some f) (Some g) [] w v e → status ≡ ending_status e → (status ≡ 7 → ⊥) → (status ≡ 8 → ⊥) → IsStatusOf (Some f) status
+  told ending.Done status a is no_fault enough = zero f.left f.taken status is (is_whole a)
+  told (ending.Wire code) status a is no_fault enough = one f.left f.taken status is (is_broken code a)
+  told ending.Budget status a is no_fault enough = nine f.left f.taken status is (is_much a)
+  told ending.ReadFault status a is no_fault enough = absurd (no_fault is)
+  told ending.WriteFault status a is no_fault enough = absurd (no_fault is)
+  told ending.Memory status a is no_fault enough = absurd (enough is)
+
+pub status_of_input : (from step : ℕ) (t : TablesOf) (f g : Option Flow) (w v : Option (List ℕ)) (e : Ending) (status : ℕ) → Ran from step 0 t f g [] w v e → status ≡ ending_status e → (status ≡ 7 → ⊥) → (status ≡ 8 → ⊥) → IsStatusOf f status
+status_of_input from step t None g w v e status a is no_fault enough = tt
+status_of_input from step t (Some f) None w v e status a is no_fault enough = absurd a.serves.takes
+status_of_input from step t (Some f) (Some g) w v e status a is no_fault enough = told from step t f g w v e status a is no_fault enough

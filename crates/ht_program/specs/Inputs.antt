@@ -1,0 +1,60 @@
+-- How the input of a run ends. The statuses 0, 1 and 9 are each exactly for one of these ways.
+use Rattle.std.specs.Prelude.{◌≡◌, ◌⊎◌, ◌↔◌, ℕ, ◌<◌, ◌≤◌, true, false, List, [], ◌∷◌, length, Option, Some, None, ⊤}
+use Rattle.ht_outside.specs.Tells.{Flow}
+use Rattle.ht_wire.specs.declared.request.Request.{Request}
+use Rattle.ht_wire.specs.Heads.{IsEnd}
+use Rattle.ht_wire.specs.Requests.{AreRequests, IsRefused}
+
+-- the most requests of one run
+abbrev pub budget : ℕ
+budget = 1048576
+
+-- no request is the last of its connection
+abbrev pub GoOn : List Request → Type 0
+GoOn [] = Unit {0}
+GoOn (r ∷ rs) = (r.last ≡ false) × GoOn rs
+
+-- there is a last request, and the list ends with it
+abbrev pub Close : List Request → Type 0
+Close [] = ⊥
+Close (r ∷ []) = r.last ≡ true
+Close (r ∷ q ∷ rs) = Close (q ∷ rs)
+
+-- the input is requests and their end, or requests of which one closes the connection
+pub record IsWhole (most : ℕ) (input : List ℕ) : Type 0 where
+  pub asked : List Request
+  pub rest : List ℕ
+  pub stand : AreRequests input asked rest
+  pub few : length asked ≤ most
+  pub ends : Close asked ⊎ (GoOn asked × IsEnd rest)
+
+-- behind some requests something is refused
+pub record IsBroken (most : ℕ) (input : List ℕ) : Type 0 where
+  pub asked : List Request
+  pub rest : List ℕ
+  pub stand : AreRequests input asked rest
+  pub few : length asked < most
+  pub open_still : GoOn asked
+  pub code : ℕ
+  pub refused : IsRefused rest code
+
+-- behind the most requests that a run may have there isn't the end
+pub record IsTooMuch (most : ℕ) (input : List ℕ) : Type 0 where
+  pub asked : List Request
+  pub rest : List ℕ
+  pub stand : AreRequests input asked rest
+  pub all : length asked ≡ most
+  pub open_still : GoOn asked
+  pub more : IsEnd rest → ⊥
+
+-- the status of a run that had no fault and memory enough, over an input that tells its bytes
+abbrev pub IsStatusOf : Option Flow → ℕ → Type 0
+IsStatusOf None status = ⊤
+IsStatusOf (Some flow) status =
+    ((status ≡ 0) ↔ IsWhole budget flow.left)
+    × ((status ≡ 1) ↔ IsBroken budget flow.left)
+    × ((status ≡ 9) ↔ IsTooMuch budget flow.left)
+
+-- the statuses of a run without a fault
+abbrev pub IsAnswered : ℕ → Type 0
+IsAnswered status = (status ≡ 0) ⊎ ((status ≡ 1) ⊎ ((status ≡ 8) ⊎ (status ≡ 9)))
