@@ -63,11 +63,11 @@ fn add_items(names: &[Name], into: &mut Bytes) -> Result<(), Memory>
     let Some((first, later)) = names.split_first() else {
         return Ok(());
     };
-    add_text(b"", first.as_bytes(), into)?;
+    add(b"\"", first.as_bytes(), into)?;
     for name in later {
-        add_text(b",", name.as_bytes(), into)?;
+        add(b"\",\"", name.as_bytes(), into)?;
     }
-    Ok(())
+    into.extend(b"\"")
 }
 
 fn add_name(key: &[u8], name: &Name, into: &mut Bytes) -> Result<(), Memory>
