@@ -112,7 +112,7 @@ fn read(alloc: Global, tables: &Tables, caller: &Name, query: &Query) -> Result<
     }
     let Query::Sheet(task) = query;
     match tables.row(*task) {
-        Some(row) => Ok(Answer::Sheet(sheet(alloc, *task, row)?)),
+        Some(row) => Ok(Answer::Sheet(sheet(alloc, *task, row, &tables.everybody)?)),
         None => Ok(Answer::Refused(Refusal::Task(*task))),
     }
 }

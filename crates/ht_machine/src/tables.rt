@@ -1,7 +1,8 @@
 ghost use Rattle.std.specs.Prelude.{◌≡◌, ◌≤◌, length, IfOk, IfSome, option_map};
 ghost use Rattle.ht_machine.specs.Tables.{no_tables, row_at};
 
-use ht_base::{Memory, Moment, Name, State, TaskId};
+use crate::directory::everybody;
+use ht_base::{Memory, Moment, Name, Names, State, TaskId};
 use std::alloc::Global;
 use std::marker::Model;
 
@@ -23,6 +24,8 @@ pub struct Row {
 pub struct Tables {
     pub(crate) rows: Vec<Row>,
     pub(crate) last: Moment,
+    // As sheets show them.
+    pub(crate) everybody: Names,
 }
 
 impl Model for Tables {
@@ -46,6 +49,7 @@ impl Tables {
         Ok(Tables {
             rows: Vec::new(alloc),
             last: Moment(0),
+            everybody: everybody(alloc)?,
         })
     }
 
