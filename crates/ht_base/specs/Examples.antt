@@ -1,6 +1,7 @@
 -- Worked examples of the definitions. A wrong reading of one fails the check.
-use Rattle.std.specs.Prelude.{◌≡◌, refl, [], Some, None, codes, true, false}
+use Rattle.std.specs.Prelude.{◌≡◌, refl, [], Some, None, codes, true, false, ◌∷◌}
 use Rattle.ht_base.specs.Name.{is_name, name_of}
+use Rattle.ht_base.specs.Persons.{has}
 
 a_letter : is_name (codes "a") ≡ true
 a_letter = refl
@@ -22,3 +23,9 @@ a_blank = refl
 
 a_name : name_of (codes "p0") ≡ Some (codes "p0")
 a_name = refl
+
+a_person_of_three : has 5 (2 ∷ 5 ∷ 9 ∷ []) ≡ true
+a_person_of_three = refl
+
+a_person_beside_three : has 4 (2 ∷ 5 ∷ 9 ∷ []) ≡ false
+a_person_beside_three = refl

@@ -4,12 +4,14 @@
 
 mod bytes;
 mod event;
+mod kind;
 mod memory;
 mod moment;
 mod name;
 mod names;
 mod operation;
 mod person;
+mod persons;
 mod reply;
 mod role;
 mod sheet;
@@ -17,17 +19,21 @@ mod state;
 mod task_id;
 #[cfg(test)]
 mod tests;
+mod txt;
 
 pub use bytes::Bytes;
 pub use event::{Command, Event, Query};
+pub use kind::Kind;
 pub use memory::Memory;
 pub use moment::{LAST, Moment};
 pub use name::Name;
 pub use names::Names;
 pub use operation::Op;
 pub use person::Person;
+pub use persons::Persons;
 pub use reply::{Answer, Limit, Refusal, Reply};
 pub use role::{Role, Roles};
 pub use sheet::Sheet;
 pub use state::{State, StateSet};
 pub use task_id::TaskId;
+pub use txt::Txt;

@@ -1,6 +1,6 @@
 use crate::{Moment, Name, Names, State, TaskId};
 
-/// All that is told of one task (WS-HumanTask 1.1, 7.1.1 "getTaskInfo"): its persons and its model
+/// All that is told of one task (WS-HumanTask 1.1, 7.1.1 "getTaskDetails"): its persons and its model
 /// by name. Comments and parts come with the operations that give a task some, and so do sub
 /// tasks.
 #[derive(Drop)]

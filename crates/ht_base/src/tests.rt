@@ -1,4 +1,6 @@
-use crate::{Bytes, LAST, Moment, Name, Names, Role, Roles, State, StateSet};
+use crate::{
+    Bytes, Kind, LAST, Moment, Name, Names, Person, Persons, Role, Roles, State, StateSet, Txt,
+};
 use std::alloc::AllocError;
 use std::test::Fail;
 
@@ -86,5 +88,29 @@ fn lists_of_names_grow_and_are_copied(rt: HostRuntime) -> Result<(), Fail> {
     let copy = names.copy(rt.alloc())?;
     assert_eq!(rt; copy.as_slice().len(), 2);
     assert!(rt; copy.as_slice().first().copied() == Name::of(b"anna"));
+    Ok(())
+}
+
+#[test]
+fn sets_of_persons_grow_and_are_copied(rt: HostRuntime) -> Result<(), Fail> {
+    let mut persons = Persons::new(rt.alloc());
+    assert!(rt; !persons.contains(Person(0)));
+    persons.push(Person(3))?;
+    let mut copy = persons.copy(rt.alloc())?;
+    copy.push(Person(7))?;
+    let table = [(0, false), (3, true), (5, false), (7, true), (8, false)];
+    for (place, is_there) in table {
+        assert_eq!(rt; copy.contains(Person(place)), is_there, "{place}");
+    }
+    assert_eq!(rt; persons.as_slice(), [Person(3)].as_slice());
+    Ok(())
+}
+
+#[test]
+fn texts_are_copied(rt: HostRuntime) -> Result<(), Fail> {
+    let text = Txt::of(rt.alloc(), "caf\u{e9}")?;
+    let copy = text.copy(rt.alloc())?;
+    assert_eq!(rt; copy.as_str(), "caf\u{e9}");
+    assert_ne!(rt; Kind::Text, Kind::Person);
     Ok(())
 }
