@@ -1,0 +1,46 @@
+-- Worked examples of the definitions. A wrong reading of one fails the check.
+use Rattle.std.specs.Prelude.{◌≡◌, refl, [], ◌∷◌, Some, None, codes, true, false}
+use Rattle.toml.specs.Data.{Members, no_members, member, no_items, item, string, boolean, array}
+use Rattle.ht_toml.specs.Tables.{array_at, entries_at, has_only, text_at, truth_at}
+
+-- list = ["a", "b"], name = "anna", operator = true
+abbrev sample : Members
+sample =
+    member (codes "list") (array (item (string (codes "a")) (item (string (codes "b")) no_items)))
+    (member (codes "name") (string (codes "anna")) (member (codes "operator") (boolean true) no_members))
+
+all_known : has_only (codes "name" ∷ codes "operator" ∷ codes "list" ∷ []) sample ≡ true
+all_known = refl
+
+one_unknown : has_only (codes "name" ∷ codes "list" ∷ []) sample ≡ false
+one_unknown = refl
+
+nothing_to_know : has_only [] no_members ≡ true
+nothing_to_know = refl
+
+a_text : text_at (codes "name") sample ≡ Some (codes "anna")
+a_text = refl
+
+no_text : text_at (codes "operator") sample ≡ None
+no_text = refl
+
+a_truth : truth_at (codes "operator") false sample ≡ Some true
+a_truth = refl
+
+a_missing_truth : truth_at (codes "oper") false sample ≡ Some false
+a_missing_truth = refl
+
+no_truth : truth_at (codes "name") false sample ≡ None
+no_truth = refl
+
+an_array : array_at (codes "list") sample ≡ Some (string (codes "a") ∷ string (codes "b") ∷ [])
+an_array = refl
+
+no_array : array_at (codes "person") sample ≡ None
+no_array = refl
+
+missing_entries : entries_at (codes "person") sample ≡ Some []
+missing_entries = refl
+
+no_entries : entries_at (codes "name") sample ≡ None
+no_entries = refl

@@ -1,0 +1,84 @@
+ghost use Rattle.std.specs.Prelude.{◌≡◌, map, option_map};
+ghost use Rattle.toml.specs.Data.{get_member};
+ghost use Rattle.toml.specs.View.{table_view, view};
+ghost use Rattle.ht_toml.specs.Tables as spec;
+
+use toml::{Table, Value};
+
+/// Whether each key of the table is one of these.
+pub fn has_only(table: &Table, known: &[&str]) -> bool
+    ensures { result ≡ spec.has_only (map (λ k. k.now) known.now) (table_view table.now) }
+{
+    for (key, _) in table {
+        if !is_among(key.as_str(), known) {
+            return false;
+        }
+    }
+    true
+}
+
+/// The text at a key.
+pub fn text_at<'a>(table: &'a Table, key: &str) -> Option<&'a str>
+    ensures { option_map (λ t. t.now) result ≡ spec.text_at key.now (table_view table.now) }
+{
+    match value_at(table, key) {
+        Some(value) => value.as_str(),
+        None => None,
+    }
+}
+
+/// The truth value at a key, or this one where the key is missing.
+pub fn truth_at(table: &Table, key: &str, missing: bool) -> Option<bool>
+    ensures { result ≡ spec.truth_at key.now missing (table_view table.now) }
+{
+    match value_at(table, key) {
+        Some(value) => value.as_bool(),
+        None => Some(missing),
+    }
+}
+
+/// The entries of the array at a key.
+pub fn array_at<'a>(table: &'a Table, key: &str) -> Option<&'a [Value]>
+    ensures { option_map (λ es. map view es.now) result ≡ spec.array_at key.now (table_view table.now) }
+{
+    match value_at(table, key) {
+        Some(value) => entries_of(value),
+        None => None,
+    }
+}
+
+/// The entries of the array at a key, of which there are none where the key is missing.
+pub fn entries_at<'a>(table: &'a Table, key: &str) -> Option<&'a [Value]>
+    ensures { option_map (λ es. map view es.now) result ≡ spec.entries_at key.now (table_view table.now) }
+{
+    match value_at(table, key) {
+        Some(value) => entries_of(value),
+        None => Some(&[]),
+    }
+}
+
+fn value_at<'a>(table: &'a Table, key: &str) -> Option<&'a Value>
+    ensures { option_map (λ v. view v.now) result ≡ get_member key.now (table_view table.now) }
+{
+    table.get(key)
+}
+
+fn entries_of(value: &Value) -> Option<&[Value]>
+    ensures { option_map (λ es. map view es.now) result ≡ spec.entries_of (view value.now) }
+{
+    match value.as_array() {
+        Some(array) => Some(array.as_slice()),
+        None => None,
+    }
+}
+
+fn is_among(key: &str, known: &[&str]) -> bool
+    ensures { result ≡ spec.is_among (map (λ k. k.now) known.now) key.now }
+{
+    for name in known {
+        if *name == key {
+            return true;
+        }
+    }
+    false
+}
