@@ -1,1 +1,2 @@
+pub mod ReadEntries
 pub mod Views

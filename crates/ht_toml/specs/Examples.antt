@@ -1,6 +1,8 @@
 -- Worked examples of the definitions. A wrong reading of one fails the check.
 use Rattle.std.specs.Prelude.{◌≡◌, refl, [], ◌∷◌, Some, None, codes, true, false}
 use Rattle.toml.specs.Data.{Members, no_members, member, no_items, item, string, boolean, array}
+use Rattle.ht_toml.specs.Entries.{each}
+use Rattle.toml.specs.Data.{as_str}
 use Rattle.ht_toml.specs.Tables.{array_at, entries_at, has_only, text_at, truth_at}
 
 -- list = ["a", "b"], name = "anna", operator = true
@@ -44,3 +46,9 @@ missing_entries = refl
 
 no_entries : entries_at (codes "name") sample ≡ None
 no_entries = refl
+
+all_read : each as_str (string (codes "a") ∷ string (codes "b") ∷ []) ≡ Some (codes "a" ∷ codes "b" ∷ [])
+all_read = refl
+
+one_misshapen : each as_str (string (codes "a") ∷ boolean true ∷ []) ≡ None
+one_misshapen = refl

@@ -1,3 +1,4 @@
 pub mod Documents
+pub mod Entries
 pub mod Examples
 pub mod Tables

@@ -3,9 +3,11 @@
 #![tactic(auto)]
 
 mod documents;
+mod entries;
 mod tables;
 #[cfg(test)]
 mod tests;
 
 pub use documents::{DocumentFault, document};
+pub use entries::{EntriesFault, Shape, each};
 pub use tables::{array_at, entries_at, has_only, text_at, truth_at};

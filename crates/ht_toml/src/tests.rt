@@ -1,5 +1,27 @@
-use crate::{DocumentFault, array_at, document, entries_at, has_only, text_at, truth_at};
+use crate::{
+    DocumentFault, EntriesFault, Shape, array_at, document, each, entries_at, has_only, text_at,
+    truth_at,
+};
+use std::alloc::{AllocError, Global};
 use std::test::Fail;
+use toml::Value;
+
+#[derive(Debug, PartialEq, Drop)]
+struct Flag(bool);
+
+impl Shape for Flag {
+    ghost use Rattle.std.specs.Prelude.{option_map};
+    ghost use Rattle.toml.specs.Data.{as_bool};
+
+    ghost of = { λ d. option_map (λ b. record { 0 = b }) (as_bool d) };
+
+    fn read(_alloc: Global, value: &Value) -> Result<Option<Flag>, AllocError> {
+        match value.as_bool() {
+            Some(flag) => Ok(Some(Flag(flag))),
+            None => Ok(None),
+        }
+    }
+}
 
 #[test]
 fn documents_are_read(rt: HostRuntime) -> Result<(), Fail> {
@@ -39,5 +61,18 @@ fn values_are_found_by_their_shape(rt: HostRuntime) -> Result<(), Fail> {
     for (entries, count) in counts {
         assert_eq!(rt; entries.map(|entries| entries.len()), count);
     }
+    Ok(())
+}
+
+#[test]
+fn every_entry_is_read(rt: HostRuntime) -> Result<(), Fail> {
+    let table = document(
+        rt.alloc(),
+        b"good = [true, false]\nbad = [true, 1, \"b\"]\n",
+    )?;
+    let good = each::<Flag>(rt.alloc(), array_at(&table, "good").ok_or("an array")?)?;
+    assert_eq!(rt; good.as_slice(), [Flag(true), Flag(false)].as_slice());
+    let bad = each::<Flag>(rt.alloc(), array_at(&table, "bad").ok_or("an array")?);
+    assert_eq!(rt; bad.err(), Some(EntriesFault::Misshapen(1)));
     Ok(())
 }

@@ -1,0 +1,22 @@
+use Rattle.std.proofs.Common.{◌≡◌, map, sym, ◌∙◌}
+use Rattle.toml.specs.View.{view}
+use Rattle.ht_toml.proofs.ReadEntries.{each_more, each_stops, first_missing, seen_at}
+use Rattle.ht_toml.proofs.entries.each.Goals as goal
+
+pub returns-in-None-clause-none : goal.returns-in-None-clause-none
+returns-in-None-clause-none g c =
+    let at = seen_at view c.args.values.now c.loop-place.place c.index-values-place.result c.loop-place-test.true c.index-values-place.is in
+    λ place e. each_stops g.E.Shape.of (map view c.args.values.now) c.loop-place.place (view c.index-values-place.result) at (sym c.in_ok-entry.ensures ∙ c.in-None.is)
+
+pub returns-in-None-clause-first : goal.returns-in-None-clause-first
+returns-in-None-clause-first g c =
+    let at = seen_at view c.args.values.now c.loop-place.place c.index-values-place.result c.loop-place-test.true c.index-values-place.is in
+    λ place e.
+    let same : c.loop-place.place ≡ place = cc in
+    rw (← same) (first_missing g.E.Shape.of (map view c.args.values.now) c.loop-place.place (view c.index-values-place.result) c.loop-place.entries.items at (sym c.in_ok-entry.ensures ∙ c.in-None.is) c.loop-place.invariant)
+
+pub loop-place-preserved : goal.loop-place-preserved
+loop-place-preserved g c =
+    let at = seen_at view c.args.values.now c.loop-place.place c.index-values-place.result c.loop-place-test.true c.index-values-place.is in
+    each_more g.E.Shape.of (map view c.args.values.now) c.loop-place.place (view c.index-values-place.result) c.loop-place.entries.items c.in-Some.entry at (sym c.in_ok-entry.ensures ∙ c.in-Some.is) c.loop-place.invariant
+    ∙ rw c.in_ok-push-in-Some.ensures.items
