@@ -2,6 +2,7 @@
 use Rattle.std.specs.Prelude.{◌≡◌, refl, [], Some, None, codes, true, false, ◌∷◌}
 use Rattle.ht_base.specs.Name.{is_name, name_of}
 use Rattle.ht_base.specs.Persons.{has}
+use Rattle.ht_base.specs.Places.{place_in}
 
 a_letter : is_name (codes "a") ≡ true
 a_letter = refl
@@ -29,3 +30,10 @@ a_person_of_three = refl
 
 a_person_beside_three : has 4 (2 ∷ 5 ∷ 9 ∷ []) ≡ false
 a_person_beside_three = refl
+
+-- the first place counts
+a_place : place_in (codes "anna") (codes "ben" ∷ codes "anna" ∷ codes "anna" ∷ []) ≡ Some 1
+a_place = refl
+
+no_place : place_in (codes "ann") (codes "ben" ∷ codes "anna" ∷ []) ≡ None
+no_place = refl

@@ -1,7 +1,9 @@
 pub mod Bytes
 pub mod Examples
+pub mod Indexes
 pub mod Name
 pub mod NameBytes
 pub mod Persons
+pub mod Places
 pub mod Role
 pub mod State

@@ -4,6 +4,7 @@
 
 mod bytes;
 mod event;
+mod indexes;
 mod kind;
 mod memory;
 mod moment;
@@ -23,6 +24,7 @@ mod txt;
 
 pub use bytes::Bytes;
 pub use event::{Command, Event, Query};
+pub use indexes::{IndexFault, Key, index, name_places};
 pub use kind::Kind;
 pub use memory::Memory;
 pub use moment::{LAST, Moment};

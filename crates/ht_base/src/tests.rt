@@ -1,5 +1,6 @@
 use crate::{
-    Bytes, Kind, LAST, Moment, Name, Names, Person, Persons, Role, Roles, State, StateSet, Txt,
+    Bytes, IndexFault, Kind, LAST, Moment, Name, Names, Person, Persons, Role, Roles, State,
+    StateSet, Txt, index, name_places,
 };
 use std::alloc::AllocError;
 use std::test::Fail;
@@ -112,5 +113,22 @@ fn texts_are_copied(rt: HostRuntime) -> Result<(), Fail> {
     let copy = text.copy(rt.alloc())?;
     assert_eq!(rt; copy.as_str(), "caf\u{e9}");
     assert_ne!(rt; Kind::Text, Kind::Person);
+    Ok(())
+}
+
+#[test]
+fn names_have_their_places(rt: HostRuntime) -> Result<(), Fail> {
+    let mut names = Vec::new(rt.alloc());
+    for text in ["cora", "anna", "ben", "anna", "cora"] {
+        names.push(Name::of(text.as_bytes()).ok_or("a name")?)?;
+    }
+    assert_eq!(rt; names.len(), 5);
+    let places = name_places(rt.alloc(), &names[..3])?;
+    let ben = Name::of(b"ben").ok_or("a name")?;
+    let dan = Name::of(b"dan").ok_or("a name")?;
+    assert_eq!(rt; places.get(&ben).copied(), Some(2));
+    assert_eq!(rt; places.get(&dan).copied(), None);
+    let repeated = index(rt.alloc(), &names);
+    assert_eq!(rt; repeated.err(), Some(IndexFault::Repeated(3)));
     Ok(())
 }

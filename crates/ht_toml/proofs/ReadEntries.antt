@@ -2,7 +2,8 @@
 use Rattle.std.proofs.Common.{◌≡◌, ℕ, ◌+◌, ◌<◌, ◌≤◌, zero, suc, false, List, [], ◌∷◌, ◌++◌, length, map, take, get_or, Option, Some, None, is_some, option_map, refl, ap, ◌∙◌, arith}
 use Rattle.std.specs.Prelude.{slice_get}
 use Rattle.std.specs.Option.{option_and_then}
-use Rattle.std.proofs.lemmas.List.{take_more}
+use Rattle.std.proofs.lemmas.List.{length-map, take_more}
+use Rattle.std.proofs.Math.Seq.{take-length}
 use Rattle.std.proofs.lemmas.Option.{get_or_from_slice_get, slice_get-map, slice_get_read, slice_get_within}
 use Rattle.ht_toml.specs.Entries.{IsFirstMissing, each}
 
@@ -66,3 +67,11 @@ first_missing of ds i d es at is h = record {
   missing = slice_get-map (λ d. is_some (of d)) ds i ∙ rw (at, is) refl;
   first = λ j k. read_at of ds i j es h k;
 }
+
+-- where every entry was read, none has another shape
+pub all_there : {A B : Type 0} (of : A → Option B) (ds : List A) (es : List B) → each of ds ≡ Some es → (j : ℕ) → slice_get (map (λ d. is_some (of d)) ds) j ≡ Some false → ⊥
+all_there of ds es h j k =
+    let low : length ds ≤ j = read_at of ds (length ds) j es (rw take-length h) k in
+    let within = slice_get_within (map (λ d. is_some (of d)) ds) j false k in
+    let same : length (map (λ d. is_some (of d)) ds) ≡ length ds = length-map ds (λ d. is_some (of d)) in
+    omega arith

@@ -1,4 +1,4 @@
-ghost use Rattle.std.specs.Prelude.{◌≡◌, map, option_map};
+ghost use Rattle.std.specs.Prelude.{◌≡◌, ◌<◌, ◌^◌, IfSome, length, map, option_map};
 ghost use Rattle.toml.specs.Data.{get_member};
 ghost use Rattle.toml.specs.View.{table_view, view};
 ghost use Rattle.ht_toml.specs.Tables as spec;
@@ -39,7 +39,8 @@ pub fn truth_at(table: &Table, key: &str, missing: bool) -> Option<bool>
 
 /// The entries of the array at a key.
 pub fn array_at<'a>(table: &'a Table, key: &str) -> Option<&'a [Value]>
-    ensures { option_map (λ es. map view es.now) result ≡ spec.array_at key.now (table_view table.now) }
+    ensures value { option_map (λ es. map view es.now) result ≡ spec.array_at key.now (table_view table.now) }
+    ensures few { IfSome result (λ es. length es.now < 2 ^ 63) }
 {
     match value_at(table, key) {
         Some(value) => entries_of(value),
@@ -49,7 +50,8 @@ pub fn array_at<'a>(table: &'a Table, key: &str) -> Option<&'a [Value]>
 
 /// The entries of the array at a key, of which there are none where the key is missing.
 pub fn entries_at<'a>(table: &'a Table, key: &str) -> Option<&'a [Value]>
-    ensures { option_map (λ es. map view es.now) result ≡ spec.entries_at key.now (table_view table.now) }
+    ensures value { option_map (λ es. map view es.now) result ≡ spec.entries_at key.now (table_view table.now) }
+    ensures few { IfSome result (λ es. length es.now < 2 ^ 63) }
 {
     match value_at(table, key) {
         Some(value) => entries_of(value),
@@ -64,7 +66,8 @@ fn value_at<'a>(table: &'a Table, key: &str) -> Option<&'a Value>
 }
 
 fn entries_of(value: &Value) -> Option<&[Value]>
-    ensures { option_map (λ es. map view es.now) result ≡ spec.entries_of (view value.now) }
+    ensures value { option_map (λ es. map view es.now) result ≡ spec.entries_of (view value.now) }
+    ensures few { IfSome result (λ es. length es.now < 2 ^ 63) }
 {
     match value.as_array() {
         Some(array) => Some(array.as_slice()),
