@@ -1,0 +1,12 @@
+pub mod Answering
+pub mod Computing
+pub mod Examples
+pub mod Firsts
+pub mod Grammar
+pub mod Parsed
+pub mod Runs
+pub mod Scanned
+pub mod Spelling
+pub mod TokenIn
+pub mod Uniqueness
+pub mod Walking

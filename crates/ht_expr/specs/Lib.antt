@@ -1,0 +1,9 @@
+pub mod Assignments
+pub mod Examples
+pub mod Expected
+pub mod Kinds
+pub mod Parsing
+pub mod Reading
+pub mod Scanning
+pub mod Shown
+pub mod Tokens

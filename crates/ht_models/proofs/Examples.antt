@@ -1,0 +1,116 @@
+-- Worked examples of whole texts. A wrong reading of one fails the check.
+use Rattle.std.proofs.Common.{◌≡◌, ◌≤◌, zero, suc, Err, lit<, arith, List, ℕ, [], ◌∷◌, Some, None, codes, refl}
+use Rattle.std.specs.Str.{IsUtf8}
+use lib.Utf8.{encode}
+use Rattle.toml.specs.Parse.{parse_document}
+use Rattle.toml.proofs.OnLiterals.{toml_on_literals}
+use Rattle.toml.specs.Data.{Members, array, item, member, no_items, no_members, string, table}
+use Rattle.ht_base.specs.Places.{IsLeast, IsRepeated}
+use Rattle.ht_expr.specs.Assignments.{user}
+use Rattle.ht_expr.proofs.Walking.{tree_row}
+use Rattle.ht_models.specs.declared.refusal.ModelsRefusal.TheVariants.{Field, Twice}
+use Rattle.ht_models.specs.Model.{ModelOf}
+use Rattle.ht_models.specs.ModelsText.{ModelText}
+use Rattle.ht_models.specs.Reading.{IsModel, IsRead, Reads}
+use Rattle.ht_models.specs.Refusals.{IsModelsText, names_of}
+use Rattle.ht_models.proofs.Firsts.{field_reads, twice_reads}
+use Rattle.ht_models.proofs.Shapes.{least_top}
+use Rattle.ht_models.proofs.Passing.{reads_one}
+
+-- a model from which its only potential owner is excluded
+abbrev shut_text : List ℕ
+shut_text = codes "[[model]]\nname = \"shut\"\npotentialOwners = \"user('anna')\"\nexcludedOwners = \"user('anna')\"\nadministrators = \"user('cora')\"\n"
+
+abbrev shut : ModelOf
+shut = record {
+  name = codes "shut";
+  potential_owners = user (codes "anna");
+  excluded_owners = user (codes "anna");
+  administrators = Some (user (codes "cora"));
+  stakeholders = None;
+  size = 1;
+}
+
+abbrev shut_document : Members
+shut_document =
+    member (codes "model")
+    (array (item (table
+    (member (codes "administrators") (string (codes "user('cora')"))
+    (member (codes "excludedOwners") (string (codes "user('anna')"))
+    (member (codes "name") (string (codes "shut"))
+    (member (codes "potentialOwners") (string (codes "user('anna')")) no_members))))) no_items))
+    no_members
+
+abbrev shut_entry : ModelText
+shut_entry = record {
+  name = codes "shut";
+  potential_owners = Some (codes "user('anna')");
+  excluded_owners = Some (codes "user('anna')");
+  administrators = Some (codes "user('cora')");
+  stakeholders = None;
+}
+
+shut_is_read : parse_document shut_text ≡ Some shut_document
+unfolding toml_on_literals
+shut_is_read = refl
+
+shut_is_text : IsUtf8 shut_text
+unfolding encode
+shut_is_text = (shut_text, (refl, refl))
+
+shut_shape : IsModelsText shut_text (shut_entry ∷ [])
+shut_shape = (shut_document, (shut_is_text, shut_is_read), refl)
+
+shut_model : IsModel shut_entry shut
+shut_model = record {
+  name = refl;
+  potential_owners = (tree_row (codes "user('anna')") [] (user (codes "anna")) refl refl refl).reads;
+  excluded_owners = (tree_row (codes "user('anna')") [] (user (codes "anna")) refl refl refl).reads;
+  administrators = (tree_row (codes "user('cora')") [] (user (codes "cora")) refl refl refl).reads;
+  stakeholders = refl;
+  size = refl;
+}
+
+shut_reads : IsRead shut_text (shut ∷ [])
+shut_reads = reads_one shut_text shut_entry shut shut_shape shut_model
+
+-- the empty document has no models
+nothing_is_text : IsUtf8 []
+nothing_is_text = ([], (refl, refl))
+
+nothing_is_read : parse_document [] ≡ Some no_members
+unfolding toml_on_literals
+nothing_is_read = refl
+
+nothing_is_refused : Reads [] (Err (Field 0))
+nothing_is_refused = field_reads [] no_members (Field 0) (nothing_is_text, nothing_is_read) (λ _. (0, refl, least_top no_members refl))
+
+-- the second of two models of one name is told
+abbrev two_text : List ℕ
+two_text = codes "model = [{name = 'a'}, {name = 'a'}]"
+
+abbrev plain : ModelText
+plain = record { name = codes "a"; potential_owners = None; excluded_owners = None; administrators = None; stakeholders = None }
+
+abbrev two_document : Members
+two_document =
+    let model = table (member (codes "name") (string (codes "a")) no_members) in
+    member (codes "model") (array (item model (item model no_items))) no_members
+
+two_is_read : parse_document two_text ≡ Some two_document
+unfolding toml_on_literals
+two_is_read = refl
+
+two_is_text : IsUtf8 two_text
+unfolding encode
+two_is_text = (two_text, (refl, refl))
+
+two_repeated : IsLeast (IsRepeated (names_of (plain ∷ plain ∷ []))) 1
+two_repeated = record { holds = (0, lit< tt, codes "a", refl, refl); least = least }
+  where
+    least : (place : ℕ) → IsRepeated (names_of (plain ∷ plain ∷ [])) place → 1 ≤ place
+    least zero (j, before, name, first, second) = omega arith
+    least (suc place) (j, before, name, first, second) = omega arith
+
+two_are_refused : Reads two_text (Err (Twice 1))
+two_are_refused = twice_reads two_text (plain ∷ plain ∷ []) (Twice 1) (two_document, (two_is_text, two_is_read), refl) (λ _. (1, refl, two_repeated))

@@ -1,0 +1,12 @@
+pub mod Assigning
+pub mod BuiltIn
+pub mod Codes
+pub mod DocumentRefusals
+pub mod Examples
+pub mod Kept
+pub mod Model
+pub mod ModelsText
+pub mod Passes
+pub mod Reading
+pub mod Refusals
+pub mod Shown

@@ -1,0 +1,93 @@
+ghost use Rattle.std.specs.Prelude.{◌≡◌, ◌≢◌, IfErr, IfOk, Some, map, option_map};
+ghost use Rattle.ht_expr.specs.Shown.{shown};
+ghost use Rattle.ht_models.specs.Assigning.{HasRefused, IsRefused, no_parts};
+ghost use Rattle.ht_models.specs.Assigning.{Spells, SpellsIfAny, SpellsOrNobody};
+ghost use Rattle.ht_models.specs.Passes.{IsTheOne, TellsExpression};
+ghost use Rattle.ht_models.specs.Reading.{AreModels, IsModel};
+ghost use Rattle.ht_models.specs.Shown.{model_of};
+
+use crate::model_text::ModelText;
+use crate::{Model, ModelsRefusal};
+use ht_base::Txt;
+use ht_expr::{Assign, ExprRefusal, Kinds};
+use std::alloc::Global;
+
+/// The models of all entries, or the first that has an assignment which is refused.
+pub fn models_of(alloc: Global, entries: &[ModelText]) -> Result<Vec<Model>, ModelsRefusal>
+    ensures ok { IfOk result (λ models. IsTheOne (AreModels entries.now) (map model_of models.items)) }
+    ensures expression { IfErr result (TellsExpression entries.now) }
+{
+    let mut models = Vec::new(alloc);
+    for (place, entry) in entries.iter().enumerate() {
+        match model(alloc, entry) {
+            Ok(model) => models.push(model)?,
+            Err(refusal) => return Err(refused_at(place, refusal)),
+        }
+    }
+    Ok(models)
+}
+
+fn refused_at(place: usize, refusal: ExprRefusal) -> ModelsRefusal
+    ensures memory { refusal ≡ ExprRefusal.Memory → result ≡ ModelsRefusal.Memory }
+    ensures expression { refusal ≢ ExprRefusal.Memory → result ≡ ModelsRefusal.Expression place }
+{
+    match refusal {
+        ExprRefusal::Memory => ModelsRefusal::Memory,
+        _ => ModelsRefusal::Expression(place),
+    }
+}
+
+fn model(alloc: Global, entry: &ModelText) -> Result<Model, ExprRefusal>
+    ensures ok { IfOk result (λ model. IsTheOne (IsModel entry.now) (model_of model)) }
+    ensures refused { IfErr result (λ e. e ≢ ExprRefusal.Memory → HasRefused entry.now) }
+{
+    let kinds = Kinds::new(alloc);
+    Ok(Model {
+        name: entry.name,
+        potential_owners: assignment_or_nobody(alloc, &entry.potential_owners, &kinds)?,
+        excluded_owners: assignment_or_nobody(alloc, &entry.excluded_owners, &kinds)?,
+        administrators: assignment_if_any(alloc, &entry.administrators, &kinds)?,
+        stakeholders: assignment_if_any(alloc, &entry.stakeholders, &kinds)?,
+        size: 1,
+    })
+}
+
+/// The assignment of a key, which is nobody where the key is missing.
+fn assignment_or_nobody(
+    alloc: Global,
+    text: &Option<Txt>,
+    kinds: &Kinds,
+) -> Result<Assign, ExprRefusal>
+    requires { kinds.now ≡ no_parts }
+    ensures ok { IfOk result (λ a. IsTheOne (SpellsOrNobody text.now) (shown a)) }
+    ensures refused { IfErr result (λ e. e ≢ ExprRefusal.Memory → IsRefused text.now) }
+{
+    match text {
+        Some(text) => assignment(alloc, text.as_str(), kinds),
+        None => Ok(Assign::Nobody),
+    }
+}
+
+/// The assignment of a key, if the key is there.
+fn assignment_if_any(
+    alloc: Global,
+    text: &Option<Txt>,
+    kinds: &Kinds,
+) -> Result<Option<Assign>, ExprRefusal>
+    requires { kinds.now ≡ no_parts }
+    ensures ok { IfOk result (λ a. IsTheOne (SpellsIfAny text.now) (option_map shown a)) }
+    ensures refused { IfErr result (λ e. e ≢ ExprRefusal.Memory → IsRefused text.now) }
+{
+    match text {
+        Some(text) => Ok(Some(assignment(alloc, text.as_str(), kinds)?)),
+        None => Ok(None),
+    }
+}
+
+fn assignment(alloc: Global, text: &str, kinds: &Kinds) -> Result<Assign, ExprRefusal>
+    requires { kinds.now ≡ no_parts }
+    ensures ok { IfOk result (λ a. IsTheOne (Spells text.now) (shown a)) }
+    ensures refused { IfErr result (λ e. e ≢ ExprRefusal.Memory → IsRefused (Some text.now)) }
+{
+    Assign::read(alloc, text, kinds)
+}

@@ -1,0 +1,41 @@
+ghost use Rattle.std.specs.Prelude.{◌≡◌, true, false, IfErr, IfNone, IfOk, IfSome, Some, map};
+ghost use Rattle.toml.specs.View.{table_view, view};
+ghost use Rattle.ht_models.specs.ModelsText as spec;
+ghost use Rattle.ht_models.specs.ModelsText.{is_top, models_text};
+ghost use Rattle.ht_models.specs.Passes.{TellsField};
+
+use crate::ModelsRefusal;
+use crate::model_text::ModelText;
+use ht_toml::{EntriesFault, array_at, each, has_only};
+use std::alloc::Global;
+use toml::{Table, Value};
+
+/// What a document says, or the first entry that has another shape.
+pub fn entries_of(alloc: Global, document: &Table) -> Result<Vec<ModelText>, ModelsRefusal>
+    ensures ok { IfOk result (λ entries. models_text (table_view document.now) ≡ Some entries.items) }
+    ensures field { IfErr result (TellsField (table_view document.now)) }
+{
+    let Some(values) = values_of(document) else {
+        return Err(ModelsRefusal::Field(0));
+    };
+    match each(alloc, values) {
+        Ok(entries) => Ok(entries),
+        Err(EntriesFault::Misshapen(place)) => Err(ModelsRefusal::Field(place)),
+        Err(EntriesFault::Memory) => Err(ModelsRefusal::Memory),
+    }
+}
+
+/// The entries of the document, whose one top key is an array of them.
+fn values_of(document: &Table) -> Option<&[Value]>
+    ensures some { let ms = table_view document.now in
+        IfSome result (λ values. (is_top ms ≡ true) × (map view values.now ≡ spec.entries ms)) }
+    ensures none { IfNone result (is_top (table_view document.now) ≡ false) }
+{
+    if !has_only(document, &["model"]) {
+        return None;
+    }
+    match array_at(document, "model") {
+        Some([]) | None => None,
+        Some(values) => Some(values),
+    }
+}

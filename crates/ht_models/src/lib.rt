@@ -1,0 +1,19 @@
+//! Task models as a TOML text: what the tasks of one kind have in common, read whole or refused at
+//! the first place at which the text is wrong.
+#![tactic(auto)]
+
+mod assigning;
+mod entries;
+mod index;
+mod laws;
+mod model;
+mod model_text;
+mod models;
+mod refusal;
+#[cfg(test)]
+mod tests;
+
+pub use laws::built_in_text_reads;
+pub use model::Model;
+pub use models::Models;
+pub use refusal::ModelsRefusal;

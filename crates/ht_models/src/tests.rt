@@ -1,0 +1,292 @@
+use crate::{Models, ModelsRefusal, built_in_text_reads};
+use ht_base::Name;
+use ht_expr::Assign;
+use std::alloc::{AllocError, Global};
+use std::process::Abort;
+use std::test::Fail;
+
+const SHUT: &[u8] = b"[[model]]
+name = \"shut\"
+potentialOwners = \"user('anna')\"
+excludedOwners = \"user('anna')\"
+administrators = \"user('cora')\"
+";
+
+fn name(text: &str) -> Result<Name, Fail> {
+    Ok(Name::of(text.as_bytes()).ok_or("a name")?)
+}
+
+fn is_user(assignment: &Assign, name: &str) -> bool {
+    match assignment {
+        Assign::User(text) => text.as_str() == name,
+        _ => false,
+    }
+}
+
+fn is_group(assignment: &Assign, name: &str) -> bool {
+    match assignment {
+        Assign::Group(text) => text.as_str() == name,
+        _ => false,
+    }
+}
+
+#[test]
+fn one_model_is_read(rt: HostRuntime) -> Result<(), Fail> {
+    let models = Models::read(rt.alloc(), SHUT)?;
+    assert_eq!(rt; models.count(), 1);
+    assert_eq!(rt; models.find(name("shut")?), Some(0));
+    assert_eq!(rt; models.find(name("shu")?), None);
+    let shut = models.model(0);
+    assert!(rt; shut.name == name("shut")?);
+    assert!(rt; is_user(&shut.potential_owners, "anna"));
+    assert!(rt; is_user(&shut.excluded_owners, "anna"));
+    assert!(rt;
+        shut.administrators
+            .as_ref()
+            .is_some_and(|a| is_user(a, "cora"))
+    );
+    assert!(rt; shut.stakeholders.is_none());
+    assert_eq!(rt; shut.size, 1);
+    Ok(())
+}
+
+#[test]
+fn the_built_in_text_is_read(rt: HostRuntime) -> Result<(), Fail> {
+    built_in_text_reads();
+    let text = b"[[model]]\nname = \"unit\"\npotentialOwners = \"everybody\"\n";
+    let models = Models::read(rt.alloc(), text)?;
+    assert_eq!(rt; models.count(), 1);
+    assert_eq!(rt; models.find(name("unit")?), Some(0));
+    assert!(rt; matches!(&models.model(0).potential_owners, Assign::Everybody));
+    Ok(())
+}
+
+#[test]
+fn missing_keys_are_nobody_or_none(rt: HostRuntime) -> Result<(), Fail> {
+    let text =
+        b"model = [{name = 'b'}, {stakeholders = \"group('clerks')\", administrators = 'nobody', name = 'a'}]";
+    let models = Models::read(rt.alloc(), text)?;
+    assert_eq!(rt; models.count(), 2);
+    assert_eq!(rt; models.find(name("a")?), Some(1));
+    assert_eq!(rt; models.find(name("b")?), Some(0));
+    let first = models.model(0);
+    assert!(rt; matches!(&first.potential_owners, Assign::Nobody));
+    assert!(rt; matches!(&first.excluded_owners, Assign::Nobody));
+    assert!(rt; first.administrators.is_none());
+    assert!(rt; first.stakeholders.is_none());
+    assert_eq!(rt; models.count(), 2);
+    let second = models.model(1);
+    assert!(rt; second.name == name("a")?);
+    assert!(rt; matches!(&second.administrators, Some(Assign::Nobody)));
+    assert!(rt;
+        second
+            .stakeholders
+            .as_ref()
+            .is_some_and(|a| is_group(a, "clerks"))
+    );
+    Ok(())
+}
+
+/// Each text is refused so.
+fn are_refused(rt: &impl Abort, alloc: Global, table: &[(&str, ModelsRefusal)]) {
+    for (text, refusal) in table {
+        let answer = Models::read(alloc, text.as_bytes()).err();
+        assert_eq!(rt; answer, Some(*refusal), "{text}");
+    }
+}
+
+#[test]
+fn what_is_no_document_is_refused(rt: HostRuntime) {
+    let table = [
+        ("model = ", ModelsRefusal::Syntax),
+        ("[[model]]\nname = 'a'\nname = 'b'\n", ModelsRefusal::Syntax),
+        ("[[model]]\nname = 'a'\n[[model]\n", ModelsRefusal::Syntax),
+    ];
+    are_refused(&rt, rt.alloc(), &table);
+    let no_text = Models::read(rt.alloc(), b"[[model]]\nname = 'a\xe9'\n");
+    assert_eq!(rt; no_text.err(), Some(ModelsRefusal::Syntax));
+}
+
+#[test]
+fn documents_of_another_shape_are_refused(rt: HostRuntime) {
+    let table = [
+        ("", ModelsRefusal::Field(0)),
+        ("model = []", ModelsRefusal::Field(0)),
+        ("model = 1", ModelsRefusal::Field(0)),
+        ("[model]\nname = 'a'\n", ModelsRefusal::Field(0)),
+        ("[[models]]\nname = 'a'\n", ModelsRefusal::Field(0)),
+        (
+            "model = [{name = 'a'}, 1]\nperson = []\n",
+            ModelsRefusal::Field(0),
+        ),
+    ];
+    are_refused(&rt, rt.alloc(), &table);
+}
+
+#[test]
+fn models_of_another_shape_are_refused(rt: HostRuntime) {
+    let table = [
+        ("model = [1, {name = 'a'}]", ModelsRefusal::Field(0)),
+        ("model = [{name = 'a'}, 1]", ModelsRefusal::Field(1)),
+        ("model = [{name = 'a'}, {}]", ModelsRefusal::Field(1)),
+        ("model = [{name = 1}]", ModelsRefusal::Field(0)),
+        (
+            "model = [{name = 'a'}, {name = 'a b'}]",
+            ModelsRefusal::Field(1),
+        ),
+        ("model = [{name = ''}]", ModelsRefusal::Field(0)),
+        (
+            "model = [{name = 'a', potentialOwners = true}]",
+            ModelsRefusal::Field(0),
+        ),
+        (
+            "model = [{name = 'a'}, {name = 'b', excludedOwners = ['nobody']}]",
+            ModelsRefusal::Field(1),
+        ),
+        (
+            "model = [{name = 'a', administrators = {}}]",
+            ModelsRefusal::Field(0),
+        ),
+        (
+            "model = [{name = 'a'}, {name = 'b', stakeholders = 1}]",
+            ModelsRefusal::Field(1),
+        ),
+        (
+            "model = [{name = 'a'}, {name = 'b', Name = 'b'}]",
+            ModelsRefusal::Field(1),
+        ),
+    ];
+    are_refused(&rt, rt.alloc(), &table);
+}
+
+#[test]
+fn keys_that_are_not_read_yet_are_refused(rt: HostRuntime) -> Result<(), Fail> {
+    let keys = [
+        "priority",
+        "skipable",
+        "ownerRequired",
+        "delegation",
+        "delegatees",
+        "composition",
+        "instantiation",
+        "completion",
+        "input",
+        "output",
+        "sub",
+        "deadline",
+        "finish",
+    ];
+    for key in keys {
+        let text = format!(in rt.alloc(); "model = [{{name = 'a'}}, {{name = 'b', {key} = '5'}}]")?;
+        are_refused(&rt, rt.alloc(), &[(text.as_str(), ModelsRefusal::Field(1))]);
+    }
+    Ok(())
+}
+
+#[test]
+fn repeated_names_are_refused(rt: HostRuntime) {
+    let table = [
+        (
+            "model = [{name = 'a'}, {name = 'a'}]",
+            ModelsRefusal::Twice(1),
+        ),
+        (
+            "model = [{name = 'a'}, {name = 'b'}, {name = 'b'}, {name = 'a'}]",
+            ModelsRefusal::Twice(2),
+        ),
+    ];
+    are_refused(&rt, rt.alloc(), &table);
+}
+
+#[test]
+fn texts_that_are_no_assignments_are_refused(rt: HostRuntime) {
+    let table = [
+        (
+            "model = [{name = 'a', potentialOwners = ''}]",
+            ModelsRefusal::Expression(0),
+        ),
+        (
+            "model = [{name = 'a'}, {name = 'b', excludedOwners = 'anna'}]",
+            ModelsRefusal::Expression(1),
+        ),
+        (
+            "model = [{name = 'a', administrators = 'user(cora)'}]",
+            ModelsRefusal::Expression(0),
+        ),
+        (
+            "model = [{name = 'a'}, {name = 'b', stakeholders = 'in.boss'}]",
+            ModelsRefusal::Expression(1),
+        ),
+    ];
+    are_refused(&rt, rt.alloc(), &table);
+}
+
+#[test]
+fn the_first_refusal_is_told(rt: HostRuntime) {
+    let table = [
+        (
+            "model = [{name = 'a'}, {name = 'a'}, {name = 'b', sub = 1}]",
+            ModelsRefusal::Field(2),
+        ),
+        (
+            "model = [{name = 'a', stakeholders = '?'}, {name = 'a'}]",
+            ModelsRefusal::Twice(1),
+        ),
+        (
+            "model = [{name = 'a'}, {name = 'b', stakeholders = '?'}, {name = 'c', potentialOwners = '?'}]",
+            ModelsRefusal::Expression(1),
+        ),
+        (
+            "model = [{name = 'a', stakeholders = '?'}, {name = 'b', priority = 1}, {}]",
+            ModelsRefusal::Field(1),
+        ),
+    ];
+    are_refused(&rt, rt.alloc(), &table);
+}
+
+/// As many models, and behind them some text.
+fn many(alloc: Global, count: u32, behind: &str) -> Result<String, AllocError> {
+    let mut text = String::new(alloc);
+    for number in 0..count {
+        write!(text, "[[model]]\nname = \"m{number}\"\n")?;
+    }
+    text.push_str(behind)?;
+    Ok(text)
+}
+
+#[test]
+fn there_are_at_most_256_models(rt: HostRuntime) -> Result<(), Fail> {
+    let text = many(rt.alloc(), 256, "")?;
+    let models = Models::read(rt.alloc(), text.as_bytes())?;
+    assert_eq!(rt; models.count(), 256);
+    assert_eq!(rt; models.find(name("m255")?), Some(255));
+    assert_eq!(rt; models.find(name("m256")?), None);
+    let table = [
+        ("[[model]]\nname = \"n\"\n", ModelsRefusal::Limit(0)),
+        (
+            "[[model]]\nname = \"n\"\n[[model]]\nname = \"o\"\n",
+            ModelsRefusal::Limit(0),
+        ),
+        ("[[model]]\nname = \"m0\"\n", ModelsRefusal::Twice(256)),
+        (
+            "[[model]]\nname = \"n\"\nadministrators = \"?\"\n",
+            ModelsRefusal::Expression(256),
+        ),
+        ("[[model]]\n", ModelsRefusal::Field(256)),
+    ];
+    for (behind, refusal) in table {
+        let text = many(rt.alloc(), 256, behind)?;
+        are_refused(&rt, rt.alloc(), &[(text.as_str(), refusal)]);
+    }
+    Ok(())
+}
+
+#[test]
+fn refusals_are_told(rt: HostRuntime) -> Result<(), Fail> {
+    let text = format!(in rt.alloc(); "{}; {}", ModelsRefusal::Twice(3), ModelsRefusal::Memory)?;
+    assert_eq!(rt;
+        text.as_str(),
+        "model 3: a name that stands twice; out of memory"
+    );
+    Ok(())
+}

@@ -1,0 +1,17 @@
+pub mod AtGroups
+pub mod BuiltIn
+pub mod Closed
+pub mod Filtering
+pub mod Least
+pub mod LongChains
+pub mod Mapped
+pub mod Meeting
+pub mod Membership
+pub mod Merging
+pub mod Names
+pub mod OneAnswer
+pub mod Reaching
+pub mod Refusing
+pub mod Twice
+pub mod TwoLists
+pub mod Unknown

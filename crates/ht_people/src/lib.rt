@@ -1,0 +1,22 @@
+//! The directory: persons, groups and who is in them, read from a TOML text, and sets of persons
+//! (people assignment, WS-HumanTask 1.1, 3.2).
+#![tactic(auto)]
+
+mod built_in;
+mod chains;
+mod directory;
+mod entries;
+mod groups;
+mod places;
+mod reading;
+mod refusal;
+mod sets;
+#[cfg(test)]
+mod tests;
+mod walking;
+
+pub use built_in::built_in_people_are_read;
+pub use directory::Directory;
+pub use entries::{MemberName, PersonEntry};
+pub use refusal::PeopleRefusal;
+pub use sets::{except, intersect, union};

@@ -1,0 +1,373 @@
+use crate::{Directory, PeopleRefusal, built_in_people_are_read, except, intersect, union};
+use ht_base::{Name, Person, Persons};
+use std::alloc::{AllocError, Global};
+use std::test::Fail;
+
+const SAMPLE: &[u8] =
+    b"[[person]]\nname = \"anna\"\n[[person]]\nname = \"ben\"\n[[person]]\nname = \"cora\"\n[[person]]\nname = \"dan\"\n[[person]]\nname = \"root\"\noperator = true\n[[group]]\nname = \"clerks\"\nmembers = [\"anna\", \"ben\"]\n";
+
+const ITS_OWN_MEMBER: &[u8] =
+    b"[[person]]\nname = \"anna\"\n[[person]]\nname = \"ben\"\n[[person]]\nname = \"cora\"\n[[person]]\nname = \"dan\"\n[[person]]\nname = \"root\"\noperator = true\n[[group]]\nname = \"clerks\"\nmembers = [\"anna\", \"@clerks\"]\n";
+
+const SETS: &[u8] =
+    b"person = [{name = \"p0\"}, {name = \"p1\"}, {name = \"p2\"}, {name = \"p3\"}, {name = \"p4\"}]\n[[group]]\nname = \"none\"\nmembers = []\n[[group]]\nname = \"odd\"\nmembers = [\"p3\", \"p1\"]\n[[group]]\nname = \"even\"\nmembers = [\"p0\", \"p2\", \"p4\"]\n[[group]]\nname = \"all\"\nmembers = [\"@even\", \"@odd\"]\n[[group]]\nname = \"low\"\nmembers = [\"p1\", \"p2\", \"p3\"]\n[[group]]\nname = \"high\"\nmembers = [\"p2\", \"p3\", \"p4\"]\n[[group]]\nname = \"most\"\nmembers = [\"p4\", \"p3\", \"p2\", \"p1\"]\n[[group]]\nname = \"middle\"\nmembers = [\"p2\", \"p3\"]\n[[group]]\nname = \"first\"\nmembers = [\"p1\"]\n";
+
+const REFUSED: [(&[u8], PeopleRefusal); 42] = [
+    (b"person\n", PeopleRefusal::Syntax),
+    (b"[[person]]\nname = \"caf\xe9\"\n", PeopleRefusal::Syntax),
+    (b"person = []\nperson = []\n", PeopleRefusal::Syntax),
+    // ---- another shape
+    (b"title = \"x\"\n", PeopleRefusal::Field(0)),
+    (
+        b"person = [{name = \"a\"}]\ntitle = 1\n",
+        PeopleRefusal::Field(0),
+    ),
+    (b"person = \"anna\"\n", PeopleRefusal::Field(0)),
+    (
+        b"[group]\nname = \"g\"\nmembers = []\n",
+        PeopleRefusal::Field(0),
+    ),
+    (b"person = [1]\n", PeopleRefusal::Field(0)),
+    (
+        b"person = [{name = \"a\"}, {age = 1, name = \"b\"}]\n",
+        PeopleRefusal::Field(1),
+    ),
+    (
+        b"person = [{name = \"a\"}, {name = \"b\"}, {operator = true}]\n",
+        PeopleRefusal::Field(2),
+    ),
+    (b"person = [{name = 1}]\n", PeopleRefusal::Field(0)),
+    (b"person = [{name = \"a b\"}]\n", PeopleRefusal::Field(0)),
+    (
+        b"person = [{name = \"a\"}, {name = \"b\", operator = 1}]\n",
+        PeopleRefusal::Field(1),
+    ),
+    (
+        b"person = [{name = \"a\"}]\ngroup = [{name = \"g\"}]\n",
+        PeopleRefusal::Field(1),
+    ),
+    (
+        b"group = [{name = \"g\", members = []}, {members = []}]\n",
+        PeopleRefusal::Field(1),
+    ),
+    (
+        b"group = [{name = \"g\", members = \"a\"}]\n",
+        PeopleRefusal::Field(0),
+    ),
+    (
+        b"person = [{name = \"a\"}]\ngroup = [{name = \"g\", members = [\"a\", 1]}]\n",
+        PeopleRefusal::Field(1),
+    ),
+    (
+        b"group = [{name = \"g\", members = [\"@\"]}]\n",
+        PeopleRefusal::Field(0),
+    ),
+    (
+        b"group = [{name = \"g\", members = [\"\"]}]\n",
+        PeopleRefusal::Field(0),
+    ),
+    (
+        b"group = [{name = \"g\", members = [], operator = true}]\n",
+        PeopleRefusal::Field(0),
+    ),
+    // ---- twice
+    (
+        b"person = [{name = \"a\"}, {name = \"a\"}]\n",
+        PeopleRefusal::Twice(1),
+    ),
+    (
+        b"person = [{name = \"a\"}, {name = \"b\"}, {name = \"b\"}, {name = \"a\"}]\n",
+        PeopleRefusal::Twice(2),
+    ),
+    (
+        b"person = [{name = \"a\"}]\ngroup = [{name = \"g\", members = []}, {name = \"g\", members = []}]\n",
+        PeopleRefusal::Twice(2),
+    ),
+    (
+        b"person = [{name = \"a\"}]\ngroup = [{name = \"g\", members = [\"a\", \"a\"]}]\n",
+        PeopleRefusal::Twice(1),
+    ),
+    (
+        b"person = [{name = \"a\"}]\ngroup = [{name = \"g\", members = [\"a\"]}, {name = \"h\", members = [\"@g\", \"a\", \"@g\"]}, {name = \"g\", members = []}]\n",
+        PeopleRefusal::Twice(2),
+    ),
+    (
+        b"group = [{name = \"g\", members = []}, {name = \"g\", members = []}, {name = \"h\", members = [\"@g\", \"@g\"]}]\n",
+        PeopleRefusal::Twice(1),
+    ),
+    (
+        b"person = [{name = \"a\"}, {name = \"a\"}]\ngroup = [{name = \"g\", members = [\"a\", \"a\"]}]\n",
+        PeopleRefusal::Twice(1),
+    ),
+    // ---- an unknown member
+    (
+        b"person = [{name = \"a\"}]\ngroup = [{name = \"g\", members = [\"b\"]}]\n",
+        PeopleRefusal::UnknownMember(1),
+    ),
+    (
+        b"person = [{name = \"a\"}]\ngroup = [{name = \"g\", members = [\"a\"]}, {name = \"h\", members = [\"@a\"]}]\n",
+        PeopleRefusal::UnknownMember(2),
+    ),
+    (
+        b"group = [{name = \"g\", members = []}, {name = \"h\", members = [\"g\"]}]\n",
+        PeopleRefusal::UnknownMember(1),
+    ),
+    // ---- a cycle
+    (ITS_OWN_MEMBER, PeopleRefusal::Cycle(5)),
+    (
+        b"group = [{name = \"g\", members = [\"@g\"]}]\n",
+        PeopleRefusal::Cycle(0),
+    ),
+    (
+        b"person = [{name = \"a\"}]\ngroup = [{name = \"g\", members = [\"@h\"]}, {name = \"h\", members = [\"a\", \"@g\"]}]\n",
+        PeopleRefusal::Cycle(1),
+    ),
+    (
+        b"group = [{name = \"f\", members = [\"@h\"]}, {name = \"g\", members = [\"@h\"]}, {name = \"h\", members = [\"@g\"]}]\n",
+        PeopleRefusal::Cycle(1),
+    ),
+    (
+        b"person = [{name = \"a\"}]\ngroup = [{name = \"f\", members = [\"a\"]}, {name = \"h\", members = [\"@i\"]}, {name = \"g\", members = [\"@f\", \"@g\"]}, {name = \"i\", members = [\"@g\"]}]\n",
+        PeopleRefusal::Cycle(3),
+    ),
+    // ---- the lowest number comes first, wherever it stands
+    (
+        b"person = [{name = \"a\"}, {name = \"a\"}, {age = 1}]\n",
+        PeopleRefusal::Field(2),
+    ),
+    (
+        b"person = [{name = \"a\"}, {age = 1}]\ntitle = 1\n",
+        PeopleRefusal::Field(0),
+    ),
+    (
+        b"group = [{name = \"g\", members = [\"a\"]}, {name = \"g\", members = []}]\n",
+        PeopleRefusal::Twice(1),
+    ),
+    (
+        b"group = [{name = \"g\", members = [\"@g\"]}, {name = \"h\", members = [\"a\"]}]\n",
+        PeopleRefusal::UnknownMember(1),
+    ),
+    (
+        b"group = [{name = \"g\", members = [\"@g\", \"@h\"]}, {name = \"h\", members = [\"@h\", \"a\"]}, {name = \"i\", members = [1]}]\n",
+        PeopleRefusal::Field(2),
+    ),
+    (
+        b"person = [{name = \"a\"}]\ngroup = [{name = \"g\", members = [\"a\", \"b\", \"a\"]}]\n",
+        PeopleRefusal::Twice(1),
+    ),
+    (
+        b"group = [{name = \"g\", members = [\"@g\"]}]\ntitle = [",
+        PeopleRefusal::Syntax,
+    ),
+];
+
+fn members_of(alloc: Global, directory: &Directory, group: &str) -> Result<Persons, Fail> {
+    let name = Name::of(group.as_bytes()).ok_or("a name")?;
+    Ok(directory.members(alloc, name)?)
+}
+
+#[test]
+fn the_sample_people_are_read(rt: HostRuntime) -> Result<(), Fail> {
+    let directory = Directory::read(rt.alloc(), SAMPLE)?;
+    assert_eq!(rt; directory.persons(), 5);
+    assert_eq!(rt; directory.groups(), 1);
+    let table = [
+        ("anna", 0, false),
+        ("ben", 1, false),
+        ("cora", 2, false),
+        ("dan", 3, false),
+        ("root", 4, true),
+    ];
+    for (text, place, operator) in table {
+        let name = Name::of(text.as_bytes()).ok_or("a name")?;
+        match directory.find(name) {
+            Some(person) => {
+                assert_eq!(rt; person, Person(place), "{text}");
+                assert_eq!(rt; directory.name(person), name);
+                assert_eq!(rt; directory.operator(person), operator, "{text}");
+            }
+            None => return Err(Fail::new(text)),
+        }
+    }
+    let stranger = Name::of(b"clerks").ok_or("a name")?;
+    assert_eq!(rt; directory.find(stranger), None);
+    let clerks = members_of(rt.alloc(), &directory, "clerks")?;
+    assert_eq!(rt; clerks.as_slice(), [Person(0), Person(1)].as_slice());
+    let nobody = members_of(rt.alloc(), &directory, "anna")?;
+    assert_eq!(rt; nobody.as_slice().len(), 0);
+    Ok(())
+}
+
+#[test]
+fn the_built_in_people_are_read(rt: HostRuntime) -> Result<(), Fail> {
+    built_in_people_are_read();
+    let mut text = String::new(rt.alloc());
+    for n in 0..16u32 {
+        write!(text, "[[person]]\nname = \"p{n}\"\n")?;
+    }
+    assert_eq!(rt; text.len(), 374);
+    let directory = Directory::read(rt.alloc(), text.as_bytes())?;
+    assert_eq!(rt; directory.persons(), 16);
+    assert_eq!(rt; directory.groups(), 0);
+    for n in 0..16u32 {
+        let text = format!(in rt.alloc(); "p{n}")?;
+        let name = Name::of(text.as_bytes()).ok_or("a name")?;
+        match directory.find(name) {
+            Some(person) => {
+                assert_eq!(rt; person, Person(n));
+                assert!(rt; !directory.operator(person));
+            }
+            None => return Err(Fail::new(n)),
+        }
+    }
+    Ok(())
+}
+
+#[test]
+fn a_text_without_entries_is_read(rt: HostRuntime) -> Result<(), Fail> {
+    for text in [b"".as_slice(), b"person = []\n", b"# nobody\ngroup = []\n"] {
+        let directory = Directory::read(rt.alloc(), text)?;
+        assert_eq!(rt; directory.persons(), 0);
+        assert_eq!(rt; directory.groups(), 0);
+    }
+    Ok(())
+}
+
+#[test]
+fn names_of_persons_and_groups_are_apart(rt: HostRuntime) -> Result<(), Fail> {
+    let text =
+        b"person = [{name = \"a\"}, {name = \"b\", operator = false}]\ngroup = [{name = \"a\", members = [\"b\", \"@c\"]}, {name = \"c\", members = [\"a\"]}, {name = \"b\", members = [\"a\", \"@a\"]}]\n";
+    let directory = Directory::read(rt.alloc(), text)?;
+    let table = [("a", 2), ("b", 2), ("c", 1), ("d", 0)];
+    for (group, count) in table {
+        let members = members_of(rt.alloc(), &directory, group)?;
+        assert_eq!(rt; members.as_slice().len(), count, "{group}");
+    }
+    let first = members_of(rt.alloc(), &directory, "c")?;
+    assert_eq!(rt; first.as_slice(), [Person(0)].as_slice());
+    Ok(())
+}
+
+#[test]
+fn texts_are_refused_at_the_least_place(rt: HostRuntime) -> Result<(), Fail> {
+    for (text, refusal) in REFUSED {
+        assert_eq!(rt;
+            Directory::read(rt.alloc(), text).err(),
+            Some(refusal),
+            "{text:?}"
+        );
+    }
+    Ok(())
+}
+
+// As many persons and groups, and no memberships.
+fn many(alloc: Global, persons: u32, groups: u32) -> Result<String, AllocError> {
+    let mut text = String::new(alloc);
+    for n in 0..persons {
+        write!(text, "[[person]]\nname = \"p{n}\"\n")?;
+    }
+    for n in 0..groups {
+        write!(text, "[[group]]\nname = \"g{n}\"\nmembers = []\n")?;
+    }
+    Ok(text)
+}
+
+// One person, and a chain of as many memberships from the first group to the person.
+fn nested(alloc: Global, memberships: u32) -> Result<String, AllocError> {
+    let mut text = String::from_str(alloc, "[[person]]\nname = \"p\"\n")?;
+    for n in 1..memberships {
+        write!(text, "[[group]]\nname = \"g{n}\"\nmembers = [\"@g")?;
+        let next = u64::from(n) + 1;
+        write!(text, "{next}\"]\n")?;
+    }
+    write!(
+        text,
+        "[[group]]\nname = \"g{memberships}\"\nmembers = [\"p\"]\n"
+    )?;
+    Ok(text)
+}
+
+#[test]
+fn limits_are_kept(rt: HostRuntime) -> Result<(), Fail> {
+    let sizes = [
+        (1024, 256, None),
+        (1025, 0, Some(PeopleRefusal::Limit)),
+        (1024, 257, Some(PeopleRefusal::Limit)),
+    ];
+    for (persons, groups, refusal) in sizes {
+        let text = many(rt.alloc(), persons, groups)?;
+        let read = Directory::read(rt.alloc(), text.as_bytes());
+        assert_eq!(rt; read.err(), refusal, "{persons} {groups}");
+    }
+    let chains = [(1, None), (8, None), (9, Some(PeopleRefusal::Limit))];
+    for (memberships, refusal) in chains {
+        let text = nested(rt.alloc(), memberships)?;
+        let read = Directory::read(rt.alloc(), text.as_bytes());
+        assert_eq!(rt; read.err(), refusal, "{memberships}");
+    }
+    let text = nested(rt.alloc(), 8)?;
+    let directory = Directory::read(rt.alloc(), text.as_bytes())?;
+    for group in ["g1", "g8"] {
+        let members = members_of(rt.alloc(), &directory, group)?;
+        assert_eq!(rt; members.as_slice(), [Person(0)].as_slice(), "{group}");
+    }
+    Ok(())
+}
+
+#[test]
+fn a_cycle_comes_before_a_limit(rt: HostRuntime) -> Result<(), Fail> {
+    let mut text = nested(rt.alloc(), 9)?;
+    text.push_str("[[group]]\nname = \"round\"\nmembers = [\"@round\"]\n")?;
+    let read = Directory::read(rt.alloc(), text.as_bytes());
+    assert_eq!(rt; read.err(), Some(PeopleRefusal::Cycle(10)));
+    Ok(())
+}
+
+#[test]
+fn sets_are_made_of_two(rt: HostRuntime) -> Result<(), Fail> {
+    let directory = Directory::read(rt.alloc(), SETS)?;
+    let table = [
+        ["none", "none", "none", "none", "none"],
+        ["odd", "none", "odd", "none", "odd"],
+        ["none", "odd", "odd", "none", "none"],
+        ["odd", "even", "all", "none", "odd"],
+        ["low", "high", "most", "middle", "first"],
+        ["odd", "odd", "odd", "odd", "none"],
+    ];
+    for [first, second, either, both, first_alone] in table {
+        let a = members_of(rt.alloc(), &directory, first)?;
+        let b = members_of(rt.alloc(), &directory, second)?;
+        let expected = members_of(rt.alloc(), &directory, either)?;
+        assert_eq!(rt; union(rt.alloc(), &a, &b)?.as_slice(), expected.as_slice());
+        let expected = members_of(rt.alloc(), &directory, both)?;
+        assert_eq!(rt;
+            intersect(rt.alloc(), &a, &b)?.as_slice(),
+            expected.as_slice()
+        );
+        let expected = members_of(rt.alloc(), &directory, first_alone)?;
+        assert_eq!(rt; except(rt.alloc(), &a, &b)?.as_slice(), expected.as_slice());
+    }
+    let middle = members_of(rt.alloc(), &directory, "middle")?;
+    assert_eq!(rt; middle.as_slice(), [Person(2), Person(3)].as_slice());
+    Ok(())
+}
+
+#[test]
+fn refusals_are_told(rt: HostRuntime) -> Result<(), Fail> {
+    let table = [
+        (PeopleRefusal::Syntax, "not a TOML document"),
+        (PeopleRefusal::Field(7), "entry 7 has another shape"),
+        (PeopleRefusal::Twice(1), "entry 1 stands twice"),
+        (
+            PeopleRefusal::UnknownMember(12),
+            "entry 12 has an unknown member",
+        ),
+        (PeopleRefusal::Cycle(5), "group 5 is its own member"),
+        (PeopleRefusal::Memory, "out of memory"),
+    ];
+    for (refusal, line) in table {
+        let text = format!(in rt.alloc(); "{refusal}")?;
+        assert_eq!(rt; text.as_str(), line);
+    }
+    Ok(())
+}
