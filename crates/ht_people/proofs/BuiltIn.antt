@@ -1,22 +1,22 @@
 -- The text that is built in is read to its sixteen persons.
-use Rattle.std.proofs.Common.{◌≡◌, ◌∙◌, ◌+◌, ◌<◌, ◌≤◌, ℕ, false, List, [], ◌∷◌, ◌++◌, Option, Some, None, codes, ap, arith, inl, inr, length, map, option_map, true, refl, suc, sym, zero}
-use Rattle.std.specs.Prelude.{slice_get}
+use Rattle.std.proofs.Common.{ap, ◌≡◌, ◌<◌, ℕ, false, List, [], ◌∷◌, Some, codes, arith, inl, inr, map, true, refl, suc, zero, Bool, Result, Ok, Err}
 use Rattle.std.specs.Fmt.{digits}
 use Rattle.std.specs.List.{range_with_len}
 use Rattle.std.specs.Str.{IsUtf8}
-use Rattle.std.proofs.lemmas.Option.{slice_get-map, slice_get_within}
-use Rattle.std.proofs.lemmas.Str.{IsUtf8-from_is_utf8}
-use Rattle.toml.specs.Data.{Data, Members, no_members, member, Items, no_items, item, string, array, table}
+use Rattle.std.proofs.lemmas.Bool.{both_ways}
+use Rattle.toml.specs.Data.{Members, no_members, member, Items, no_items, item, string, array, table}
 use Rattle.toml.specs.Parse.{parse_document}
 use Rattle.toml.proofs.OnLiterals.{toml_on_literals}
 use Rattle.ht_base.specs.Persons.{has}
-use Rattle.ht_base.specs.Places.{IsRepeated, place_in}
-use Rattle.ht_people.specs.BuiltIn.{built_in_people, built_in_text, numbered_name}
-use Rattle.ht_people.specs.Chains.{HasLongChain, leads}
-use Rattle.ht_people.specs.Directory.{directory_of, members_at, person_names}
+use Rattle.ht_base.specs.Places.{place_in}
+use Rattle.ht_people.specs.BuiltIn.{IsBuiltIn, built_in_people, built_in_text, numbered_name}
+use Rattle.ht_people.specs.Chains.{leads}
+use Rattle.ht_people.specs.Directory.{DirectoryOf, directory_of, members_at, person_names}
 use Rattle.ht_people.specs.PeopleText.{PeopleTextOf, person_with, text_of}
-use Rattle.ht_people.specs.Reading.{IsRead}
-use Rattle.ht_people.specs.Refusals.{HasUnknown, IsPeopleText, IsTooMuch, IsTwice}
+use Rattle.ht_people.specs.Reading.{IsOnly, IsRead}
+use Rattle.ht_people.specs.declared.refusal.PeopleRefusal.{PeopleRefusal}
+use Rattle.ht_people.specs.declared.refusal.PeopleRefusal.TheVariants.{Syntax, Field, Twice, UnknownMember, Cycle, Limit, Memory}
+use Rattle.ht_people.specs.Refusals.{HasUnknown, IsTooMuch, IsTwice}
 use Rattle.ht_people.proofs.LongChains.{begins_at_group}
 use Rattle.ht_people.proofs.Names.{none_repeated}
 use Rattle.ht_people.proofs.Reaching.{some_of}
@@ -80,3 +80,27 @@ little (inr (inr long)) = no_chain long.0 long.2.0 long.2.1 long.1 long.2.2
 pub built_in_is_read : IsRead built_in_text built_in_people
 unfolding people built_in_people
 built_in_is_read = is_read built_in_text people (document, (is_text, parsed), says) distinct known (λ long. no_chain long.0 long.2.0 long.2.1 long.1 long.2.2) little
+
+-- ---- what is answered
+
+abbrev is_memory : Result DirectoryOf PeopleRefusal → Bool
+is_memory (Ok d) = false
+is_memory (Err Memory) = true
+is_memory (Err other) = false
+
+memory_is : (answer : Result DirectoryOf PeopleRefusal) → is_memory answer ≡ true → answer ≡ Err Memory
+memory_is (Ok d) e = cc
+memory_is (Err Syntax) e = cc
+memory_is (Err (Field p)) e = cc
+memory_is (Err (Twice p)) e = cc
+memory_is (Err (UnknownMember p)) e = cc
+memory_is (Err (Cycle p)) e = cc
+memory_is (Err Limit) e = cc
+memory_is (Err Memory) e = refl
+
+pub built_in_is_answered : (answer : Result DirectoryOf PeopleRefusal) → IsOnly built_in_text answer → IsBuiltIn answer
+built_in_is_answered answer only = at (is_memory answer) refl
+  where
+    at : (b : Bool) → is_memory answer ≡ b → IsBuiltIn answer
+    at true e = inl (memory_is answer e)
+    at false e = inr (only (Ok built_in_people) built_in_is_read (λ m. both_ways (is_memory answer) e (ap is_memory m)) (λ m. cc))

@@ -1,6 +1,7 @@
 pub mod AtGroups
 pub mod BuiltIn
 pub mod Closed
+pub mod Descending
 pub mod Filtering
 pub mod Least
 pub mod LongChains

@@ -3,7 +3,7 @@ use Rattle.std.proofs.Common.{◌≡◌, ◌≢◌, ◌∙◌, ℕ, ◌+◌, ◌
 use Rattle.std.proofs.Math.Bool.{or-false}
 use Rattle.std.proofs.lemmas.Bool.{cases_lt, eqb-true, ne_eqb, or_from}
 use Rattle.std.proofs.lemmas.List.Folds.{list_any-append}
-use Rattle.ht_base.specs.Persons.{AllBelow, AscendsFrom, has}
+use Rattle.ht_base.specs.Persons.{AllBelow, Ascends, AscendsFrom, has}
 use Rattle.ht_people.specs.declared.sets.Keep.{Keep}
 use Rattle.ht_people.specs.declared.sets.Keep.TheVariants.{Either, Both, FirstAlone}
 use Rattle.ht_people.specs.Sets.{begins_with, keeps, least_head, without_head}
@@ -77,9 +77,11 @@ module _ (n person : ℕ) where
 
 -- ---- what was merged so far
 
--- those who were merged and those who are left make up the set; the merged are below those left
+-- those who were merged and those who are left make up the set; the merged ascend, and are below
+-- those left
 pub record Merges (keep : Keep) (firsts seconds : List ℕ) (first second merged : List ℕ) : Type 0 where
   pub next : ℕ
+  pub ascends : Ascends merged
   pub below : AllBelow next merged
   pub first_ascends : AscendsFrom next first
   pub second_ascends : AscendsFrom next second
@@ -91,7 +93,7 @@ keeps_nobody Both = refl
 keeps_nobody FirstAlone = refl
 
 pub begun : (keep : Keep) (firsts seconds : List ℕ) → AscendsFrom 0 firsts → AscendsFrom 0 seconds → Merges keep firsts seconds firsts seconds []
-begun keep firsts seconds a b = record { next = 0; below = tt; first_ascends = a; second_ascends = b; same = λ p. refl }
+begun keep firsts seconds a b = record { next = 0; ascends = tt; below = tt; first_ascends = a; second_ascends = b; same = λ p. refl }
 
 -- a person who is put behind all others, if the test says so
 module _ (person : ℕ) (merged : List ℕ) (below : AllBelow person merged) where
@@ -111,7 +113,7 @@ module _ (keep : Keep) (firsts seconds first second merged : List ℕ) (m : Merg
   pub below_head : (person : ℕ) → least_head first second ≡ Some person → AllBelow person merged
   below_head person h = all_below m.next person merged m.below (lower_heads m.next person first second h m.first_ascends m.second_ascends).0
 
-  module _ (person : ℕ) (more : List ℕ) (h : least_head first second ≡ Some person) (is : more ≡ (if keeps keep (begins_with person first) (begins_with person second) then merged ++ person ∷ [] else merged)) where
+  module _ (person : ℕ) (more : List ℕ) (ascends : Ascends more) (h : least_head first second ≡ Some person) (is : more ≡ (if keeps keep (begins_with person first) (begins_with person second) then merged ++ person ∷ [] else merged)) where
     low : (m.next ≤ person) × AscendsFrom person first × AscendsFrom person second
     low = lower_heads m.next person first second h m.first_ascends m.second_ascends
 
@@ -136,6 +138,7 @@ module _ (keep : Keep) (firsts seconds first second merged : List ℕ) (m : Merg
     pub goes_on : Merges keep firsts seconds (without_head person first) (without_head person second) more
     goes_on = record {
       next = person + 1;
+      ascends = ascends;
       below = more_below person merged (below_head person h) (keeps keep (begins_with person first) (begins_with person second)) more is;
       first_ascends = behind_ascends person first low.1;
       second_ascends = behind_ascends person second low.2;

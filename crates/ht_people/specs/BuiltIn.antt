@@ -1,7 +1,9 @@
 -- The people text that is built in: sixteen persons, of whom none operates the server, and no group.
-use Rattle.std.specs.Prelude.{ℕ, false, List, [], ◌++◌, map, codes}
+use Rattle.std.specs.Prelude.{◌≡◌, ◌⊎◌, ℕ, false, List, [], ◌++◌, map, codes, Result, Ok, Err}
 use Rattle.std.specs.Fmt.{decimal}
 use Rattle.std.specs.List.{flat_map, range_with_len}
+use Rattle.ht_people.specs.declared.refusal.PeopleRefusal.{PeopleRefusal}
+use Rattle.ht_people.specs.declared.refusal.PeopleRefusal.TheVariants.{Memory}
 use Rattle.ht_people.specs.Directory.{DirectoryOf}
 use Rattle.ht_people.specs.PeopleText.{person_with}
 
@@ -18,3 +20,7 @@ built_in_text = flat_map person_lines (range_with_len 0 16)
 
 unfoldable pub built_in_people : DirectoryOf
 built_in_people = record { persons = map (λ n. person_with (numbered_name n) false) (range_with_len 0 16); groups = [] }
+
+-- these persons are read, or there is no memory
+abbrev pub IsBuiltIn : Result DirectoryOf PeopleRefusal → Type 0
+IsBuiltIn answer = (answer ≡ Err Memory) ⊎ (answer ≡ Ok built_in_people)

@@ -7,6 +7,7 @@ use Rattle.ht_people.specs.BuiltIn.{built_in_people, built_in_text}
 use Rattle.ht_people.specs.Directory.{DirectoryOf, GroupOf, directory_of, find, find_group}
 use Rattle.ht_people.specs.Chains.{leads}
 use Rattle.ht_people.specs.Membership.{members}
+use Rattle.ht_people.specs.Ranks.{falls, rises}
 use Rattle.ht_people.specs.PeopleText.{PeopleTextOf, group_of, is_top, member_of_text, person_of, person_with, text_of}
 
 -- ---- shapes
@@ -93,6 +94,26 @@ eight_lead = refl
 -- a group that is its own member
 itself : leads (record { persons = []; groups = link 0 ∷ [] }) 1 0 0 ≡ true
 itself = refl
+
+-- ---- ranks
+
+-- p0; group 1 with p0; groups 2 and 3, which have each other; and group 4 with 2
+abbrev in_a_ring : DirectoryOf
+in_a_ring = record { persons = person_with (codes "p0") false ∷ []; groups = link 0 ∷ link 3 ∷ link 2 ∷ link 2 ∷ [] }
+
+falls_into_it : falls in_a_ring (0 ∷ 1 ∷ 2 ∷ 2 ∷ 3 ∷ []) 4 ≡ true
+falls_into_it = refl
+
+-- an equal rank is no lower one, and no higher one
+no_fall : falls in_a_ring (0 ∷ 1 ∷ 2 ∷ 2 ∷ 3 ∷ []) 2 ≡ false
+no_fall = refl
+
+no_rise : rises in_a_ring (0 ∷ 1 ∷ 2 ∷ 2 ∷ 3 ∷ []) 2 ≡ false
+no_rise = refl
+
+-- where the ranks in a cycle differ, one membership rises
+a_rise : rises in_a_ring (0 ∷ 1 ∷ 2 ∷ 3 ∷ 4 ∷ []) 2 ≡ true
+a_rise = refl
 
 -- ---- the text that is built in
 

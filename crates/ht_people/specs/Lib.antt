@@ -7,6 +7,8 @@ pub mod Kept
 pub mod Least
 pub mod Membership
 pub mod PeopleText
+pub mod Ranking
+pub mod Ranks
 pub mod Reading
 pub mod Refusals
 pub mod Sets

@@ -1,4 +1,4 @@
-ghost use Rattle.std.specs.Prelude.{◌≡◌, ◌<◌, ◌^◌, ℕ, false, IfOk, IfErr, IfSome, IfNone, OnOk, length, map, slice_index_or};
+ghost use Rattle.std.specs.Prelude.{◌≡◌, ◌<◌, ◌^◌, ◌↔◌, ℕ, false, IsTrue, IfOk, IfErr, IfSome, IfNone, OnOk, length, map, slice_index_or};
 ghost use Rattle.std.specs.List.{list_any, range_with_len};
 ghost use Rattle.ht_base.specs.Places.{IsLeast};
 ghost use Rattle.ht_people.specs.Chains.{HasLongChain, IsClosed, chains_of, directory};
@@ -8,6 +8,8 @@ ghost use Rattle.ht_people.specs.Refusals.{IsChainFault, IsInCycle};
 use crate::PeopleRefusal;
 use crate::entries::PersonEntry;
 use crate::groups::Group;
+use crate::ranking::ranks;
+use crate::ranks::{falls, never_rises};
 use crate::walking::{is_marked, reached_from};
 use std::alloc::{AllocError, Global};
 
@@ -107,12 +109,32 @@ fn first_cycle(
     ensures found { IfOk result (λ place. IfSome place (IsLeast (IsInCycle (directory persons.now groups.now)))) }
     ensures none { IfOk result (λ place. IfNone place ((p : ℕ) → IsInCycle (directory persons.now groups.now) p → ⊥)) }
 {
+    let ranks = ranks(alloc, persons, groups)?;
+    // With ranks as they are meant none rises, and the first walk comes back. But they are only
+    // proposed: with others there are more walks, from each group in the end, and the same answer.
+    let descending = never_rises(persons, groups, &ranks);
     for i in 0..groups.len() {
         let place = persons.len() + i;
-        let reached = reached_from(alloc, persons, groups, place)?;
-        if is_marked(&reached, place) {
+        if descending && falls(persons, groups, &ranks, place) {
+            continue;
+        }
+        if is_in_cycle(alloc, persons, groups, place)? {
             return Ok(Some(place));
         }
     }
     Ok(None)
+}
+
+fn is_in_cycle(
+    alloc: Global,
+    persons: &[PersonEntry],
+    groups: &[Group],
+    place: usize,
+) -> Result<bool, AllocError>
+    requires closed { IsClosed (directory persons.now groups.now) }
+    requires few { (length persons.now < 2 ^ 63) × (length groups.now < 2 ^ 63) }
+    ensures { IfOk result (λ is. IsTrue is ↔ IsInCycle (directory persons.now groups.now) place) }
+{
+    let reached = reached_from(alloc, persons, groups, place)?;
+    Ok(is_marked(&reached, place))
 }

@@ -8,6 +8,8 @@ mod directory;
 mod entries;
 mod groups;
 mod places;
+mod ranking;
+mod ranks;
 mod reading;
 mod refusal;
 mod sets;

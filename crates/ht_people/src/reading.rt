@@ -14,7 +14,13 @@ const MOST_PERSONS: usize = 1024;
 const MOST_GROUPS: usize = 256;
 
 impl Directory {
-    /// The directory of a people text, or the first refusal that holds of it.
+    /// The directory of a people text (people assignment, WS-HumanTask 1.1, 3.2), or the first
+    /// refusal that holds of it.
+    ///
+    /// The text is TOML. It may have an array `person` of tables, each with a `name` and, where the
+    /// person operates the server, `operator = true`; and an array `group` of tables, each with a
+    /// `name` and `members`: names of persons, and names of groups behind an `@`. A person is
+    /// numbered by the place in the text, from 0.
     pub fn read(alloc: Global, text: &[u8]) -> Result<Directory, PeopleRefusal>
         ensures reads { Reads text.now result }
         ensures exact { IsOnly text.now result }

@@ -3,7 +3,7 @@ use std::alloc::{AllocError, AllocFailed};
 use thiserror::Error;
 
 /// Why a people text is refused: the first of these that holds anywhere, at its least place. A
-/// place counts persons first and then groups, each from 0.
+/// place counts the persons first, from 0, and then the groups.
 #[derive(Clone, Copy, Debug, PartialEq, Eq, Error)]
 pub enum PeopleRefusal {
     #[error("not a TOML document")]

@@ -1,5 +1,5 @@
 ghost use Rattle.std.specs.Prelude.{◌≡◌, ◌&&◌, ◌||◌, ℕ, not, IfOk};
-ghost use Rattle.ht_base.specs.Persons.{has};
+ghost use Rattle.ht_base.specs.Persons.{Ascends, has};
 ghost use Rattle.ht_people.specs.Sets.{begins_with, keeps, least_head, without_head};
 
 use ht_base::{Memory, Person, Persons};
@@ -7,21 +7,24 @@ use std::alloc::Global;
 
 /// The persons who are in either set.
 pub fn union(alloc: Global, a: &Persons, b: &Persons) -> Result<Persons, Memory>
-    ensures { IfOk result (λ set. (p : ℕ) → has p set ≡ (has p a.now || has p b.now)) }
+    ensures set { IfOk result (λ set. (p : ℕ) → has p set ≡ (has p a.now || has p b.now)) }
+    ensures ascends { IfOk result Ascends }
 {
     merge(alloc, a, b, Keep::Either)
 }
 
 /// The persons who are in both sets.
 pub fn intersect(alloc: Global, a: &Persons, b: &Persons) -> Result<Persons, Memory>
-    ensures { IfOk result (λ set. (p : ℕ) → has p set ≡ (has p a.now && has p b.now)) }
+    ensures set { IfOk result (λ set. (p : ℕ) → has p set ≡ (has p a.now && has p b.now)) }
+    ensures ascends { IfOk result Ascends }
 {
     merge(alloc, a, b, Keep::Both)
 }
 
 /// The persons who are in the first set and not in the second.
 pub fn except(alloc: Global, a: &Persons, b: &Persons) -> Result<Persons, Memory>
-    ensures { IfOk result (λ set. (p : ℕ) → has p set ≡ (has p a.now && not (has p b.now))) }
+    ensures set { IfOk result (λ set. (p : ℕ) → has p set ≡ (has p a.now && not (has p b.now))) }
+    ensures ascends { IfOk result Ascends }
 {
     merge(alloc, a, b, Keep::FirstAlone)
 }
@@ -48,7 +51,8 @@ impl Keep {
 
 // Goes through both sets at once, in ascending order.
 fn merge(alloc: Global, first: &Persons, second: &Persons, keep: Keep) -> Result<Persons, Memory>
-    ensures { IfOk result (λ set. (p : ℕ) → has p set ≡ keeps keep (has p first.now) (has p second.now)) }
+    ensures set { IfOk result (λ set. (p : ℕ) → has p set ≡ keeps keep (has p first.now) (has p second.now)) }
+    ensures ascends { IfOk result Ascends }
 {
     let mut merged = Persons::new(alloc);
     let mut first = first.as_slice();

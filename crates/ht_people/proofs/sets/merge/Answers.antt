@@ -1,4 +1,5 @@
-use Rattle.std.proofs.Common.{◌≡◌, ◌∙◌, ◌++◌, ◌∷◌, [], if◌then◌else◌, sym}
+use Rattle.std.proofs.Common.{◌≡◌, ◌∙◌, ◌++◌, ◌∷◌, [], if◌then◌else◌, subst, sym}
+use Rattle.ht_base.specs.Persons.{Ascends}
 use Rattle.ht_people.proofs.Merging.{below_head, goes_on}
 use Rattle.ht_people.specs.Sets.{begins_with, keeps}
 use Rattle.ht_people.proofs.sets.merge.Goals as goal
@@ -19,4 +20,9 @@ loop-person-preserved c =
       | then-keeps+in_ok-push w ↦ rw (← tested, w.if-keeps.true) (w.merged-is ∙ w.in_ok-push.ensures.ok)
       | else-keeps w ↦ rw (← tested, w.if-keeps.false) w.merged-is
     ] in
-    rw (c.behind-first.ensures, c.behind-second.ensures) (goes_on _ _ _ first second merged c.loop-person.invariant person c.if-keeps.merged (sym c.least_of.ensures ∙ c.in-Some.is) more)
+    let ascends : Ascends c.if-keeps.merged =
+    elim c.if-keeps.branch [
+      | then-keeps+in_ok-push w ↦ subst Ascends (sym w.merged-is) w.in_ok-push.ensures.ascends
+      | else-keeps w ↦ subst Ascends (sym w.merged-is) c.loop-person.invariant.ascends
+    ] in
+    rw (c.behind-first.ensures, c.behind-second.ensures) (goes_on _ _ _ first second merged c.loop-person.invariant person c.if-keeps.merged ascends (sym c.least_of.ensures ∙ c.in-Some.is) more)
