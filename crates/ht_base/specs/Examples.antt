@@ -3,6 +3,7 @@ use Rattle.std.specs.Prelude.{◌≡◌, refl, [], Some, None, codes, true, fals
 use Rattle.ht_base.specs.Name.{is_name, name_of}
 use Rattle.ht_base.specs.Persons.{has}
 use Rattle.ht_base.specs.Places.{place_in}
+use Rattle.ht_base.specs.Values.{is_before}
 
 a_letter : is_name (codes "a") ≡ true
 a_letter = refl
@@ -37,3 +38,10 @@ a_place = refl
 
 no_place : place_in (codes "ann") (codes "ben" ∷ codes "anna" ∷ []) ≡ None
 no_place = refl
+
+-- shorter names stand before those that go on with them
+before_the_longer : is_before (codes "p1") (codes "p10") ≡ true
+before_the_longer = refl
+
+not_before_itself : is_before (codes "p1") (codes "p1") ≡ false
+not_before_itself = refl

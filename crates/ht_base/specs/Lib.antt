@@ -7,3 +7,4 @@ pub mod Persons
 pub mod Places
 pub mod Role
 pub mod State
+pub mod Values

@@ -3,8 +3,8 @@ use crate::{Moment, Name, TaskId};
 /// What a command does.
 #[derive(Clone, Copy, Debug)]
 pub enum Command {
-    /// A new task of the first model, created by the caller.
-    Create,
+    /// A new task of a model, or else of the first, created by the caller.
+    Create { model: Option<Name> },
     /// The caller becomes the actual owner of a ready task.
     Claim,
 }

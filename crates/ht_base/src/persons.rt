@@ -60,6 +60,7 @@ impl Persons {
         requires { AllBelow person self.old }
         ensures ok { OnOk result (self.new ≡ self.old ++ person ∷ []) }
         ensures err { OnErr result (self.new ≡ self.old) }
+        ensures ascends { Ascends self.new }
     {
         self.items.push(person)?;
         Ok(())

@@ -1,10 +1,16 @@
-use crate::{Name, Sheet, State, StateSet, TaskId};
+use crate::{Name, Roles, Sheet, State, StateSet, TaskId};
 
 /// The limit that a command would pass.
 #[derive(Clone, Copy, Debug, PartialEq, Eq)]
 pub enum Limit {
     /// The number of tasks, 50,000.
     Tasks,
+}
+
+/// What a command names that isn't there.
+#[derive(Clone, Copy, Debug, PartialEq, Eq)]
+pub enum Unknown {
+    Model(Name),
 }
 
 /// Why an event is refused.
@@ -14,8 +20,11 @@ pub enum Refusal {
     Person,
     /// There is no such task.
     Task(TaskId),
+    /// The caller has none of the roles that the operation needs.
+    Role { needs: Roles },
     /// The operation is not allowed in the task's state, but in the allowed ones.
     State { allowed: StateSet, state: State },
+    Unknown(Unknown),
     Limit(Limit),
 }
 

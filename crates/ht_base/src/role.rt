@@ -1,4 +1,4 @@
-ghost use Rattle.std.specs.Prelude.{◌≡◌};
+ghost use Rattle.std.specs.Prelude.{◌≡◌, ◌≤◌, length};
 ghost use Rattle.ht_base.specs.Role.{role_name, contains_role, with_role};
 
 /// A generic human role (WS-HumanTask 1.1, 3.1), and the operator of the server.
@@ -13,9 +13,20 @@ pub enum Role {
 }
 
 impl Role {
+    /// Every role, in the order in which roles are listed.
+    pub const ALL: [Role; 6] = [
+        Role::Initiator,
+        Role::Stakeholder,
+        Role::PotentialOwner,
+        Role::ActualOwner,
+        Role::Administrator,
+        Role::Operator,
+    ];
+
     /// Its name in replies and routes.
     pub fn name(self) -> &'static str
-        ensures { result.now ≡ role_name self }
+        ensures value { result.now ≡ role_name self }
+        ensures short { length result.now ≤ 14 }
     {
         match self {
             Role::Initiator => "initiator",

@@ -1,6 +1,6 @@
 use crate::{
     Bytes, IndexFault, Kind, LAST, Moment, Name, Names, Person, Persons, Role, Roles, State,
-    StateSet, Txt, index, name_places,
+    StateSet, Txt, Value, Values, index, name_places,
 };
 use std::alloc::AllocError;
 use std::test::Fail;
@@ -63,6 +63,9 @@ fn sets_hold_what_was_put_in(rt: HostRuntime) {
     let roles = Roles::NONE.with(Role::PotentialOwner);
     assert!(rt; roles.contains(Role::PotentialOwner));
     assert!(rt; !roles.contains(Role::Operator));
+    for role in Role::ALL {
+        assert_eq!(rt; roles.contains(role), role == Role::PotentialOwner);
+    }
     assert_eq!(rt; Role::PotentialOwner.name(), "potentialOwner");
 }
 
@@ -114,6 +117,39 @@ fn texts_are_copied(rt: HostRuntime) -> Result<(), Fail> {
     assert_eq!(rt; copy.as_str(), "caf\u{e9}");
     assert_ne!(rt; Kind::Text, Kind::Person);
     Ok(())
+}
+
+#[test]
+fn values_grow_and_are_copied(rt: HostRuntime) -> Result<(), Fail> {
+    let name = Name::of(b"due").ok_or("a name")?;
+    let text = Txt::of(rt.alloc(), "soon")?;
+    let table = [
+        Value::Text(text),
+        Value::Int(-1),
+        Value::Truth(true),
+        Value::Person(Person(3)),
+        Value::Instant(Moment(1000)),
+    ];
+    for value in table {
+        let mut values = Values::new(rt.alloc());
+        values.push(name, value.copy(rt.alloc())?)?;
+        let copy = values.copy(rt.alloc())?;
+        let (key, copied) = copy.as_slice().first().ok_or("a value")?;
+        assert!(rt; *key == name);
+        assert!(rt; is_same(copied, &value));
+    }
+    Ok(())
+}
+
+fn is_same(one: &Value, other: &Value) -> bool {
+    match (one, other) {
+        (Value::Text(a), Value::Text(b)) => a.as_str() == b.as_str(),
+        (Value::Int(a), Value::Int(b)) => a == b,
+        (Value::Truth(a), Value::Truth(b)) => a == b,
+        (Value::Person(a), Value::Person(b)) => a == b,
+        (Value::Instant(a), Value::Instant(b)) => a == b,
+        _ => false,
+    }
 }
 
 #[test]

@@ -4,6 +4,7 @@
 #![tactic(auto)]
 
 mod assignment;
+mod environment;
 mod form;
 mod kinds;
 mod laws;
@@ -15,6 +16,7 @@ mod tests;
 mod token;
 
 pub use assignment::Assign;
+pub use environment::Env;
 pub use kinds::{Kinds, Side};
 pub use laws::{each_assignment_has_a_text, each_text_has_one_answer};
 pub use refusal::ExprRefusal;

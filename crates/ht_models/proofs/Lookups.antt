@@ -1,11 +1,11 @@
 -- Where a name stands among models of distinct names.
 use Rattle.std.proofs.Common.{◌≡◌, ℕ, ◌+◌, ◌<◌, zero, suc, Bool, true, false, if◌then◌else◌, List, [], ◌∷◌, length, map, Some, None, Option, option_map, bytes_eq, get_or, ap, sym, ◌∙◌, refl, arith}
-use Rattle.std.specs.Prelude.{slice_get}
+use Rattle.std.specs.Prelude.{All, slice_get}
 use Rattle.std.specs.BTreeMap.{get}
 use Rattle.std.specs.Cmp.Lexicographic.{slice_cmp}
 use Rattle.std.specs.Ordering.{nat_cmp}
 use Rattle.std.proofs.lemmas.List.{length-map}
-use Rattle.std.proofs.lemmas.Option.{slice_get-map, slice_get_read}
+use Rattle.std.proofs.lemmas.Option.{get_or_from_slice_get, slice_get-map, slice_get_read, slice_get_within}
 use Rattle.std.proofs.lemmas.Slice.Eq.{bytes_eq-Decides}
 use Rattle.ht_base.specs.Places.{IsRepeated, place_in}
 use Rattle.ht_models.specs.declared.model.Model.{Model}
@@ -75,3 +75,18 @@ found_there m models i one kept view within is =
     let there : slice_get (kept_names m) i ≡ Some one.name = slice_get-map (λ (m : Model). m.name) m.models.items i ∙ ap (option_map (λ (m : Model). m.name)) at in
     let own = own_place one.name (kept_names m) i kept.distinct there in
     rw (← view, names-map) own
+
+-- each model is a tree of one task
+size_there : (ms : List Model) → All (λ m. m.size ≡ 1) ms → (place : ℕ) (m : ModelOf) → slice_get (map model_of ms) place ≡ Some m → m.size ≡ 1
+size_there ms single place m at = here (slice_get ms place) refl (sym (slice_get-map model_of ms place) ∙ at)
+  where
+    here : (o : Option Model) → slice_get ms place ≡ o → option_map model_of o ≡ Some m → m.size ≡ 1
+    here None is at = cc
+    here (Some x) is at =
+        let one : (get_or ms place x).size ≡ 1 = single place x (slice_get_within ms place x is) in
+        let same : get_or ms place x ≡ x = get_or_from_slice_get ms place x x is in
+        let shown : model_of x ≡ m = cc in
+        sym (ap (λ (n : ModelOf). n.size) shown) ∙ sym (ap (λ (n : Model). n.size) same) ∙ one
+
+pub single_there : (m : Inside) (models : List ModelOf) → IsKept m → map model_of m.models.items ≡ models → (place : ℕ) (one : ModelOf) → slice_get models place ≡ Some one → one.size ≡ 1
+single_there m models kept view place one at = size_there m.models.items kept.single place one (ap (λ (l : List ModelOf). slice_get l place) view ∙ at)

@@ -1,6 +1,6 @@
-ghost use Rattle.std.specs.Prelude.{◌≡◌, ◌≤◌, ◌<◌, IfSome, Some, length, slice_get};
+ghost use Rattle.std.specs.Prelude.{◌≡◌, ◌≤◌, ◌<◌, ℕ, IfSome, Some, length, slice_get};
 ghost use Rattle.ht_base.specs.Places.{place_in};
-ghost use Rattle.ht_models.specs.Model.{names};
+ghost use Rattle.ht_models.specs.Model.{ModelOf, names};
 ghost use Rattle.ht_models.specs.Reading.{IsOnly, Reads};
 ghost use Rattle.ht_models.specs.Shown.{model_of};
 
@@ -89,6 +89,7 @@ impl Models {
         ensures value { result ≡ length self.now }
         ensures some { 1 ≤ result }
         ensures few { result ≤ 256 }
+        ensures sizes { (place : ℕ) (m : ModelOf) → slice_get self.now place ≡ Some m → m.size ≡ 1 }
     {
         self.models.len() as u32
     }

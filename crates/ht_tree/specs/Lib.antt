@@ -1,0 +1,11 @@
+pub mod Assigning
+pub mod Creating
+pub mod Examples
+pub mod Kept
+pub mod Plans
+pub mod Puts
+pub mod Roles
+pub mod Rows
+pub mod Sizes
+pub mod Soundness
+pub mod Tables

@@ -1,0 +1,25 @@
+-- What the putting of rows one after another takes.
+use Rattle.std.specs.Prelude.{◌≡◌, ℕ, ◌+◌, ◌<◌, ◌≤◌, List, [], ◌∷◌, Option, Some, None, slice_get}
+use Rattle.ht_models.specs.Model.{ModelOf}
+use Rattle.ht_tree.specs.declared.row.Row.{Row}
+use Rattle.ht_tree.specs.Plans.{IsNext}
+use Rattle.ht_tree.specs.Rows.{put_in}
+use Rattle.ht_tree.specs.Sizes.{size_of, top_size}
+
+-- each model's tree has at most as many tasks as a tree may have
+abbrev pub AreSmall : List ModelOf → Type 0
+AreSmall models = (place : ℕ) → size_of models place ≤ 256
+
+-- the tasks of all trees, where a row stands in the place of this one, or of none
+abbrev pub IsResized : List ModelOf → ℕ → Row → Option Row → ℕ → Type 0
+IsResized models total row None new = new ≡ total + top_size models row
+IsResized models total row (Some old) new = new + top_size models old ≡ total + top_size models row
+
+-- the model of each row is one of as many
+abbrev pub HaveModels : ℕ → List Row → Type 0
+HaveModels count rows = (i : ℕ) (row : Row) → slice_get rows i ≡ Some row → row.model < count
+
+-- each row is of a task that is there, or of the next
+abbrev pub CanPut : ℕ → List Row → List Row → Type 0
+CanPut count rows [] = Unit {0}
+CanPut count rows (row ∷ puts) = IsNext rows row × (row.model < count) × CanPut count (put_in rows row) puts

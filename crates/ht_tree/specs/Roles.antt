@@ -1,0 +1,21 @@
+-- The roles of a person in a task (WS-HumanTask 1.1, 3.1).
+use Rattle.std.specs.Prelude.{ℕ, ◌==◌, Bool, false, slice_get}
+use Rattle.std.specs.Option.{option_map_or}
+use Rattle.ht_base.specs.declared.role.Roles.{Roles}
+use Rattle.ht_base.specs.Persons.{has}
+use Rattle.ht_people.specs.Directory.{DirectoryOf}
+use Rattle.ht_tree.specs.declared.row.Row.{Row}
+
+-- the person operates the server
+abbrev pub is_operator : DirectoryOf → ℕ → Bool
+is_operator d person = option_map_or (λ p. p.operator) (slice_get d.persons person) false
+
+abbrev pub roles_in : DirectoryOf → Row → ℕ → Roles
+roles_in d row person = record {
+  initiator = row.initiator == person;
+  stakeholder = has person row.stakeholders;
+  potential_owner = has person row.potential_owners;
+  actual_owner = option_map_or (λ owner. owner == person) row.owner false;
+  administrator = has person row.administrators;
+  operator = is_operator d person;
+}

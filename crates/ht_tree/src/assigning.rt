@@ -1,0 +1,117 @@
+ghost use Rattle.std.specs.Prelude.{◌≡◌, ◌<◌, ℕ, [], ◌∷◌, IfOk, length};
+ghost use Rattle.ht_expr.specs.Assignments.{group, user};
+ghost use Rattle.ht_expr.specs.Shown.{shown};
+ghost use Rattle.ht_people.specs.Membership as membership;
+ghost use Rattle.ht_tree.specs.Assigning.{resolved};
+ghost use Rattle.ht_tree.specs.Plans.{IsPlanOf};
+ghost use Rattle.ht_tree.specs.Soundness.{Fits};
+
+use crate::{Plan, Row, Tables};
+use ht_base::{Memory, Name, Person, Persons};
+use ht_expr::{Assign, Env};
+use ht_people::{Directory, except, intersect, union};
+use std::alloc::Global;
+
+/// The environment of a row.
+pub fn env(_alloc: Global, tables: &Tables, plan: &Plan, row: &Row) -> Result<Env, Memory>
+    requires plan { IsPlanOf tables.now.tables plan.now }
+    requires row { Fits tables.now.tables row.now }
+    ensures { IfOk result (λ e. e.initiator ≡ row.now.initiator) }
+{
+    let _ = tables.rows();
+    let _ = plan.rows(tables);
+    Ok(Env {
+        initiator: row.initiator,
+    })
+}
+
+/// The persons whom an assignment finds for a row, in ascending order (WS-HumanTask 1.1, 4.3).
+pub fn resolve(
+    alloc: Global,
+    tables: &Tables,
+    plan: &Plan,
+    row: &Row,
+    assign: &Assign,
+) -> Result<Persons, Memory>
+    requires plan { IsPlanOf tables.now.tables plan.now }
+    requires row { Fits tables.now.tables row.now }
+    ensures { IfOk result (λ persons. persons ≡ resolved tables.now.tables.people row.now.initiator (shown assign.now)) }
+{
+    let env = env(alloc, tables, plan, row)?;
+    found(alloc, tables.people(), &env, assign)
+}
+
+/// The persons of the directory whom an assignment finds.
+pub(crate) fn found(
+    alloc: Global,
+    people: &Directory,
+    env: &Env,
+    assign: &Assign,
+) -> Result<Persons, Memory>
+    requires { env.now.initiator < length people.now.persons }
+    ensures { IfOk result (λ persons. persons ≡ resolved people.now env.now.initiator (shown assign.now)) }
+{
+    match assign {
+        Assign::Nobody => Ok(Persons::new(alloc)),
+        Assign::Everybody => everybody(alloc, people),
+        Assign::Initiator => alone(alloc, env.initiator),
+        Assign::User(text) => persons_named(alloc, people, text.as_str()),
+        Assign::Group(text) => members_of(alloc, people, text.as_str()),
+        Assign::Union(a, b) => {
+            let first = found(alloc, people, env, a)?;
+            let second = found(alloc, people, env, b)?;
+            union(alloc, &first, &second)
+        }
+        Assign::Intersect(a, b) => {
+            let first = found(alloc, people, env, a)?;
+            let second = found(alloc, people, env, b)?;
+            intersect(alloc, &first, &second)
+        }
+        Assign::Except(a, b) => {
+            let first = found(alloc, people, env, a)?;
+            let second = found(alloc, people, env, b)?;
+            except(alloc, &first, &second)
+        }
+    }
+}
+
+fn everybody(alloc: Global, people: &Directory) -> Result<Persons, Memory>
+    ensures { IfOk result (λ persons. persons ≡ membership.everybody people.now) }
+{
+    let mut persons = Persons::new(alloc);
+    for place in 0..people.persons() {
+        persons.push(Person(place))?;
+    }
+    Ok(persons)
+}
+
+fn alone(alloc: Global, person: Person) -> Result<Persons, Memory>
+    ensures { IfOk result (λ persons. persons ≡ person ∷ []) }
+{
+    let mut persons = Persons::new(alloc);
+    persons.push(person)?;
+    Ok(persons)
+}
+
+// The person with this name, where the text is a name.
+fn persons_named(alloc: Global, people: &Directory, text: &str) -> Result<Persons, Memory>
+    ensures { IfOk result (λ persons. (creator : ℕ) → persons ≡ resolved people.now creator (user text.now)) }
+{
+    let Some(name) = Name::of(text.as_bytes()) else {
+        return Ok(Persons::new(alloc));
+    };
+    match people.find(name) {
+        Some(person) => alone(alloc, person),
+        None => Ok(Persons::new(alloc)),
+    }
+}
+
+// The members of the group with this name, where the text is a name.
+fn members_of(alloc: Global, people: &Directory, text: &str) -> Result<Persons, Memory>
+    ensures { IfOk result (λ persons. (creator : ℕ) → persons ≡ resolved people.now creator (group text.now)) }
+{
+    match Name::of(text.as_bytes()) {
+        Some(name) => people.members(alloc, name),
+        None => Ok(Persons::new(alloc)),
+    }
+}

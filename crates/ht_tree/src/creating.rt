@@ -1,0 +1,214 @@
+ghost use Rattle.std.specs.Prelude.{◌≡◌, ◌<◌, ◌≤◌, ◌+◌, ◌^◌, [], IfOk, IfSome, OnErr, OnOk, None, Err, length, option_map, slice_get};
+ghost use Rattle.std.specs.Option.{option_map_or};
+ghost use Rattle.ht_expr.specs.Shown.{shown};
+ghost use Rattle.ht_tree.specs.Assigning.{potential_owners, resolved};
+ghost use Rattle.ht_tree.specs.Creating as spec;
+ghost use Rattle.ht_tree.specs.Creating.{IsFull, role_or};
+ghost use Rattle.ht_tree.specs.Soundness.{last_moment};
+ghost use Rattle.ht_tree.specs.Plans.{IsPlanOf, KeepsSound, planned_rows, with_row};
+
+use crate::assigning::found;
+use crate::sizes::top_size;
+use crate::{Comments, Plan, Row, Tables, Taken};
+use ht_base::{Memory, Moment, Person, Persons, State, TaskId, Values};
+use ht_expr::{Assign, Env};
+use ht_models::Model;
+use ht_people::{Directory, except};
+use std::alloc::Global;
+use thiserror::Error;
+
+/// The most tasks that there may be, each tree counted whole from its creation on.
+const MOST_TASKS: u64 = 50_000;
+
+/// The priority of a task whose model gives none.
+const MIDDLE_PRIORITY: u8 = 5;
+
+/// Why no task is created.
+#[derive(Clone, Copy, Debug, PartialEq, Eq, Error)]
+pub enum CreateRefusal {
+    #[error("out of memory")]
+    Memory,
+    /// With the whole tree of the new task there would be more than 50,000.
+    #[error("too many tasks")]
+    TaskLimit,
+}
+
+impl From<Memory> for CreateRefusal {
+    ghost use Rattle.std.specs.Prelude.{◌≡◌};
+    ghost use Rattle.ht_tree.specs.declared.creating.CreateRefusal.TheVariants as refusal;
+
+    ghost from_gives = { λ _ refused. refused ≡ refusal.Memory };
+
+    fn from(_memory: Memory) -> CreateRefusal {
+        CreateRefusal::Memory
+    }
+}
+
+/// Puts the row of a new task into the plan, before it is activated, and gives its number
+/// (WS-HumanTask 1.1, 4.10). `parent` is the parent of a sub task, with the place among its sub
+/// entries: a sub task takes the parent's administrators or stakeholders where its model gives none,
+/// and the limit isn't tested for it.
+#[allow(clippy::too_many_arguments)]
+pub fn create(
+    alloc: Global,
+    tables: &Tables,
+    plan: &mut Plan,
+    model: u32,
+    parent: Option<(TaskId, u32)>,
+    initiator: Person,
+    input: Values,
+    waits: Option<Moment>,
+    at: Moment,
+) -> Result<TaskId, CreateRefusal>
+    requires plan { IsPlanOf tables.now.tables plan.old }
+    requires number { length (planned_rows tables.now.tables plan.old) + 1 < 2 ^ 32 }
+    requires model { model < length tables.now.tables.models }
+    requires parent { IfSome parent (λ p. (1 ≤ p.0.0) × (p.0.0 ≤ length (planned_rows tables.now.tables plan.old))) }
+    requires initiator { initiator < length tables.now.tables.people.persons }
+    ensures id { IfOk result (λ id. id.0 ≡ length (planned_rows tables.now.tables plan.old) + 1) }
+    ensures ok { OnOk result (IfSome (slice_get tables.now.tables.models model) (λ m. plan.new ≡ with_row plan.old (spec.new_row tables.now.tables (planned_rows tables.now.tables plan.old) m model parent initiator input waits at))) }
+    ensures fits { OnOk result (IsPlanOf tables.now.tables plan.new) }
+    ensures sound { OnOk result (parent ≡ None → at.0 ≤ last_moment → IfSome waits (λ m. m.0 ≤ last_moment) → KeepsSound tables.now.tables plan.old plan.new) }
+    ensures room { OnOk result (parent ≡ None → IsFull tables.now.tables plan.old model → ⊥) }
+    ensures full { result ≡ Err CreateRefusal.TaskLimit → (parent ≡ None) × IsFull tables.now.tables plan.old model }
+    ensures err { OnErr result (plan.new ≡ plan.old) }
+{
+    let size = u64::from(tables.models().model(model).size);
+    if parent.is_none() && plan.size(tables) + size > MOST_TASKS {
+        return Err(CreateRefusal::TaskLimit);
+    }
+    let task = TaskId(plan.rows(tables) + 1);
+    let row = new_row(
+        alloc, tables, plan, task, model, parent, initiator, input, waits, at,
+    )?;
+    plan.put(tables, row)?;
+    Ok(task)
+}
+
+#[allow(clippy::too_many_arguments)]
+fn new_row(
+    alloc: Global,
+    tables: &Tables,
+    plan: &Plan,
+    task: TaskId,
+    model: u32,
+    parent: Option<(TaskId, u32)>,
+    initiator: Person,
+    input: Values,
+    waits: Option<Moment>,
+    at: Moment,
+) -> Result<Row, Memory>
+    requires plan { IsPlanOf tables.now.tables plan.now }
+    requires task { task.0 ≡ length (planned_rows tables.now.tables plan.now) + 1 }
+    requires model { model < length tables.now.tables.models }
+    requires initiator { initiator < length tables.now.tables.people.persons }
+    ensures { IfOk result (λ row. IfSome (slice_get tables.now.tables.models model) (λ m. row ≡ spec.new_row tables.now.tables (planned_rows tables.now.tables plan.now) m model parent initiator input waits at)) }
+{
+    let people = tables.people();
+    let m = tables.models().model(model);
+    let env = Env { initiator };
+    let above = parent_row(tables, plan, parent);
+    let excluded_owners = found(alloc, people, &env, &m.excluded_owners)?;
+    let potential_owners = owners(alloc, people, &env, m, &excluded_owners)?;
+    let administrators = role(
+        alloc,
+        people,
+        &env,
+        &m.administrators,
+        administrators_of(above),
+    )?;
+    let stakeholders = role(alloc, people, &env, &m.stakeholders, stakeholders_of(above))?;
+    Ok(Row {
+        task,
+        parent,
+        model,
+        state: State::Created,
+        owner: None,
+        last_owner: None,
+        initiator,
+        potential_owners,
+        excluded_owners,
+        administrators,
+        stakeholders,
+        by_group: !m.potential_owners.individual(),
+        started: false,
+        priority: MIDDLE_PRIORITY,
+        input,
+        output: Values::new(alloc),
+        created: at,
+        waits,
+        until: None,
+        fault: None,
+        taken: Taken::new(alloc),
+        comments: Comments::new(alloc),
+    })
+}
+
+// The row of the parent, of a sub task.
+fn parent_row<'a>(
+    tables: &'a Tables,
+    plan: &'a Plan,
+    parent: Option<(TaskId, u32)>,
+) -> Option<&'a Row>
+    requires { IsPlanOf tables.now.tables plan.now }
+    ensures { option_map (λ r. r.now) result ≡ spec.parent_row (planned_rows tables.now.tables plan.now) parent }
+{
+    match parent {
+        Some((id, _)) => plan.row(tables, id),
+        None => None,
+    }
+}
+
+// Who is found by the assignment of potential owners, without the excluded owners.
+fn owners(
+    alloc: Global,
+    people: &Directory,
+    env: &Env,
+    model: &Model,
+    excluded: &Persons,
+) -> Result<Persons, Memory>
+    requires initiator { env.now.initiator < length people.now.persons }
+    requires excluded { excluded.now ≡ resolved people.now env.now.initiator (shown model.now.excluded_owners) }
+    ensures { IfOk result (λ ps. ps ≡ potential_owners people.now env.now.initiator (shown model.now.potential_owners) (shown model.now.excluded_owners)) }
+{
+    let candidates = found(alloc, people, env, &model.potential_owners)?;
+    except(alloc, &candidates, excluded)
+}
+
+// The persons of a role, by its assignment or as the parent has them.
+fn role(
+    alloc: Global,
+    people: &Directory,
+    env: &Env,
+    assign: &Option<Assign>,
+    inherited: Option<&Persons>,
+) -> Result<Persons, Memory>
+    requires { env.now.initiator < length people.now.persons }
+    ensures { IfOk result (λ ps. ps ≡ role_or people.now env.now.initiator (option_map shown assign.now) (option_map_or (λ p. p.now) inherited.entry [])) }
+{
+    match assign {
+        Some(assign) => found(alloc, people, env, assign),
+        None => match inherited {
+            Some(persons) => Ok(persons.copy(alloc)?),
+            None => Ok(Persons::new(alloc)),
+        },
+    }
+}
+
+fn administrators_of(above: Option<&Row>) -> Option<&Persons>
+    ensures { option_map (λ p. p.now) result ≡ option_map (λ r. r.now.administrators) above.entry }
+{
+    match above {
+        Some(row) => Some(&row.administrators),
+        None => None,
+    }
+}
+
+fn stakeholders_of(above: Option<&Row>) -> Option<&Persons>
+    ensures { option_map (λ p. p.now) result ≡ option_map (λ r. r.now.stakeholders) above.entry }
+{
+    match above {
+        Some(row) => Some(&row.stakeholders),
+        None => None,
+    }
+}

@@ -1,0 +1,26 @@
+//! The rows of the tasks, whom a people assignment finds, and planned changes: a plan is prepared
+//! with all the memory that it takes, and then its commit gives just the planned rows.
+#![tactic(auto)]
+
+mod assigning;
+mod comments;
+mod creating;
+mod notice;
+mod plan;
+mod row;
+mod sizes;
+mod slot;
+mod tables;
+mod taken;
+#[cfg(test)]
+mod tests;
+
+pub use assigning::{env, resolve};
+pub use comments::{Comment, Comments};
+pub use creating::{CreateRefusal, create};
+pub use notice::Notice;
+pub use plan::Plan;
+pub use row::Row;
+pub use slot::{Kept, Slot};
+pub use tables::Tables;
+pub use taken::Taken;

@@ -1,0 +1,183 @@
+ghost use Rattle.std.specs.Prelude.{◌≡◌, ◌≤◌, ◌<◌, ◌^◌, ℕ, IfOk, IfSome, fold, OnOk, Some, length, max, option_map, slice_get, vec_capacity, vec_len};
+ghost use Rattle.ht_tree.specs.declared.row.Row.{Row};
+ghost use Rattle.ht_tree.specs.Puts.{AreSmall, CanPut, HaveModels};
+ghost use Rattle.ht_tree.specs.Plans.{IsNext, IsPlanOf, new_rows, planned};
+ghost use Rattle.ht_tree.specs.Rows.{put_in, row_at};
+ghost use Rattle.ht_tree.specs.Sizes.{total_size};
+ghost use Rattle.ht_tree.specs.Soundness.{IsSound, IsSoundRow};
+ghost use Rattle.ht_tree.specs.Tables.{empty_tables};
+
+use crate::sizes::resized;
+use crate::{Plan, Row};
+use ht_base::{Memory, Moment, TaskId};
+use ht_models::Models;
+use ht_people::Directory;
+use std::alloc::Global;
+use std::marker::Model;
+
+/// The tasks of an office, over its models and its people. A contract also sees in `room` how many
+/// more tasks they take without memory.
+#[derive(Drop)]
+pub struct Tables {
+    models: Models,
+    people: Directory,
+    rows: Vec<Row>,
+    last: Moment,
+    // The tasks of the trees of all top tasks.
+    size: u64,
+}
+
+impl Model for Tables {
+    ghost use Rattle.ht_tree.specs.Tables.{RoomyTables};
+    ghost use Rattle.std.specs.Coded.{codes};
+    ghost use Rattle.ht_models.specs.Codes.{coded_assignment};
+
+    ghost Value = { RoomyTables };
+
+    ghost coded = { Prim.hlevel (codes, coded_assignment) };
+
+    ghost use Rattle.ht_tree.specs.Kept.{IsKept, roomy};
+
+    ghost view = { roomy };
+
+    ghost invariant = { IsKept };
+}
+
+impl Tables {
+    /// No tasks, at moment 0.
+    pub fn new(alloc: Global, models: Models, people: Directory) -> Result<Tables, Memory>
+        ensures { IfOk result (λ t. t.tables ≡ empty_tables models people) }
+    {
+        // Its contract says how large the tree of a model may be.
+        let _ = models.count();
+        Ok(Tables {
+            models,
+            people,
+            rows: Vec::new(alloc),
+            last: Moment(0),
+            size: 0,
+        })
+    }
+
+    /// The row of a task, if there is such a task.
+    pub fn row(&self, id: TaskId) -> Option<&Row>
+        ensures value { option_map (λ r. r.now) result ≡ row_at id.0 self.now.tables.rows }
+        ensures sound { IfSome result (λ r. IsSoundRow self.now.tables r.now) }
+    {
+        row_in(&self.rows, id)
+    }
+
+    /// How many tasks there are.
+    pub fn rows(&self) -> u32
+        ensures value { result ≡ length self.now.tables.rows }
+        ensures sound { IsSound self.now.tables }
+    {
+        self.rows.len() as u32
+    }
+
+    /// The moment of the last accepted command.
+    pub fn last(&self) -> Moment
+        ensures value { result.0 ≡ self.now.tables.last }
+        ensures sound { IsSound self.now.tables }
+    {
+        self.last
+    }
+
+    pub fn models(&self) -> &Models
+        ensures value { result.now ≡ self.now.tables.models }
+        ensures sound { IsSound self.now.tables }
+    {
+        &self.models
+    }
+
+    pub fn people(&self) -> &Directory
+        ensures { result.now ≡ self.now.tables.people }
+    {
+        &self.people
+    }
+
+    /// The tasks of the trees of all top tasks.
+    pub(crate) fn size(&self) -> u64
+        ensures value { result ≡ total_size self.now.tables.models self.now.tables.rows }
+        ensures small { AreSmall self.now.tables.models }
+        ensures sound { IsSound self.now.tables }
+    {
+        self.size
+    }
+
+    /// Takes all the memory that the commit of this plan needs.
+    pub fn prepare(&mut self, plan: &Plan) -> Result<(), Memory>
+        requires { IsPlanOf self.old.tables plan.now }
+        ensures tables { self.new.tables ≡ self.old.tables }
+        ensures prepared { OnOk result (new_rows self.old.tables plan.now ≤ self.new.room) }
+    {
+        let more = plan.new_rows(self);
+        self.rows.reserve(more)?;
+        Ok(())
+    }
+
+    /// Makes the planned change. It can't be refused, and takes no memory.
+    pub fn commit(&mut self, plan: Plan, at: Moment)
+        requires fits { IsPlanOf self.old.tables plan }
+        requires prepared { new_rows self.old.tables plan ≤ self.old.room }
+        requires sound { IsSound (planned self.old.tables plan at.0) }
+        requires later { self.old.tables.last ≤ at.0 }
+        ensures { self.new.tables ≡ planned self.old.tables plan at.0 }
+    {
+        self.last = at;
+        put_all(
+            &self.models,
+            &mut self.rows,
+            &mut self.size,
+            plan.into_rows(),
+        );
+    }
+}
+
+fn row_in(rows: &[Row], id: TaskId) -> Option<&Row>
+    ensures { option_map (λ r. r.now) result ≡ row_at id.0 rows.now }
+{
+    if id.0 == 0 {
+        return None;
+    }
+    rows.get(id.0 as usize - 1)
+}
+
+// Puts rows one after another.
+fn put_all(models: &Models, rows: &mut Vec<Row>, size: &mut u64, puts: Vec<Row>)
+    requires puts { CanPut (length models.now) rows.old.items puts.items }
+    requires models { HaveModels (length models.now) rows.old.items }
+    requires small { AreSmall models.now }
+    requires counted { size.old ≡ total_size models.now rows.old.items }
+    requires few { length (fold put_in rows.old.items puts.items) < 2 ^ 32 }
+    requires room { length (fold put_in rows.old.items puts.items) ≤ vec_capacity rows.old }
+    ensures rows { rows.new.items ≡ fold put_in rows.old.items puts.items }
+    ensures counted { size.new ≡ total_size models.now rows.new.items }
+{
+    for row in puts {
+        put_row(models, rows, size, row);
+    }
+}
+
+// Puts a row in its task's place, or behind the others.
+fn put_row(models: &Models, rows: &mut Vec<Row>, size: &mut u64, row: Row)
+    requires next { IsNext rows.old.items row }
+    requires model { row.model < length models.now }
+    requires models { HaveModels (length models.now) rows.old.items }
+    requires counted { size.old ≡ total_size models.now rows.old.items }
+    requires small { size.old < 2 ^ 63 }
+    requires room { length rows.old.items < row.task.0 → vec_len rows.old < vec_capacity rows.old }
+    ensures rows { rows.new.items ≡ put_in rows.old.items row }
+    ensures counted { size.new ≡ total_size models.now rows.new.items }
+    ensures capacity { vec_capacity rows.new ≡ vec_capacity rows.old }
+    ensures len { vec_len rows.new ≡ max (vec_len rows.old) row.task.0 }
+{
+    let place = row.task.0 as usize - 1;
+    if place < rows.len() {
+        *size = resized(models, *size, Some(&rows[place]), &row);
+        rows[place] = row;
+    } else {
+        *size = resized(models, *size, None, &row);
+        rows.push_reserved(row);
+    }
+}

@@ -1,0 +1,247 @@
+ghost use Rattle.std.specs.Prelude.{◌≡◌, None, OnOk};
+ghost use Rattle.ht_tree.specs.Plans.{IsPlanOf, no_plan, planned};
+ghost use Rattle.ht_tree.specs.Soundness.{IsSound};
+
+use crate::{Comment, CreateRefusal, Plan, Tables, create, resolve};
+use ht_base::{LAST, Moment, Person, Persons, Role, Roles, State, TaskId, Txt, Values};
+use ht_expr::{Assign, Kinds};
+use ht_models::Models;
+use ht_people::Directory;
+use std::alloc::Global;
+use std::process::Abort;
+use std::test::Fail;
+
+const PEOPLE: &[u8] =
+    b"[[person]]\nname = \"anna\"\n[[person]]\nname = \"ben\"\n[[person]]\nname = \"cora\"\n[[person]]\nname = \"dan\"\n[[person]]\nname = \"root\"\noperator = true\n[[group]]\nname = \"clerks\"\nmembers = [\"anna\", \"ben\"]\n";
+
+const MODELS: &[u8] =
+    b"[[model]]\nname = \"unit\"\npotentialOwners = \"group('clerks')\"\nadministrators = \"user('cora')\"\nstakeholders = \"user('root')\"\n[[model]]\nname = \"shut\"\npotentialOwners = \"user('anna')\"\nexcludedOwners = \"user('anna')\"\nadministrators = \"user('cora')\"\n[[model]]\nname = \"bare\"\npotentialOwners = \"user('ben')\"\n";
+
+const UNIT: u32 = 0;
+
+const SHUT: u32 = 1;
+
+const BARE: u32 = 2;
+
+const DAN: Person = Person(3);
+
+fn tables(alloc: Global) -> Result<Tables, Fail> {
+    let models = Models::read(alloc, MODELS)?;
+    let people = Directory::read(alloc, PEOPLE)?;
+    Ok(Tables::new(alloc, models, people)?)
+}
+
+// Plans a task of dan's, of a model and below a parent that are there.
+fn planned(
+    rt: &impl Abort,
+    alloc: Global,
+    tables: &Tables,
+    plan: &mut Plan,
+    model: u32,
+    parent: Option<(TaskId, u32)>,
+) -> Result<TaskId, CreateRefusal>
+    requires { IsPlanOf tables.now.tables plan.old }
+    ensures fits { OnOk result (IsPlanOf tables.now.tables plan.new) }
+    ensures sound { OnOk result (parent ≡ None → plan.old ≡ no_plan → IsSound (planned tables.now.tables plan.new tables.now.tables.last)) }
+{
+    assert!(rt; model < tables.models().count());
+    assert!(rt; DAN.0 < tables.people().persons());
+    let rows = plan.rows(tables);
+    assert!(rt; rows < u32::MAX);
+    if let Some((above, _)) = parent {
+        assert!(rt; above.0 >= 1 && above.0 <= rows);
+    }
+    let at = tables.last();
+    let input = Values::new(alloc);
+    create(alloc, tables, plan, model, parent, DAN, input, None, at)
+}
+
+// A task of dan's.
+fn created(
+    rt: &impl Abort,
+    alloc: Global,
+    tables: &mut Tables,
+    model: u32,
+) -> Result<TaskId, CreateRefusal> {
+    let mut plan = Plan::begin(alloc)?;
+    let task = planned(rt, alloc, tables, &mut plan, model, None)?;
+    tables.prepare(&plan)?;
+    let at = tables.last();
+    tables.commit(plan, at);
+    Ok(task)
+}
+
+// Makes a task ready that nobody owns.
+fn readied(alloc: Global, tables: &mut Tables, task: TaskId, at: Moment) -> Result<(), Fail> {
+    if task.0 > tables.rows() || at < tables.last() || at.0 > LAST {
+        return Err(Fail::from("no such task or moment"));
+    }
+    let Some(old) = tables.row(task) else {
+        return Err(Fail::from("no such task"));
+    };
+    let mut row = old.copy(alloc)?;
+    row.state = State::Ready;
+    row.owner = None;
+    row.waits = None;
+    row.until = None;
+    let mut plan = Plan::begin(alloc)?;
+    plan.put(tables, row)?;
+    tables.prepare(&plan)?;
+    tables.commit(plan, at);
+    Ok(())
+}
+
+#[test]
+fn a_task_is_created(rt: HostRuntime) -> Result<(), Fail> {
+    let mut tables = tables(rt.alloc())?;
+    let table: [(u32, &[Person], &[Person], bool); 2] = [
+        (SHUT, &[], &[Person(0)], false),
+        (UNIT, &[Person(0), Person(1)], &[], true),
+    ];
+    for (model, owners, excluded, by_group) in table {
+        let task = created(&rt, rt.alloc(), &mut tables, model)?;
+        let row = tables.row(task).ok_or("a row")?;
+        assert_eq!(rt; row.potential_owners.as_slice(), owners);
+        assert_eq!(rt; row.excluded_owners.as_slice(), excluded);
+        assert_eq!(rt; row.by_group, by_group);
+        assert_eq!(rt; row.initiator, DAN);
+    }
+    Ok(())
+}
+
+#[test]
+fn a_sub_task_has_the_administrators_of_its_parent(rt: HostRuntime) -> Result<(), Fail> {
+    let tables = tables(rt.alloc())?;
+    let mut plan = Plan::begin(rt.alloc())?;
+    let above = planned(&rt, rt.alloc(), &tables, &mut plan, UNIT, None)?;
+    let below = planned(&rt, rt.alloc(), &tables, &mut plan, BARE, Some((above, 7)))?;
+    let row = plan.row(&tables, below).ok_or("a row")?;
+    assert_eq!(rt; row.parent, Some((TaskId(1), 7)));
+    assert_eq!(rt; row.potential_owners.as_slice(), [Person(1)].as_slice());
+    assert_eq!(rt; row.administrators.as_slice(), [Person(2)].as_slice());
+    assert_eq!(rt; row.stakeholders.as_slice(), [Person(4)].as_slice());
+    Ok(())
+}
+
+#[test]
+fn there_are_at_most_fifty_thousand_tasks(rt: HostRuntime) -> Result<(), Fail> {
+    let mut tables = tables(rt.alloc())?;
+    for _ in 0..50_000 {
+        created(&rt, rt.alloc(), &mut tables, BARE)?;
+    }
+    assert_eq!(rt;
+        created(&rt, rt.alloc(), &mut tables, BARE),
+        Err(CreateRefusal::TaskLimit)
+    );
+    assert_eq!(rt; tables.rows(), 50_000);
+    Ok(())
+}
+
+#[test]
+fn a_changed_row_is_committed(rt: HostRuntime) -> Result<(), Fail> {
+    let mut tables = tables(rt.alloc())?;
+    created(&rt, rt.alloc(), &mut tables, UNIT)?;
+    created(&rt, rt.alloc(), &mut tables, UNIT)?;
+    readied(rt.alloc(), &mut tables, TaskId(1), Moment(5000))?;
+    assert_eq!(rt; tables.rows(), 2);
+    assert_eq!(rt; tables.last(), Moment(5000));
+    let table = [
+        (0, None),
+        (1, Some(State::Ready)),
+        (2, Some(State::Created)),
+        (3, None),
+    ];
+    for (task, state) in table {
+        let found = tables.row(TaskId(task)).map(|row| row.state);
+        assert_eq!(rt; found, state, "{task}");
+    }
+    Ok(())
+}
+
+#[test]
+fn a_plan_goes_back_to_its_mark(rt: HostRuntime) -> Result<(), Fail> {
+    let tables = tables(rt.alloc())?;
+    let mut plan = Plan::begin(rt.alloc())?;
+    let first = planned(&rt, rt.alloc(), &tables, &mut plan, UNIT, None)?;
+    plan.mark();
+    planned(&rt, rt.alloc(), &tables, &mut plan, SHUT, None)?;
+    assert_eq!(rt; plan.rows(&tables), 2);
+    plan.back();
+    assert_eq!(rt; plan.rows(&tables), 1);
+    assert!(rt; plan.row(&tables, TaskId(2)).is_none());
+    assert!(rt; plan.row(&tables, first).is_some());
+    Ok(())
+}
+
+#[test]
+fn a_comment_is_copied(rt: HostRuntime) -> Result<(), Fail> {
+    let comment = Comment {
+        moment: Moment(7),
+        person: DAN,
+        text: Txt::of(rt.alloc(), "late")?,
+    };
+    assert_eq!(rt; comment.copy(rt.alloc())?.text.as_str(), "late");
+    Ok(())
+}
+
+// The roles of a person in the first task, where both are there.
+fn roles_in_first(tables: &Tables, person: Person, alloc: Global) -> Result<Roles, Fail> {
+    let plan = Plan::begin(alloc)?;
+    if person.0 >= tables.people().persons() || plan.row(tables, TaskId(1)).is_none() {
+        return Err(Fail::from("no such person or task"));
+    }
+    Ok(plan.roles_of(tables, TaskId(1), person))
+}
+
+#[test]
+fn roles_are_those_of_the_row(rt: HostRuntime) -> Result<(), Fail> {
+    let mut tables = tables(rt.alloc())?;
+    created(&rt, rt.alloc(), &mut tables, UNIT)?;
+    let table = [
+        (0, Roles::NONE.with(Role::PotentialOwner)),
+        (1, Roles::NONE.with(Role::PotentialOwner)),
+        (2, Roles::NONE.with(Role::Administrator)),
+        (3, Roles::NONE.with(Role::Initiator)),
+        (4, Roles::NONE.with(Role::Stakeholder).with(Role::Operator)),
+    ];
+    for (person, roles) in table {
+        let found = roles_in_first(&tables, Person(person), rt.alloc())?;
+        assert_eq!(rt; found, roles, "{person}");
+    }
+    Ok(())
+}
+
+// Whom an assignment finds for the first task.
+fn found(alloc: Global, tables: &Tables, text: &str) -> Result<Persons, Fail> {
+    let assign = Assign::read(alloc, text, &Kinds::new(alloc))?;
+    let plan = Plan::begin(alloc)?;
+    let row = tables.row(TaskId(1)).ok_or("a row")?;
+    Ok(resolve(alloc, tables, &plan, row, &assign)?)
+}
+
+#[test]
+fn assignments_find_persons(rt: HostRuntime) -> Result<(), Fail> {
+    let mut tables = tables(rt.alloc())?;
+    created(&rt, rt.alloc(), &mut tables, UNIT)?;
+    let table: [(&str, &[Person]); 8] = [
+        ("nobody", &[]),
+        (
+            "everybody",
+            &[Person(0), Person(1), Person(2), Person(3), Person(4)],
+        ),
+        ("initiator", &[Person(3)]),
+        ("user('cora')", &[Person(2)]),
+        ("user('no one')", &[]),
+        (
+            "union(user('dan'), group('clerks'))",
+            &[Person(0), Person(1), Person(3)],
+        ),
+        ("intersect(everybody, user('ben'))", &[Person(1)]),
+        ("except(group('clerks'), user('anna'))", &[Person(1)]),
+    ];
+    for (text, persons) in table {
+        let found = found(rt.alloc(), &tables, text)?;
+        assert_eq!(rt; found.as_slice(), persons, "{text}");
+    }
+    Ok(())
+}
