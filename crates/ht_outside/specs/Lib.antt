@@ -1,3 +1,4 @@
 pub mod Causes
 pub mod Scripted
 pub mod Tells
+pub mod Texts

@@ -1,5 +1,7 @@
--- A source and a sink in memory, of which a test says which calls fail.
-use Rattle.std.specs.Prelude.{ℕ, List, take, drop}
+-- A source, a sink and texts in memory, of which a test says which calls fail.
+use Rattle.std.specs.Prelude.{ℕ, List, [], Option, None, Some, find, take, drop}
+use Rattle.std.specs.Str.{bytes_eq}
+use Rattle.ht_base.specs.Bytes.{BytesOf}
 use Rattle.ht_outside.specs.Tells.{Flow}
 
 -- where a list of bytes is cut after those taken
@@ -18,3 +20,19 @@ pub record ScriptedSink : Type 0 where
   pub failing : List ℕ
   pub calls : ℕ
   pub faults : ℕ
+
+-- texts: each with its name in front
+pub record ScriptedTexts : Type 0 where
+  pub texts : List (List ℕ × BytesOf)
+  pub failing : List ℕ
+  pub calls : ℕ
+  pub faults : ℕ
+
+-- where there is no text there are no bytes
+abbrev pub bytes_or_none : Option (List ℕ × BytesOf) → List ℕ
+bytes_or_none None = []
+bytes_or_none (Some text) = text.1.items
+
+-- the bytes of the first text with this name
+abbrev pub bytes_named : List (List ℕ × BytesOf) → List ℕ → List ℕ
+bytes_named texts name = bytes_or_none (find (λ text. bytes_eq text.0 name) texts)

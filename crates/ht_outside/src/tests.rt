@@ -1,7 +1,14 @@
-use crate::{Failed, Link, MemorySink, MemorySource, Pair, Sink, Source, StdSink, StdSource};
-use ht_base::Bytes;
+ghost use Rattle.std.specs.Prelude.{◌≡◌, [], false};
+ghost use Rattle.ht_outside.specs.Texts.{is_failed};
+
+use crate::{
+    Failed, FileTexts, Link, MemorySink, MemorySource, MemoryTexts, Pair, Sink, Source, StdSink,
+    StdSource, TextFault, Texts,
+};
+use ht_base::{Bytes, Memory, Txt};
 use std::alloc::Global;
 use std::test::Fail;
+use std::{env, fs, process};
 
 fn source(alloc: Global, bytes: &[u8], failing: &[u32]) -> Result<MemorySource, Fail> {
     let failing = Vec::from_slice(alloc, failing)?;
@@ -66,5 +73,88 @@ fn readers_and_writers_of_std_are_taken(rt: HostRuntime) -> Result<(), Fail> {
     let mut sink = StdSink::new(Vec::new(rt.alloc()));
     assert_eq!(rt; sink.write(b"abc"), Ok(()));
     assert_eq!(rt; sink.write(b""), Ok(()));
+    Ok(())
+}
+
+// Each text with its name in front.
+fn named(alloc: Global, texts: &[(&str, &str)]) -> Result<Vec<(Txt, Bytes)>, Memory> {
+    let mut named = Vec::new(alloc);
+    for (name, text) in texts {
+        named.push((Txt::of(alloc, name)?, Bytes::of(alloc, text.as_bytes())?))?;
+    }
+    Ok(named)
+}
+
+// Whether a read answered these bytes, or this fault.
+fn is_answer(read: &Result<Bytes, TextFault>, want: Result<&[u8], TextFault>) -> bool {
+    match (read, want) {
+        (Ok(bytes), Ok(want)) => bytes.as_slice() == want,
+        (Err(fault), Err(want)) => *fault == want,
+        _ => false,
+    }
+}
+
+// A read where no call is to fail: its clauses are what such a caller knows.
+fn read_unfailing(alloc: Global, texts: &mut MemoryTexts, name: &str) -> Result<Bytes, TextFault>
+    requires { texts.old.failing ≡ [] }
+    ensures never { is_failed result ≡ false }
+    ensures kept { texts.new.failing ≡ [] }
+{
+    texts.read(alloc, name, 8)
+}
+
+#[test]
+fn texts_in_memory_are_read_by_name(rt: HostRuntime) -> Result<(), Fail> {
+    let alloc = rt.alloc();
+    let texts = named(
+        alloc,
+        &[("people", "ann"), ("models", "unit"), ("people", "ben")],
+    )?;
+    let mut texts = MemoryTexts::make(alloc, texts, Vec::from_slice(alloc, &[3, 6])?)?;
+    let reads: [(&str, u32, Result<&[u8], TextFault>); 7] = [
+        ("people", 3, Ok(b"ann")),
+        ("people", 2, Err(TextFault::TooLong)),
+        ("people", 3, Err(TextFault::Failed)),
+        ("people", 3, Ok(b"ann")),
+        ("models", 4, Ok(b"unit")),
+        ("models", 3, Err(TextFault::Failed)),
+        ("nobody", 0, Ok(b"")),
+    ];
+    for (name, limit, want) in reads {
+        assert!(rt;
+            is_answer(&texts.read(alloc, name, limit), want),
+            "{name} up to {limit}"
+        );
+    }
+    Ok(())
+}
+
+#[test]
+fn no_read_fails_unasked(rt: HostRuntime) -> Result<(), Fail> {
+    let alloc = rt.alloc();
+    let texts = named(alloc, &[("people", "ann")])?;
+    let mut texts = MemoryTexts::make(alloc, texts, Vec::new(alloc))?;
+    assert!(rt; is_answer(&read_unfailing(alloc, &mut texts, "people"), Ok(b"ann")));
+    assert!(rt; is_answer(&read_unfailing(alloc, &mut texts, "models"), Ok(b"")));
+    Ok(())
+}
+
+#[test]
+fn files_are_texts(rt: HostRuntime) -> Result<(), Fail> {
+    let alloc = rt.alloc();
+    let number = process::id(rt.process());
+    let name = format!(in alloc; "ht_outside-{number}.txt")?;
+    let path = env::temp_dir(&rt)?.join(alloc, name.as_str())?;
+    let mut text = vec![in alloc; b'x'; 70_000]?;
+    text.extend_from_slice(b"end")?;
+    fs::write(&rt, path.as_path(), text.as_slice())?;
+    let mut texts = FileTexts::new(&rt);
+    let whole = texts.read(alloc, path.as_str(), 70_003);
+    let longer = texts.read(alloc, path.as_str(), 70_002);
+    fs::remove_file(&rt, path.as_path())?;
+    let missing = texts.read(alloc, path.as_str(), 70_003);
+    assert!(rt; is_answer(&whole, Ok(text.as_slice())));
+    assert!(rt; is_answer(&longer, Err(TextFault::TooLong)));
+    assert!(rt; is_answer(&missing, Err(TextFault::Failed)));
     Ok(())
 }

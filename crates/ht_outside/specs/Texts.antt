@@ -1,0 +1,28 @@
+-- What a read of a text by its name answers.
+use Rattle.std.specs.Prelude.{ℕ, ◌<◌, ◌≤◌, ◌≡◌, List, length, Bool, true, false, IsTrue, Result, Ok, Err, MatchResult, ⊤}
+use Rattle.ht_base.specs.Bytes.{BytesOf}
+use Rattle.ht_outside.specs.Causes.{Rose}
+use Rattle.ht_outside.specs.declared.text_fault.TextFault.{TextFault}
+use Rattle.ht_outside.specs.declared.text_fault.TextFault.TheVariants.{Failed, TooLong, Memory}
+
+-- TooLong says that the text has more bytes than the limit, the other faults say nothing of it
+abbrev pub SaysOf : ℕ → List ℕ → TextFault → Type 0
+SaysOf limit text Failed = ⊤
+SaysOf limit text TooLong = limit < length text
+SaysOf limit text Memory = ⊤
+
+-- the whole text was answered, and it has at most `limit` bytes, or a fault that may be said of it
+abbrev pub ReadsWhole : ℕ → List ℕ → Result BytesOf TextFault → Type 0
+ReadsWhole limit text result = MatchResult result (λ bytes. (bytes.items ≡ text) × (length text ≤ limit)) (SaysOf limit text)
+
+-- whether a read answered Failed
+abbrev pub is_failed : Result BytesOf TextFault → Bool
+is_failed (Ok bytes) = false
+is_failed (Err Failed) = true
+is_failed (Err TooLong) = false
+is_failed (Err Memory) = false
+
+-- a count of faults never falls, and it rose where the read answered Failed
+pub record HasTextCause (before now : ℕ) (result : Result BytesOf TextFault) : Type 0 where
+  pub later : before ≤ now
+  pub failed : IsTrue (is_failed result) → Rose before now
