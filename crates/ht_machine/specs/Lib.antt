@@ -1,7 +1,10 @@
+pub mod Activating
+pub mod Authorisation
+pub mod Commands
 pub mod Deciding
-pub mod Directory
 pub mod Examples
 pub mod History
-pub mod Kept
+pub mod Naming
+pub mod Planning
 pub mod Sheets
-pub mod Tables
+pub mod Stopping

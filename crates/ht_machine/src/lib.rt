@@ -1,12 +1,16 @@
-//! The task machine: the tables of tasks, and what each event does to them and is answered.
+//! The task machine: what each event leaves of the tables and is answered, decided as a plan that is
+//! then committed.
 #![tactic(auto)]
 
+mod activating;
+mod authorisation;
+mod claiming;
+mod creating;
 mod deciding;
-mod directory;
+mod naming;
 mod sheets;
-mod tables;
+mod stop;
 #[cfg(test)]
 mod tests;
 
-pub use deciding::run_one;
-pub use tables::Tables;
+pub use deciding::{Decision, decide, run_one};

@@ -1,49 +1,40 @@
-ghost use Rattle.std.specs.Prelude.{◌≡◌, IfOk, codes};
-ghost use Rattle.ht_machine.specs.Directory.{people};
-ghost use Rattle.ht_machine.specs.Sheets.{sheet_of};
+ghost use Rattle.std.specs.Prelude.{◌≡◌, IfOk};
+ghost use Rattle.ht_machine.specs.Sheets as spec;
+ghost use Rattle.ht_tree.specs.Soundness.{IsSoundRow};
 
-use crate::tables::Row;
-use ht_base::{Memory, Name, Names, Sheet, TaskId};
+use crate::naming::{name_or_none, names_of};
+use ht_base::{Memory, Sheet};
+use ht_tree::{Row, Tables};
 use std::alloc::Global;
 
-/// The sheet of a task of the model unit.
-pub(crate) fn sheet(
-    alloc: Global,
-    task: TaskId,
-    row: &Row,
-    everybody: &Names,
-) -> Result<Sheet, Memory>
-    requires { everybody.now ≡ people }
-    ensures { IfOk result (λ s. s ≡ sheet_of task.0 row.now) }
+/// The sheet of a task.
+pub(crate) fn sheet(alloc: Global, tables: &Tables, row: &Row) -> Result<Sheet, Memory>
+    requires { IsSoundRow tables.now.tables row.now }
+    ensures { IfOk result (λ s. s ≡ spec.sheet_of tables.now.tables row.now) }
 {
-    let potential_owners = everybody.copy(alloc)?;
+    let people = tables.people();
+    let parent = match row.parent {
+        Some((task, _)) => Some(task),
+        None => None,
+    };
     Ok(Sheet {
-        administrators: Names::new(alloc),
-        by_group: true,
+        administrators: names_of(alloc, people, &row.administrators)?,
+        by_group: row.by_group,
         created: row.created,
-        excluded_owners: Names::new(alloc),
-        fault: None,
-        initiator: row.initiator,
-        last_owner: None,
-        model: model_unit(),
-        owner: row.owner,
-        parent: None,
-        potential_owners,
-        priority: 5,
-        stakeholders: Names::new(alloc),
-        started: false,
+        excluded_owners: names_of(alloc, people, &row.excluded_owners)?,
+        fault: row.fault,
+        initiator: people.name(row.initiator),
+        last_owner: name_or_none(people, row.last_owner),
+        model: tables.models().model(row.model).name,
+        owner: name_or_none(people, row.owner),
+        parent,
+        potential_owners: names_of(alloc, people, &row.potential_owners)?,
+        priority: row.priority,
+        stakeholders: names_of(alloc, people, &row.stakeholders)?,
+        started: row.started,
         state: row.state,
-        task,
-        until: None,
-        waits: None,
+        task: row.task,
+        until: row.until,
+        waits: row.waits,
     })
-}
-
-fn model_unit() -> Name
-    ensures { result ≡ codes "unit" }
-{
-    match Name::of(b"unit") {
-        Some(name) => name,
-        None => unreachable!(),
-    }
 }

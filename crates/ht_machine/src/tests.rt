@@ -1,40 +1,65 @@
 ghost use Rattle.std.specs.Prelude.{IfSome};
 ghost use Rattle.ht_machine.specs.Deciding.{IsValid};
 
-use crate::{Tables, run_one};
+use crate::{decide, run_one};
 use ht_base::{
-    Answer, Command, Event, Limit, Moment, Name, Query, Refusal, State, StateSet, TaskId,
+    Answer, Command, Event, Limit, Moment, Name, Query, Record, Refusal, Role, Roles, State,
+    StateSet, TaskId, Unknown,
 };
+use ht_models::Models;
+use ht_people::Directory;
+use ht_tree::Tables;
+use std::alloc::Global;
 use std::test::Fail;
 
-fn create(caller: &[u8]) -> Option<Event>
+const PEOPLE: &[u8] =
+    b"[[person]]\nname = \"anna\"\n[[person]]\nname = \"ben\"\n[[person]]\nname = \"cora\"\n[[person]]\nname = \"dan\"\n[[person]]\nname = \"root\"\noperator = true\n[[group]]\nname = \"clerks\"\nmembers = [\"anna\", \"ben\"]\n";
+
+const MODELS: &[u8] =
+    b"[[model]]\nname = \"unit\"\npotentialOwners = \"group('clerks')\"\nadministrators = \"user('cora')\"\n[[model]]\nname = \"solo\"\npotentialOwners = \"user('anna')\"\n[[model]]\nname = \"shut\"\npotentialOwners = \"user('anna')\"\nexcludedOwners = \"user('anna')\"\nadministrators = \"user('cora')\"\n";
+
+fn tables(alloc: Global) -> Result<Tables, Fail> {
+    let models = Models::read(alloc, MODELS)?;
+    let people = Directory::read(alloc, PEOPLE)?;
+    Ok(Tables::new(alloc, models, people)?)
+}
+
+// A create of the model with this name, or of the first where it is no name.
+fn create(caller: &str, at: u64, model: &str) -> Option<Event>
     ensures { IfSome result IsValid }
 {
-    let caller = Name::of(caller)?;
+    let caller = Name::of(caller.as_bytes())?;
+    if at > 253_402_300_799_999 {
+        return None;
+    }
+    let model = Name::of(model.as_bytes());
     Some(Event::Ask {
-        at: Moment(1000),
+        at: Moment(at),
         caller,
         task: TaskId(0),
-        command: Command::Create,
+        command: Command::Create { model },
     })
 }
 
-fn claim(caller: &[u8]) -> Option<Event>
+fn claim(caller: &str, at: u64) -> Option<Event>
     ensures { IfSome result IsValid }
 {
-    let caller = Name::of(caller)?;
+    let caller = Name::of(caller.as_bytes())?;
+    if at > 253_402_300_799_999 {
+        return None;
+    }
     Some(Event::Ask {
-        at: Moment(2000),
+        at: Moment(at),
         caller,
         task: TaskId(1),
         command: Command::Claim,
     })
 }
 
-fn get(caller: &[u8]) -> Option<Event>
+fn get(caller: &str) -> Option<Event>
     ensures { IfSome result IsValid }
 {
-    let caller = Name::of(caller)?;
+    let caller = Name::of(caller.as_bytes())?;
     Some(Event::Read {
         caller,
         query: Query::Sheet(TaskId(1)),
@@ -60,76 +85,124 @@ fn refusal_of(answer: &Answer) -> Option<Refusal> {
 }
 
 #[test]
-fn tasks_are_created_up_to_the_limit(rt: HostRuntime) -> Result<(), Fail> {
-    let mut tables = Tables::builtin(rt.alloc())?;
-    let event = create(b"p3").ok_or("a name")?;
-    for number in 1..=50_000u32 {
+fn tasks_are_created_by_their_models(rt: HostRuntime) -> Result<(), Fail> {
+    let table = [
+        ("", State::Ready, None),
+        ("unit", State::Ready, None),
+        ("solo", State::Reserved, Name::of(b"anna")),
+        ("shut", State::Created, None),
+    ];
+    for (model, state, owner) in table {
+        let mut tables = tables(rt.alloc())?;
+        let event = create("dan", 1000, model).ok_or("an event")?;
         let reply = run_one(rt.alloc(), &mut tables, &event)?;
-        let want = Some((TaskId(number), State::Ready, None));
-        assert!(rt; done_of(&reply.answer) == want, "at {number}");
-    }
-    let reply = run_one(rt.alloc(), &mut tables, &event)?;
-    assert_eq!(rt;
-        refusal_of(&reply.answer),
-        Some(Refusal::Limit(Limit::Tasks))
-    );
-    Ok(())
-}
-
-#[test]
-fn strangers_are_refused(rt: HostRuntime) -> Result<(), Fail> {
-    let mut tables = Tables::builtin(rt.alloc())?;
-    for caller in ["p16", "p", "P0", "p01", "anna"] {
-        let event = create(caller.as_bytes()).ok_or("a name")?;
-        let reply = run_one(rt.alloc(), &mut tables, &event)?;
-        assert_eq!(rt; reply.taken, 0);
-        assert_eq!(rt;
-            refusal_of(&reply.answer),
-            Some(Refusal::Person),
-            "{caller}"
-        );
+        let want = Some((TaskId(1), state, owner));
+        assert!(rt; done_of(&reply.answer) == want, "{model}");
+        assert_eq!(rt; tables.last(), Moment(1000));
     }
     Ok(())
 }
 
 #[test]
-fn a_task_is_claimed_once(rt: HostRuntime) -> Result<(), Fail> {
-    let mut tables = Tables::builtin(rt.alloc())?;
-    let create = create(b"p3").ok_or("a name")?;
-    let claim_by_p0 = claim(b"p0").ok_or("a name")?;
-    let claim_by_p1 = claim(b"p1").ok_or("a name")?;
-    let early = run_one(rt.alloc(), &mut tables, &claim_by_p0)?;
-    assert_eq!(rt; refusal_of(&early.answer), Some(Refusal::Task(TaskId(1))));
-    run_one(rt.alloc(), &mut tables, &create)?;
-    let first = run_one(rt.alloc(), &mut tables, &claim_by_p0)?;
-    let want = Some((TaskId(1), State::Reserved, Name::of(b"p0")));
-    assert!(rt; done_of(&first.answer) == want);
-    let second = run_one(rt.alloc(), &mut tables, &claim_by_p1)?;
-    let want = Refusal::State {
+fn refusals_change_nothing(rt: HostRuntime) -> Result<(), Fail> {
+    let mut tables = tables(rt.alloc())?;
+    let first = create("dan", 1000, "unit").ok_or("an event")?;
+    run_one(rt.alloc(), &mut tables, &first)?;
+    let claimed = claim("anna", 2000).ok_or("an event")?;
+    run_one(rt.alloc(), &mut tables, &claimed)?;
+    let needs = Roles::NONE.with(Role::PotentialOwner);
+    let sees = needs
+        .with(Role::Initiator)
+        .with(Role::Stakeholder)
+        .with(Role::ActualOwner)
+        .with(Role::Administrator);
+    let taken = Refusal::State {
         allowed: StateSet::NONE.with(State::Ready),
         state: State::Reserved,
     };
-    assert_eq!(rt; refusal_of(&second.answer), Some(want));
+    let unknown = Unknown::Model(Name::of(b"sole").ok_or("a name")?);
+    let table = [
+        (claim("ben", 3000), taken),
+        (claim("anna", 3000), taken),
+        (claim("root", 3000), Refusal::Role { needs }),
+        (claim("dan", 3000), Refusal::Role { needs }),
+        (claim("cora", 3000), Refusal::Role { needs }),
+        (claim("eve", 3000), Refusal::Person),
+        (create("eve", 3000, "unit"), Refusal::Person),
+        (create("dan", 3000, "sole"), Refusal::Unknown(unknown)),
+        (get("root"), Refusal::Role { needs: sees }),
+        (get("eve"), Refusal::Person),
+    ];
+    for (event, refusal) in table {
+        let event = event.ok_or("an event")?;
+        let decision = decide(rt.alloc(), &mut tables, &event)?;
+        assert!(rt; decision.left.is_none());
+        assert_eq!(rt; refusal_of(&decision.reply.answer), Some(refusal));
+        assert_eq!(rt; decision.reply.taken, 0);
+        run_one(rt.alloc(), &mut tables, &event)?;
+        assert_eq!(rt; tables.last(), Moment(2000));
+        assert_eq!(rt; tables.rows(), 1);
+    }
+    Ok(())
+}
+
+#[test]
+fn a_task_is_claimed(rt: HostRuntime) -> Result<(), Fail> {
+    let mut tables = tables(rt.alloc())?;
+    let event = claim("anna", 2000).ok_or("an event")?;
+    let early = run_one(rt.alloc(), &mut tables, &event)?;
+    assert_eq!(rt; refusal_of(&early.answer), Some(Refusal::Task(TaskId(1))));
+    let first = create("dan", 1000, "unit").ok_or("an event")?;
+    run_one(rt.alloc(), &mut tables, &first)?;
+    let decision = decide(rt.alloc(), &mut tables, &event)?;
+    match decision.left {
+        Some(Record::Asked { at, task, .. }) => {
+            assert_eq!(rt; (at, task), (Moment(2000), TaskId(1)));
+        }
+        None => assert!(rt; false, "nothing is kept"),
+    }
+    let reply = run_one(rt.alloc(), &mut tables, &event)?;
+    let want = Some((TaskId(1), State::Reserved, Name::of(b"anna")));
+    assert!(rt; done_of(&reply.answer) == want);
     Ok(())
 }
 
 #[test]
 fn a_task_is_shown(rt: HostRuntime) -> Result<(), Fail> {
-    let mut tables = Tables::builtin(rt.alloc())?;
-    let create = create(b"p3").ok_or("a name")?;
-    let get = get(b"p5").ok_or("a name")?;
-    run_one(rt.alloc(), &mut tables, &create)?;
-    let reply = run_one(rt.alloc(), &mut tables, &get)?;
-    match reply.answer {
-        Answer::Sheet(sheet) => {
-            assert_eq!(rt; sheet.state, State::Ready);
-            assert_eq!(rt; sheet.created, Moment(1000));
-            assert_eq!(rt; sheet.potential_owners.as_slice().len(), 16);
-            assert!(rt; Some(sheet.initiator) == Name::of(b"p3"));
-            assert!(rt; sheet.owner.is_none());
-        }
-        Answer::Done { .. } => assert!(rt; false, "no sheet"),
-        Answer::Refused(_) => assert!(rt; false, "no sheet"),
+    let mut tables = tables(rt.alloc())?;
+    let first = create("dan", 1000, "unit").ok_or("an event")?;
+    run_one(rt.alloc(), &mut tables, &first)?;
+    for caller in ["anna", "ben", "cora", "dan"] {
+        let event = get(caller).ok_or("an event")?;
+        let reply = run_one(rt.alloc(), &mut tables, &event)?;
+        let Answer::Sheet(sheet) = reply.answer else {
+            return Err(Fail::from("no sheet"));
+        };
+        assert_eq!(rt; sheet.state, State::Ready);
+        assert_eq!(rt; sheet.created, Moment(1000));
+        assert!(rt; sheet.by_group);
+        assert!(rt; Some(sheet.initiator) == Name::of(b"dan"));
+        assert!(rt; Some(sheet.model) == Name::of(b"unit"));
+        let owners = sheet.potential_owners.as_slice();
+        assert_eq!(rt; owners.len(), 2);
+        assert!(rt; owners.first().copied() == Name::of(b"anna"));
+        let administrators = sheet.administrators.as_slice();
+        assert!(rt; administrators.first().copied() == Name::of(b"cora"));
     }
+    Ok(())
+}
+
+#[test]
+fn tasks_are_created_up_to_the_limit(rt: HostRuntime) -> Result<(), Fail> {
+    let mut tables = tables(rt.alloc())?;
+    let event = create("dan", 1000, "solo").ok_or("an event")?;
+    for number in 1..=50_000u32 {
+        let reply = run_one(rt.alloc(), &mut tables, &event)?;
+        let want = Some((TaskId(number), State::Reserved, Name::of(b"anna")));
+        assert!(rt; done_of(&reply.answer) == want, "at {number}");
+    }
+    let reply = run_one(rt.alloc(), &mut tables, &event)?;
+    let full = Refusal::Limit(Limit::Tasks);
+    assert_eq!(rt; refusal_of(&reply.answer), Some(full));
     Ok(())
 }

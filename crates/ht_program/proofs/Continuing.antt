@@ -4,7 +4,7 @@ use Rattle.std.proofs.lemmas.List.{map-append}
 use Rattle.std.proofs.lemmas.Grind.{flat_map-append}
 use Rattle.ht_outside.specs.Tells.{Flow, Takes, Grows, GrowsPart}
 use Rattle.ht_machine.specs.History.{Entry, IsLegal, end_of}
-use Rattle.ht_machine.specs.Tables.{TablesOf}
+use Rattle.ht_tree.specs.Tables.{TablesOf}
 use Rattle.ht_wire.specs.declared.request.Request.{Request}
 use Rattle.ht_wire.specs.Reading.{EndsAt}
 use Rattle.ht_wire.specs.Requests.{AreRequests}
@@ -36,7 +36,7 @@ numbered_on from step k (x ∷ xs) ys a b = (a.0, a.1, numbered_on from step (k 
 
 legal_on : (s : TablesOf) (xs ys : List Entry) → IsLegal s xs → IsLegal (end_of s xs) ys → IsLegal s (xs ++ ys)
 legal_on s [] ys a b = b
-legal_on s (x ∷ xs) ys a b = (a.0, legal_on x.after xs ys a.1 b)
+legal_on s (x ∷ xs) ys a b = (a.0, a.1, legal_on x.after xs ys a.2 b)
 
 end_on : (s : TablesOf) (xs ys : List Entry) → end_of s (xs ++ ys) ≡ end_of (end_of s xs) ys
 end_on s [] ys = refl

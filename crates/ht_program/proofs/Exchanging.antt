@@ -3,7 +3,7 @@ use Rattle.std.proofs.Common.{◌≡◌, ◌⊎◌, inl, inr, ⊎_elim, ℕ, ◌
 use Rattle.ht_base.specs.declared.event.Event.{Event}
 use Rattle.ht_outside.specs.Tells.{Flow, Takes, Grows, GrowsPart}
 use Rattle.ht_machine.specs.History.{Entry, IsLegal, end_of}
-use Rattle.ht_machine.specs.Tables.{TablesOf}
+use Rattle.ht_tree.specs.Tables.{TablesOf}
 use Rattle.ht_wire.specs.declared.reading.Next.TheVariants as next
 use Rattle.ht_wire.specs.declared.request.Request.{Request}
 use Rattle.ht_wire.specs.Reading.{Reads, EndsAt, RefusedAt}
@@ -25,7 +25,7 @@ decided : (t u : TablesOf) (r : Request) (m status : ℕ) (text : List ℕ) (e :
 decided t u r m status text e event d = record {
   outcome = entered (record { event = e; reply = d.reply; after = u });
   may = event;
-  legal = (d.decided, tt);
+  legal = (d.left, d.replied, tt);
   ends = refl;
   status_is = d.status_is;
   text_is = d.text_is;
@@ -35,7 +35,7 @@ withholds : (t u : TablesOf) (r : Request) (m status : ℕ) (text : List ℕ) (e
 withholds t u r m status text e event d = record {
   outcome = unsaid (record { event = e; reply = d.reply; after = u });
   may = (event, d.is_sheet);
-  legal = (d.decided, tt);
+  legal = (d.left, d.replied, tt);
   ends = refl;
   status_is = d.status_is;
   text_is = d.text_is;

@@ -3,4 +3,4 @@ pub mod Adding
 pub mod Exchanging
 pub mod Grammar
 pub mod Inputs
-pub mod Listing
+pub mod Rest

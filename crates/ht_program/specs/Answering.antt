@@ -4,7 +4,7 @@ use Rattle.ht_base.specs.declared.event.Event.{Event}
 use Rattle.ht_base.specs.declared.reply.Reply.{Reply}
 use Rattle.ht_machine.specs.Deciding.{decide}
 use Rattle.ht_machine.specs.History.{IsLegal, end_of}
-use Rattle.ht_machine.specs.Tables.{TablesOf}
+use Rattle.ht_tree.specs.Tables.{TablesOf}
 use Rattle.ht_wire.specs.declared.request.Request.{Request}
 use Rattle.ht_program.specs.Exchanges.{Outcome, IsOutcome, status_of, text_of, entry_of}
 use Rattle.ht_program.specs.Texts.{IsSheet, answer_status, answer_text, memory_text}
@@ -12,7 +12,8 @@ use Rattle.ht_program.specs.Texts.{IsSheet, answer_status, answer_text, memory_t
 -- the reply is what the machine decides
 pub record Decided (t u : TablesOf) (e : Event) (status : ℕ) (text : List ℕ) : Type 0 where
   pub reply : Reply
-  pub decided : decide t e ≡ (u, reply)
+  pub left : (decide t e).after ≡ u
+  pub replied : (decide t e).reply ≡ reply
   pub status_is : status ≡ answer_status e reply.answer
   pub text_is : text ≡ answer_text reply.answer
 
@@ -25,7 +26,8 @@ pub record Starves (t u : TablesOf) (status : ℕ) (text : List ℕ) : Type 0 wh
 -- the reply is a sheet, for whose text there is no memory
 pub record Withholds (t u : TablesOf) (e : Event) (status : ℕ) (text : List ℕ) : Type 0 where
   pub reply : Reply
-  pub decided : decide t e ≡ (u, reply)
+  pub left : (decide t e).after ≡ u
+  pub replied : (decide t e).reply ≡ reply
   pub is_sheet : IsSheet reply.answer
   pub status_is : status ≡ 500
   pub text_is : text ≡ memory_text

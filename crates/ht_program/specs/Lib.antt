@@ -1,5 +1,6 @@
 pub mod Adding
 pub mod Answering
+pub mod BuiltIn
 pub mod Examples
 pub mod Exchanges
 pub mod Inputs

@@ -4,13 +4,14 @@ use Rattle.std.specs.Prelude.{◌≡◌, ◌⊎◌, ℕ, ◌+◌, ◌<◌, ◌�
 use Rattle.ht_outside.specs.Causes.{Rose}
 use Rattle.ht_outside.specs.Tells.{Flow, Takes, Grows, GrowsPart}
 use Rattle.ht_machine.specs.History.{IsLegal, end_of}
-use Rattle.ht_machine.specs.Tables.{TablesOf, no_tables}
+use Rattle.ht_tree.specs.Tables.{TablesOf}
 use Rattle.ht_wire.specs.Heads.{IsEnd}
 use Rattle.ht_wire.specs.Reading.{EndsAt, RefusedAt}
 use Rattle.ht_wire.specs.Replies.{reply_bytes}
 use Rattle.ht_wire.specs.Requests.{AreRequests}
 use Rattle.ht_program.specs.declared.ending.Ending.{Ending}
 use Rattle.ht_program.specs.declared.ending.Ending.TheVariants.{Done, Wire, Budget, ReadFault, WriteFault, Memory}
+use Rattle.ht_program.specs.BuiltIn.{built_in_tables}
 use Rattle.ht_program.specs.Exchanges.{Exchange, AreExchanges, entries, replies, requests}
 use Rattle.ht_program.specs.Inputs.{budget, GoOn, Close}
 use Rattle.ht_program.specs.Texts.{refused_text}
@@ -119,5 +120,5 @@ pub record Follows (f g : Option Flow) (pending : List ℕ) (ending : Ending) : 
 pub record Runs (from step : ℕ) (f g : Option Flow) (w v : Option (List ℕ)) (before now : ℕ) (c d : Option (List ℕ)) (status : ℕ) : Type 0 where
   pub ending : Ending
   pub status_is : status ≡ ending_status ending
-  pub ran : Ran from step 0 no_tables f g [] w v ending
+  pub ran : Ran from step 0 built_in_tables f g [] w v ending
   pub complains : Complains before now c d (ending_line ending)

@@ -11,11 +11,15 @@ use Rattle.ht_base.specs.declared.reply.Limit.{Limit}
 use Rattle.ht_base.specs.declared.reply.Limit.TheVariants.{Tasks}
 use Rattle.ht_base.specs.declared.reply.Refusal.{Refusal}
 use Rattle.ht_base.specs.declared.reply.Refusal.TheVariants as refusal
+use Rattle.ht_base.specs.declared.reply.Unknown.TheVariants as unknown
+use Rattle.ht_base.specs.declared.role.Role.{Role}
+use Rattle.ht_base.specs.declared.role.Roles.{Roles}
 use Rattle.ht_base.specs.declared.moment.Moment.{Moment}
 use Rattle.ht_base.specs.declared.sheet.Sheet.{Sheet as TaskSheet}
 use Rattle.ht_base.specs.declared.state.State.{State}
 use Rattle.ht_base.specs.declared.state.StateSet.{StateSet}
 use Rattle.ht_base.specs.declared.task_id.TaskId.{TaskId}
+use Rattle.ht_base.specs.Role.{all_roles, contains_role, role_name}
 use Rattle.ht_base.specs.State.{state_name, all_states, contains_state}
 use Rattle.ht_program.specs.declared.routing.ApiRefusal.{ApiRefusal}
 use Rattle.ht_program.specs.declared.routing.ApiRefusal.TheVariants.{Route, Person}
@@ -57,13 +61,17 @@ items_text (t ∷ texts) = quoted t ++ later_items texts
 abbrev pub list_text : List (List ℕ) → List ℕ
 list_text texts = codes "[" ++ items_text texts ++ codes "]"
 
--- the names of those states that are in the set
-abbrev pub names_among : List State → StateSet → List (List ℕ)
-names_among states set = map state_name (filter (contains_state set) states)
+-- the names of those that pass a test
+abbrev pub names_among : {A : Type 0} → (A → List ℕ) → (A → Bool) → List A → List (List ℕ)
+names_among name test items = map name (filter test items)
 
 -- the states of a set, in their order
 abbrev pub states_of : StateSet → List (List ℕ)
-states_of set = names_among all_states set
+states_of set = names_among state_name (contains_state set) all_states
+
+-- the roles of a set, in their order
+abbrev pub roles_of : Roles → List (List ℕ)
+roles_of set = names_among role_name (contains_role set) all_roles
 
 -- ---- refusals
 
@@ -76,6 +84,8 @@ limit_name Tasks = codes "tasks"
 abbrev pub refusal_text : Refusal → List ℕ
 refusal_text refusal.Person = fault (codes "Person")
 refusal_text (refusal.Task task) = codes "{\"fault\":\"Task\",\"task\":" ++ decimal task.0 ++ codes "}"
+refusal_text (refusal.Role needs) = codes "{\"fault\":\"Role\",\"needs\":" ++ list_text (roles_of needs) ++ codes "}"
+refusal_text (refusal.Unknown (unknown.Model name)) = codes "{\"fault\":\"Unknown\",\"model\":" ++ quoted name ++ codes "}"
 refusal_text (refusal.State allowed state) =
     codes "{\"allowed\":" ++ list_text (states_of allowed) ++ codes ",\"fault\":\"State\",\"state\":" ++ quoted (state_name state) ++ codes "}"
 refusal_text (refusal.Limit limit) = codes "{\"fault\":\"Limit\",\"limit\":\"" ++ limit_name limit ++ codes "\"}"
@@ -83,7 +93,9 @@ refusal_text (refusal.Limit limit) = codes "{\"fault\":\"Limit\",\"limit\":\"" +
 abbrev pub refusal_status : Refusal → ℕ
 refusal_status refusal.Person = 401
 refusal_status (refusal.Task task) = 404
+refusal_status (refusal.Role needs) = 403
 refusal_status (refusal.State allowed state) = 409
+refusal_status (refusal.Unknown what) = 422
 refusal_status (refusal.Limit limit) = 507
 
 -- ---- the sheet, in three parts. A task has no comments, parts and sub tasks yet.
@@ -135,7 +147,7 @@ IsSheet (Refused why) = ⊥
 
 -- 201 where a task was created
 abbrev pub done_status : Event → ℕ
-done_status (Ask at caller task command.Create) = 201
+done_status (Ask at caller task (command.Create model)) = 201
 done_status (Ask at caller task command.Claim) = 200
 done_status (Read caller what) = 200
 

@@ -1,6 +1,5 @@
 ghost use Rattle.std.specs.Prelude.{◌≡◌, ◌+◌, ◌<◌, ◌≤◌, [], length, Some, IfOk, MatchOption};
 ghost use Rattle.ht_outside.specs.Causes.{HasCause};
-ghost use Rattle.ht_machine.specs.Tables.{no_tables};
 ghost use Rattle.ht_machine.specs.Deciding.{IsValid, decide};
 ghost use Rattle.ht_wire.specs.Reading.{HasReadCause};
 ghost use Rattle.ht_wire.specs.Replies.{IsReplyStatus};
@@ -15,8 +14,9 @@ use crate::routing::event_of;
 use crate::texts::{MEMORY_TEXT, TEXT_ROOM, api_reply, put, refused_text, status_of, write_answer};
 use crate::words::Run;
 use ht_base::{Bytes, Event, Memory, Moment};
-use ht_machine::{Tables, run_one};
+use ht_machine::run_one;
 use ht_outside::{Failed, Sink, Source};
+use ht_tree::Tables;
 use ht_wire::{Buffer, Next, Request, next_request, write_reply};
 use std::alloc::Global;
 
@@ -30,19 +30,18 @@ struct Buffers {
     text: Bytes,
 }
 
-/// Serves the connection over input and output, from no tasks on.
+/// Serves the connection over input and output, from these tables on.
 pub(crate) fn serve<S: Source, K: Sink>(
     alloc: Global,
     run: &Run,
+    tables: Tables,
     input: &mut S,
     output: &mut K,
 ) -> Ending
-    ensures ran { Ran run.now.from run.now.step 0 no_tables (S.flow input.old) (S.flow input.new) [] (K.written output.old) (K.written output.new) result }
+    ensures ran { Ran run.now.from run.now.step 0 tables.tables (S.flow input.old) (S.flow input.new) [] (K.written output.old) (K.written output.new) result }
     ensures causes { HasCauses (S.read_faults input.old) (S.read_faults input.new) (K.write_faults output.old) (K.write_faults output.new) (Some result) }
 {
-    let Ok(mut tables) = Tables::builtin(alloc) else {
-        return Ending::Memory;
-    };
+    let mut tables = tables;
     let Ok(mut buffers) = Buffers::new(alloc) else {
         return Ending::Memory;
     };
@@ -79,8 +78,8 @@ fn serve_next<S: Source, K: Sink>(
     requires few { number < budget }
     requires room { 1024 ≤ buffers.old.text.spare + length buffers.old.text.items }
     ensures served { MatchOption result
-        (Goes run.now.from run.now.step number (number + 1) tables.old tables.new (S.flow input.old) (S.flow input.new) buffers.old.input buffers.new.input (K.written output.old) (K.written output.new))
-        (Ran run.now.from run.now.step number tables.old (S.flow input.old) (S.flow input.new) buffers.old.input (K.written output.old) (K.written output.new)) }
+        (Goes run.now.from run.now.step number (number + 1) tables.old.tables tables.new.tables (S.flow input.old) (S.flow input.new) buffers.old.input buffers.new.input (K.written output.old) (K.written output.new))
+        (Ran run.now.from run.now.step number tables.old.tables (S.flow input.old) (S.flow input.new) buffers.old.input (K.written output.old) (K.written output.new)) }
     ensures causes { HasCauses (S.read_faults input.old) (S.read_faults input.new) (K.write_faults output.old) (K.write_faults output.new) result }
     ensures room { 1024 ≤ buffers.new.text.spare + length buffers.new.text.items }
 {
@@ -137,7 +136,7 @@ fn answer(
 ) -> u16
     requires at { at.0 ≤ last_moment }
     requires room { 1024 ≤ text.old.spare + length text.old.items }
-    ensures answers { Answers tables.old tables.new request.now at.0 result text.new.items }
+    ensures answers { Answers tables.old.tables tables.new.tables request.now at.0 result text.new.items }
     ensures known { IsReplyStatus result }
     ensures room { 1024 ≤ text.new.spare + length text.new.items }
 {
@@ -157,7 +156,7 @@ fn decide_into(alloc: Global, tables: &mut Tables, event: &Event, text: &mut Byt
     requires valid { IsValid event.now }
     requires empty { text.old.items ≡ [] }
     requires room { 1024 ≤ text.old.spare }
-    ensures decides { Decides tables.old tables.new event.now result text.new.items }
+    ensures decides { Decides tables.old.tables tables.new.tables event.now result text.new.items }
     ensures known { IsReplyStatus result }
     ensures room { 1024 ≤ text.new.spare + length text.new.items }
 {

@@ -5,7 +5,9 @@
 
 mod connection;
 mod ending;
+mod listing;
 mod numbers;
+mod office_tables;
 mod routing;
 mod sheet_text;
 mod status;

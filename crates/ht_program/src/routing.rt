@@ -54,7 +54,7 @@ fn event_for(form: Form, caller: Name, at: Moment) -> Event
             at,
             caller,
             task: TaskId(0),
-            command: Command::Create,
+            command: Command::Create { model: None },
         },
         Form::Claim(task) => Event::Ask {
             at,

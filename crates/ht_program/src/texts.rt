@@ -1,15 +1,16 @@
-ghost use Rattle.std.specs.Prelude.{◌≡◌, ◌+◌, ◌*◌, ◌≤◌, [], ◌++◌, length, IsErr};
+ghost use Rattle.std.specs.Prelude.{◌≡◌, ◌+◌, ◌≤◌, [], ◌++◌, length, IsErr};
 ghost use Rattle.ht_base.specs.declared.reply.Answer.TheVariants.{Done};
-ghost use Rattle.ht_base.specs.State.{state_name};
 ghost use Rattle.ht_wire.specs.Replies.{IsReplyStatus};
 ghost use Rattle.ht_program.specs.Adding.{Adds};
 ghost use Rattle.ht_program.specs.Texts as spec;
-ghost use Rattle.ht_program.specs.Texts.{IsSheet, answer_status, answer_text, api_status, api_text, item_text, items_text, list_text, name_or_null, names_among, quoted, refusal_text, states_of};
+ghost use Rattle.ht_program.specs.Texts.{IsSheet, answer_status, answer_text, api_status, api_text, name_or_null, quoted, refusal_text};
 
+use crate::listing::put_names_among;
 use crate::routing::ApiRefusal;
 use crate::sheet_text::add_sheet;
 use ht_base::{
-    Answer, Bytes, Command, Event, Limit, Memory, Name, Refusal, State, StateSet, TaskId,
+    Answer, Bytes, Command, Event, Limit, Memory, Name, Refusal, Role, Roles, State, StateSet,
+    TaskId, Unknown,
 };
 
 /// The room that the text of an answer takes at most.
@@ -28,7 +29,9 @@ pub(crate) fn status_of(event: &Event, answer: &Answer) -> u16
         Answer::Sheet(_) => 200,
         Answer::Refused(Refusal::Person) => 401,
         Answer::Refused(Refusal::Task(_)) => 404,
+        Answer::Refused(Refusal::Role { .. }) => 403,
         Answer::Refused(Refusal::State { .. }) => 409,
+        Answer::Refused(Refusal::Unknown(_)) => 422,
         Answer::Refused(Refusal::Limit(_)) => 507,
     }
 }
@@ -39,7 +42,7 @@ fn done_status(event: &Event) -> u16
 {
     match event {
         Event::Ask {
-            command: Command::Create,
+            command: Command::Create { .. },
             ..
         } => 201,
         Event::Ask {
@@ -117,6 +120,8 @@ fn write_refusal(refusal: &Refusal, into: &mut Bytes)
     match refusal {
         Refusal::Person => put(b"{\"fault\":\"Person\"}", into),
         Refusal::Task(task) => write_task_refusal(*task, into),
+        Refusal::Role { needs } => write_role_refusal(needs, into),
+        Refusal::Unknown(Unknown::Model(name)) => write_unknown_model(name, into),
         Refusal::State { allowed, state } => write_state_refusal(allowed, *state, into),
         Refusal::Limit(Limit::Tasks) => put(b"{\"fault\":\"Limit\",\"limit\":\"tasks\"}", into),
     }
@@ -141,53 +146,35 @@ fn write_state_refusal(allowed: &StateSet, state: State, into: &mut Bytes)
     ensures kept { into.old.spare ≤ into.new.spare + length into.new.items }
 {
     put(b"{\"allowed\":", into);
-    put_state_list(allowed, into);
+    put_names_among(&State::ALL, allowed, into);
     put(b",\"fault\":\"State\",\"state\":", into);
     put_quoted(state.name().as_bytes(), into);
     put(b"}", into);
 }
 
-// The states of a set, as a list.
-fn put_state_list(set: &StateSet, into: &mut Bytes)
-    requires { 300 ≤ into.old.spare }
-    ensures text { into.new.items ≡ into.old.items ++ list_text (states_of set.now) }
-    ensures spare { into.old.spare ≤ into.new.spare + 300 }
-    ensures kept { into.old.spare + length into.old.items ≤ into.new.spare + length into.new.items }
+fn write_role_refusal(needs: &Roles, into: &mut Bytes)
+    requires empty { into.old.items ≡ [] }
+    requires room { 1024 ≤ into.old.spare }
+    ensures text { into.new.items ≡ refusal_text (Refusal.Role needs.now) }
+    ensures kept { into.old.spare ≤ into.new.spare + length into.new.items }
 {
-    put(b"[", into);
-    put_states(&State::ALL, set, into);
-    put(b"]", into);
+    put(b"{\"fault\":\"Role\",\"needs\":", into);
+    put_names_among(&Role::ALL, needs, into);
+    put(b"}", into);
 }
 
-// The names of the states that are in the set, with commas between them.
-fn put_states(states: &[State], set: &StateSet, into: &mut Bytes)
-    requires { 22 * length states.now ≤ into.old.spare }
-    ensures text { into.new.items ≡ into.old.items ++ items_text (names_among states.now set.now) }
-    ensures spare { into.old.spare ≤ into.new.spare + 22 * length states.now }
-    ensures kept { into.old.spare + length into.old.items ≤ into.new.spare + length into.new.items }
+fn write_unknown_model(name: &Name, into: &mut Bytes)
+    requires empty { into.old.items ≡ [] }
+    requires room { 1024 ≤ into.old.spare }
+    ensures text { into.new.items ≡ refusal_text (Refusal.Unknown (Unknown.Model name.now)) }
+    ensures kept { into.old.spare ≤ into.new.spare + length into.new.items }
 {
-    let mut first = true;
-    for state in states {
-        if set.contains(*state) {
-            put_item(first, *state, into);
-            first = false;
-        }
-    }
+    put(b"{\"fault\":\"Unknown\",\"model\":", into);
+    put_quoted(name.as_bytes(), into);
+    put(b"}", into);
 }
 
-fn put_item(first: bool, state: State, into: &mut Bytes)
-    requires { 22 ≤ into.old.spare }
-    ensures text { into.new.items ≡ into.old.items ++ item_text first (state_name state) }
-    ensures spare { into.old.spare ≤ into.new.spare + 22 }
-    ensures kept { into.old.spare + length into.old.items ≤ into.new.spare + length into.new.items }
-{
-    if !first {
-        put(b",", into);
-    }
-    put_quoted(state.name().as_bytes(), into);
-}
-
-fn put_quoted(text: &[u8], into: &mut Bytes)
+pub(crate) fn put_quoted(text: &[u8], into: &mut Bytes)
     requires { length text.now + 2 ≤ into.old.spare }
     ensures text { into.new.items ≡ into.old.items ++ quoted text.now }
     ensures spare { into.old.spare ≤ into.new.spare + (length text.now + 2) }

@@ -1,12 +1,16 @@
-ghost use Rattle.std.specs.Prelude.{◌≡◌, ◌≢◌, ◌⊎◌, ◌↔◌, ℕ, List, map, string_bytes};
+ghost use Rattle.std.specs.Prelude.{◌≡◌, ◌≢◌, ◌⊎◌, ◌↔◌, ℕ, [], List, Some, map, string_bytes};
 ghost use Rattle.ht_outside.specs.Causes.{Rose};
+ghost use Rattle.ht_program.specs.BuiltIn.{built_in_tables};
 ghost use Rattle.ht_program.specs.Inputs.{IsAnswered, IsStatusOf};
-ghost use Rattle.ht_program.specs.Running.{Complains, Runs, usage_line};
+ghost use Rattle.ht_program.specs.Running.{Complains, HasCauses, Ran, Runs, usage_line};
 ghost use Rattle.ht_program.specs.Words.{IsRun};
 
 use crate::connection::serve;
+use crate::ending::Ending;
+use crate::office_tables::built_in_tables;
 use crate::status::{Status, USAGE_LINE, line_of, status_of};
-use crate::words::run_of;
+use crate::words::{Run, run_of};
+use ht_base::Memory;
 use ht_outside::{Failed, Sink, Source};
 use std::alloc::Global;
 
@@ -36,7 +40,7 @@ pub fn office<S: Source, K: Sink, Q: Sink>(
 {
     match run_of(words) {
         Some(run) => {
-            let ending = serve(alloc, &run, input, output);
+            let ending = start(alloc, &run, input, output);
             complain(complaints, &line_of(ending));
             status_of(ending)
         }
@@ -44,6 +48,17 @@ pub fn office<S: Source, K: Sink, Q: Sink>(
             complain(complaints, USAGE_LINE);
             Status::USAGE
         }
+    }
+}
+
+// Serves the connection from no tasks on, over the built-in texts.
+fn start<S: Source, K: Sink>(alloc: Global, run: &Run, input: &mut S, output: &mut K) -> Ending
+    ensures ran { Ran run.now.from run.now.step 0 built_in_tables (S.flow input.old) (S.flow input.new) [] (K.written output.old) (K.written output.new) result }
+    ensures causes { HasCauses (S.read_faults input.old) (S.read_faults input.new) (K.write_faults output.old) (K.write_faults output.new) (Some result) }
+{
+    match built_in_tables(alloc) {
+        Ok(tables) => serve(alloc, run, tables, input, output),
+        Err(Memory) => Ending::Memory,
     }
 }
 

@@ -1,4 +1,4 @@
-use Rattle.std.proofs.Common.{◌≡◌, arith}
+use Rattle.std.proofs.Common.{◌≡◌, arith, refl}
 use Rattle.ht_program.specs.Inputs.{budget}
 use Rattle.ht_program.proofs.Continuing.{goes_on, goes_ran, goes_follows}
 use Rattle.ht_program.proofs.Exchanging.{begun, not_begun}
@@ -7,13 +7,10 @@ use Rattle.ht_program.proofs.connection.serve.Goals as goal
 pub returns-in_default-clause-ran : goal.returns-in_default-clause-ran
 returns-in_default-clause-ran g c = not_begun _ _ _ _ _
 
-pub returns-in_default-new-clause-ran : goal.returns-in_default-new-clause-ran
-returns-in_default-new-clause-ran g c = not_begun _ _ _ _ _
-
 pub loop-number-init : goal.loop-number-init
 loop-number-init g c = record {
-  goes = begun _ _ _ _ _ _ _ c.in-Ok.ensures c.in-Ok-new.ensures.0;
-  room = c.in-Ok-new.ensures.1;
+  goes = begun _ _ _ _ _ _ _ refl c.in-Ok.ensures.0;
+  room = c.in-Ok.ensures.1;
   read = omega arith;
   write = omega arith;
 }

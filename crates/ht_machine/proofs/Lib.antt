@@ -1,0 +1,5 @@
+pub mod Allowed
+pub mod Authorising
+pub mod Leaving
+pub mod Owning
+pub mod Rows

@@ -1,0 +1,11 @@
+use Rattle.std.proofs.Common.{◌≡◌, length}
+use Rattle.ht_machine.proofs.Rows.{below_at}
+use Rattle.ht_machine.proofs.naming.names_of.Goals as goal
+
+pub name-requires : goal.name-requires
+name-requires c =
+    let items = c.as_slice-person-items.result.now in
+    let same : items ≡ c.args.persons.now = c.as_slice-person-items.ensures.value in
+    below_at (length c.args.people.now.persons) c.args.persons.now c.loop-person.person-index c.person-item.result c.requires
+    (rw (← same) c.loop-person-test.true)
+    (rw (← same) c.person-item.is)
