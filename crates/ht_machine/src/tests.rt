@@ -66,6 +66,17 @@ fn get(caller: &str) -> Option<Event>
     })
 }
 
+// A claim or a sheet of the first task, or a create of the model with this name.
+fn asked(what: &str, caller: &str) -> Option<Event>
+    ensures { IfSome result IsValid }
+{
+    match what {
+        "claim" => claim(caller, 3000),
+        "get" => get(caller),
+        model => create(caller, 3000, model),
+    }
+}
+
 // The task, its state and its owner, where the event is accepted.
 fn done_of(answer: &Answer) -> Option<(TaskId, State, Option<Name>)> {
     match answer {
@@ -122,19 +133,19 @@ fn refusals_change_nothing(rt: HostRuntime) -> Result<(), Fail> {
     };
     let unknown = Unknown::Model(Name::of(b"sole").ok_or("a name")?);
     let table = [
-        (claim("ben", 3000), taken),
-        (claim("anna", 3000), taken),
-        (claim("root", 3000), Refusal::Role { needs }),
-        (claim("dan", 3000), Refusal::Role { needs }),
-        (claim("cora", 3000), Refusal::Role { needs }),
-        (claim("eve", 3000), Refusal::Person),
-        (create("eve", 3000, "unit"), Refusal::Person),
-        (create("dan", 3000, "sole"), Refusal::Unknown(unknown)),
-        (get("root"), Refusal::Role { needs: sees }),
-        (get("eve"), Refusal::Person),
+        ("claim", "ben", taken),
+        ("claim", "anna", taken),
+        ("claim", "root", Refusal::Role { needs }),
+        ("claim", "dan", Refusal::Role { needs }),
+        ("claim", "cora", Refusal::Role { needs }),
+        ("claim", "eve", Refusal::Person),
+        ("unit", "eve", Refusal::Person),
+        ("sole", "dan", Refusal::Unknown(unknown)),
+        ("get", "root", Refusal::Role { needs: sees }),
+        ("get", "eve", Refusal::Person),
     ];
-    for (event, refusal) in table {
-        let event = event.ok_or("an event")?;
+    for (what, caller, refusal) in table {
+        let event = asked(what, caller).ok_or("an event")?;
         let decision = decide(rt.alloc(), &mut tables, &event)?;
         assert!(rt; decision.left.is_none());
         assert_eq!(rt; refusal_of(&decision.reply.answer), Some(refusal));

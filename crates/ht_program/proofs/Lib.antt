@@ -1,6 +1,10 @@
 pub mod Continuing
 pub mod Adding
+pub mod Complaining
 pub mod Exchanging
 pub mod Grammar
 pub mod Inputs
+pub mod Opened
+pub mod Options
 pub mod Rest
+pub mod Statuses

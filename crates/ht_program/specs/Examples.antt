@@ -1,5 +1,5 @@
 -- Worked examples of the definitions. A wrong reading of one fails the check.
-use Rattle.std.specs.Prelude.{◌≡◌, refl, List, ℕ, [], Option, Some, None, Ok, Err, codes, false}
+use Rattle.std.specs.Prelude.{◌≡◌, refl, List, ℕ, [], ◌∷◌, Option, Some, None, Ok, Err, codes, false, true}
 use Rattle.std.proofs.Common.{lit≤, lit<}
 use Rattle.std.specs.Fmt.{digits}
 use Rattle.ht_base.specs.declared.event.Event.TheVariants.{Ask, Read}
@@ -13,9 +13,13 @@ use Rattle.ht_base.specs.State.{no_states, with_state}
 use Rattle.ht_wire.specs.declared.request.Request.{Request}
 use Rattle.ht_program.specs.declared.routing.ApiRefusal.TheVariants.{Person}
 use Rattle.ht_program.specs.declared.routing.Form.TheVariants as form
+use Rattle.ht_people.specs.declared.refusal.PeopleRefusal.TheVariants.{Cycle, Limit}
+use Rattle.ht_program.specs.declared.opening.TextsFault.TheVariants.{People, TooLong, Unread}
+use Rattle.ht_program.specs.declared.opening.Which.TheVariants as which
+use Rattle.ht_program.specs.Opening.{fault_line}
 use Rattle.ht_program.specs.Routing.{IsEvent}
 use Rattle.ht_program.specs.Texts.{answer_text, list_text, refused_text}
-use Rattle.ht_program.specs.Words.{moment_of}
+use Rattle.ht_program.specs.Words.{are_options, moment_of, value_of}
 
 abbrev asked : List ℕ → List ℕ → Option (List ℕ) → Request
 asked method target person = record { method = method; target = record { items = target; spare = 0 }; person = person; last = false; body = record { items = []; spare = 0 } }
@@ -72,3 +76,35 @@ too_long = refl
 
 a_body : refused_text 501 ≡ codes "{\"fault\":\"Coding\"}"
 a_body = refl
+
+-- ---- words
+
+options_in_any_order : are_options (codes "--people" ∷ codes "p" ∷ codes "--from" ∷ codes "0" ∷ codes "--models" ∷ codes "" ∷ codes "--step" ∷ codes "1" ∷ []) ≡ true
+options_in_any_order = refl
+
+an_option_twice : are_options (codes "--from" ∷ codes "0" ∷ codes "--from" ∷ codes "0" ∷ []) ≡ false
+an_option_twice = refl
+
+a_value_with_a_dash : are_options (codes "--models" ∷ codes "-m" ∷ []) ≡ false
+a_value_with_a_dash = refl
+
+an_option_without_a_value : are_options (codes "--from" ∷ codes "0" ∷ codes "--step" ∷ []) ≡ false
+an_option_without_a_value = refl
+
+the_value_of_an_option : value_of (codes "--step") (codes "--from" ∷ codes "0" ∷ codes "--step" ∷ codes "1" ∷ []) ≡ Some (codes "1")
+the_value_of_an_option = refl
+
+-- ---- lines
+
+a_cycle : fault_line (codes "m", codes "p") (People (Cycle 5)) ≡ codes "people: Cycle 5\n"
+unfolding digits
+a_cycle = refl
+
+a_limit_without_place : fault_line (codes "m", codes "p") (People Limit) ≡ codes "people: Limit\n"
+a_limit_without_place = refl
+
+a_long_text : fault_line (codes "m", codes "p") (TooLong which.Models) ≡ codes "models: TooLong\n"
+a_long_text = refl
+
+an_unread_text : fault_line (codes "m.toml", codes "p.toml") (Unread which.People) ≡ codes "texts: p.toml\n"
+an_unread_text = refl

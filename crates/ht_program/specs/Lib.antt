@@ -4,6 +4,8 @@ pub mod BuiltIn
 pub mod Examples
 pub mod Exchanges
 pub mod Inputs
+pub mod Named
+pub mod Opening
 pub mod Routing
 pub mod Running
 pub mod Texts

@@ -11,7 +11,6 @@ use Rattle.ht_wire.specs.Replies.{reply_bytes}
 use Rattle.ht_wire.specs.Requests.{AreRequests}
 use Rattle.ht_program.specs.declared.ending.Ending.{Ending}
 use Rattle.ht_program.specs.declared.ending.Ending.TheVariants.{Done, Wire, Budget, ReadFault, WriteFault, Memory}
-use Rattle.ht_program.specs.BuiltIn.{built_in_tables}
 use Rattle.ht_program.specs.Exchanges.{Exchange, AreExchanges, entries, replies, requests}
 use Rattle.ht_program.specs.Inputs.{budget, GoOn, Close}
 use Rattle.ht_program.specs.Texts.{refused_text}
@@ -116,9 +115,9 @@ pub record Follows (f g : Option Flow) (pending : List ℕ) (ending : Ending) : 
   pub takes : Takes f g taken
   pub follows : FollowsAs ending g (pending ++ taken)
 
--- the command run with these two options
-pub record Runs (from step : ℕ) (f g : Option Flow) (w v : Option (List ℕ)) (before now : ℕ) (c d : Option (List ℕ)) (status : ℕ) : Type 0 where
+-- the command run from these tables on
+pub record Runs (from step : ℕ) (t : TablesOf) (f g : Option Flow) (w v : Option (List ℕ)) (before now : ℕ) (c d : Option (List ℕ)) (status : ℕ) : Type 0 where
   pub ending : Ending
   pub status_is : status ≡ ending_status ending
-  pub ran : Ran from step 0 built_in_tables f g [] w v ending
+  pub ran : Ran from step 0 t f g [] w v ending
   pub complains : Complains before now c d (ending_line ending)

@@ -12,11 +12,9 @@ use Rattle.ht_base.specs.declared.reply.Limit.TheVariants.{Tasks}
 use Rattle.ht_base.specs.declared.reply.Refusal.{Refusal}
 use Rattle.ht_base.specs.declared.reply.Refusal.TheVariants as refusal
 use Rattle.ht_base.specs.declared.reply.Unknown.TheVariants as unknown
-use Rattle.ht_base.specs.declared.role.Role.{Role}
 use Rattle.ht_base.specs.declared.role.Roles.{Roles}
 use Rattle.ht_base.specs.declared.moment.Moment.{Moment}
 use Rattle.ht_base.specs.declared.sheet.Sheet.{Sheet as TaskSheet}
-use Rattle.ht_base.specs.declared.state.State.{State}
 use Rattle.ht_base.specs.declared.state.StateSet.{StateSet}
 use Rattle.ht_base.specs.declared.task_id.TaskId.{TaskId}
 use Rattle.ht_base.specs.Role.{all_roles, contains_role, role_name}

@@ -1,5 +1,6 @@
--- The words of the command line.
-use Rattle.std.specs.Prelude.{◌≡◌, ◌⊎◌, ℕ, ◌+◌, ◌*◌, ◌≤◌, min, List, [], ◌∷◌, codes, decimal}
+-- The words of the command line: the command run, and then its options.
+use Rattle.std.specs.Prelude.{◌≡◌, ℕ, ◌+◌, ◌*◌, ◌≤◌, ◌==◌, min, Bool, true, false, not, ◌&&◌, List, [], ◌∷◌, Option, Some, None, is_none, bytes_eq, codes, decimal, if◌then◌else◌, ⊤}
+use Rattle.std.specs.List.{list_any}
 
 -- the last moment there is, in milliseconds since 1970-01-01T00:00:00Z
 abbrev pub last_moment : ℕ
@@ -10,15 +11,53 @@ pub record IsNumber (word : List ℕ) (n : ℕ) : Type 0 where
   pub spelled : word ≡ decimal n
   pub small : n ≤ last_moment
 
--- the command run with its two options, in either order
-pub record IsRun (words : List (List ℕ)) (from step : ℕ) : Type 0 where
+-- ---- options
+
+abbrev pub is_option : List ℕ → Bool
+is_option word = list_any (λ name. bytes_eq name word) (codes "--from" ∷ codes "--step" ∷ codes "--models" ∷ codes "--people" ∷ [])
+
+-- a value doesn't begin with a dash
+abbrev pub is_value : List ℕ → Bool
+is_value [] = true
+is_value (c ∷ cs) = not (c == 45)
+
+-- the value of the option with this name
+abbrev pub value_of : List ℕ → List (List ℕ) → Option (List ℕ)
+value_of name [] = None
+value_of name (word ∷ []) = None
+value_of name (word ∷ value ∷ words) = if bytes_eq word name then Some value else value_of name words
+
+-- an option is a name and its value, and the name doesn't stand again
+abbrev pub begin_options : List ℕ → List ℕ → List (List ℕ) → Bool
+begin_options name value words = is_option name && (is_value value && is_none (value_of name words))
+
+-- the words are options one behind another
+abbrev pub are_options : List (List ℕ) → Bool
+are_options [] = true
+are_options (word ∷ []) = false
+are_options (name ∷ value ∷ words) = begin_options name value words && are_options words
+
+-- the names of a models text and of a people text, which stand together
+abbrev pub AreTexts : Option (List ℕ) → Option (List ℕ) → Option (List ℕ × List ℕ) → Type 0
+AreTexts None None None = ⊤
+AreTexts None None (Some texts) = ⊥
+AreTexts (Some models) (Some people) None = ⊥
+AreTexts (Some models) (Some people) (Some texts) = (texts.0 ≡ models) × (texts.1 ≡ people)
+AreTexts (Some models) None texts = ⊥
+AreTexts None (Some people) texts = ⊥
+
+-- the command run with its options, in any order
+pub record IsRun (words : List (List ℕ)) (from step : ℕ) (texts : Option (List ℕ × List ℕ)) : Type 0 where
+  pub options : List (List ℕ)
+  pub words_are : words ≡ codes "run" ∷ options
+  pub allowed : are_options options ≡ true
   pub from_word : List ℕ
-  pub step_word : List ℕ
+  pub from_given : value_of (codes "--from") options ≡ Some from_word
   pub from_is : IsNumber from_word from
+  pub step_word : List ℕ
+  pub step_given : value_of (codes "--step") options ≡ Some step_word
   pub step_is : IsNumber step_word step
-  pub order :
-      (words ≡ codes "run" ∷ codes "--from" ∷ from_word ∷ codes "--step" ∷ step_word ∷ [])
-      ⊎ (words ≡ codes "run" ∷ codes "--step" ∷ step_word ∷ codes "--from" ∷ from_word ∷ [])
+  pub texts_are : AreTexts (value_of (codes "--models") options) (value_of (codes "--people") options) texts
 
 -- the moment of request number k, counted from 0
 abbrev pub moment_of : ℕ → ℕ → ℕ → ℕ

@@ -5,9 +5,11 @@
 
 mod connection;
 mod ending;
+mod fault_lines;
 mod listing;
 mod numbers;
 mod office_tables;
+mod opening;
 mod routing;
 mod sheet_text;
 mod status;
@@ -17,7 +19,7 @@ mod texts;
 mod top_call;
 mod words;
 
-use ht_outside::{StdSink, StdSource};
+use ht_outside::{FileTexts, StdSink, StdSource};
 pub use status::Status;
 use std::env;
 use std::io::{self, ErrorKind};
@@ -39,7 +41,15 @@ fn main(rt: HostRuntime) -> ExitCode {
     let mut input = StdSource::new(rt.stdin());
     let mut output = StdSink::new(rt.stdout());
     let mut complaints = StdSink::new(rt.stderr());
-    let status = office(rt.alloc(), &words, &mut input, &mut output, &mut complaints);
+    let mut texts = FileTexts::new(&rt);
+    let status = office(
+        rt.alloc(),
+        &words,
+        &mut texts,
+        &mut input,
+        &mut output,
+        &mut complaints,
+    );
     ExitCode::from(status.0)
 }
 

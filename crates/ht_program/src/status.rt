@@ -4,8 +4,9 @@ ghost use Rattle.ht_program.specs.Running.{ending_line, ending_status};
 use crate::ending::Ending;
 use arrayvec::ArrayVec;
 
-/// The exit status of the program: 0 done, 1 a request that can't be read, 2 wrong words, 7 a
-/// fault of input or output, 8 no memory, 9 more requests than one run answers.
+/// The exit status of the program: 0 done, 1 a request that can't be read, 2 wrong words, 3 a text
+/// that can't be read, 4 a text that is too long or refused, 7 a fault of input or output, 8 no
+/// memory, 9 more requests than one run answers.
 #[derive(Clone, Copy, Debug, PartialEq, Eq)]
 pub struct Status(pub u8);
 
@@ -58,7 +59,8 @@ fn put_wire(line: &mut Line, code: u16)
     put(line, b"\n");
 }
 
-fn put(line: &mut Line, bytes: &[u8])
+/// Puts bytes behind those that are there, for which there is room.
+pub(crate) fn put(line: &mut Line, bytes: &[u8])
     requires { length line.old.items + length bytes.now ≤ 64 }
     ensures { line.new.items ≡ line.old.items ++ bytes.now }
 {

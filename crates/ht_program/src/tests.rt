@@ -1,6 +1,6 @@
 use crate::{Status, office};
-use ht_base::Bytes;
-use ht_outside::{MemorySink, MemorySource};
+use ht_base::{Bytes, Txt};
+use ht_outside::{MemorySink, MemorySource, MemoryTexts};
 use std::alloc::Global;
 use std::test::Fail;
 
@@ -21,6 +21,53 @@ fn words(alloc: Global, line: &str) -> Result<Vec<String>, Fail> {
     Ok(words)
 }
 
+// The texts of an office, each behind its name, and the numbers of the reads that fail.
+#[derive(Clone, Copy)]
+struct Office<'a> {
+    texts: &'a [(&'a str, &'a str)],
+    failing: &'a [u32],
+}
+
+const NO_TEXTS: Office = Office {
+    texts: &[],
+    failing: &[],
+};
+
+fn run_office(
+    alloc: Global,
+    line: &str,
+    office_texts: &Office<'_>,
+    input: &str,
+    reads: &[u32],
+    writes: &[u32],
+) -> Result<Ran, Fail> {
+    let words = words(alloc, line)?;
+    let bytes = Bytes::of(alloc, input.as_bytes())?;
+    let mut named = Vec::new(alloc);
+    for (name, text) in office_texts.texts {
+        let bytes = Bytes::of(alloc, text.as_bytes())?;
+        named.push((Txt::of(alloc, name)?, bytes))?;
+    }
+    let mut texts = MemoryTexts::make(alloc, named, Vec::from_slice(alloc, office_texts.failing)?)?;
+    let mut source = MemorySource::make(alloc, bytes, Vec::from_slice(alloc, reads)?)?;
+    let mut output = MemorySink::make(alloc, Vec::from_slice(alloc, writes)?)?;
+    let mut complaints = MemorySink::make(alloc, Vec::new(alloc))?;
+    let status = office(
+        alloc,
+        &words,
+        &mut texts,
+        &mut source,
+        &mut output,
+        &mut complaints,
+    );
+    Ok(Ran {
+        status,
+        output,
+        complaints,
+        left: source.left().len(),
+    })
+}
+
 fn run_with(
     alloc: Global,
     line: &str,
@@ -28,18 +75,7 @@ fn run_with(
     reads: &[u32],
     writes: &[u32],
 ) -> Result<Ran, Fail> {
-    let words = words(alloc, line)?;
-    let bytes = Bytes::of(alloc, input.as_bytes())?;
-    let mut source = MemorySource::make(alloc, bytes, Vec::from_slice(alloc, reads)?)?;
-    let mut output = MemorySink::make(alloc, Vec::from_slice(alloc, writes)?)?;
-    let mut complaints = MemorySink::make(alloc, Vec::new(alloc))?;
-    let status = office(alloc, &words, &mut source, &mut output, &mut complaints);
-    Ok(Ran {
-        status,
-        output,
-        complaints,
-        left: source.left().len(),
-    })
+    run_office(alloc, line, &NO_TEXTS, input, reads, writes)
 }
 
 fn run(alloc: Global, input: &str) -> Result<Ran, Fail> {
@@ -330,5 +366,120 @@ fn a_fault_of_the_pipe_is_told_by_the_status(rt: HostRuntime) -> Result<(), Fail
     assert_eq!(rt; ran.status, Status(7));
     assert!(rt; ran.output.written().is_empty());
     assert!(rt; ran.complaints.written().is_empty());
+    Ok(())
+}
+
+const PEOPLE: &str = "[[person]]\nname = \"anna\"\n[[person]]\nname = \"ben\"\n\
+    [[person]]\nname = \"cora\"\n[[person]]\nname = \"dan\"\n[[person]]\nname = \"root\"\n\
+    operator = true\n[[group]]\nname = \"clerks\"\nmembers = [\"anna\", \"ben\"]\n";
+
+const SHUT: &str = "[[model]]\nname = \"shut\"\npotentialOwners = \"user('anna')\"\n\
+    excludedOwners = \"user('anna')\"\nadministrators = \"user('cora')\"\n";
+
+const WITH_TEXTS: &str = "run --people p --step 1000 --models m --from 1000";
+
+const UNIT: &str = "[[model]]\nname = \"unit\"\npotentialOwners = \"group('clerks')\"\n\
+    administrators = \"user('cora')\"\n";
+
+// Whether an office of this models text answers each request line, with its person, as it should.
+fn answers(alloc: Global, models: &str, table: &[(&str, &str, &str, &str)]) -> Result<bool, Fail> {
+    let mut input = String::new(alloc);
+    let mut want = String::new(alloc);
+    for (request, person, line, text) in table {
+        let head = format!(in alloc; "{request} HTTP/1.1\r\nx-person: {person}\r\n\r\n")?;
+        let reply = reply(alloc, line, text, false)?;
+        input.push_str(head.as_str())?;
+        want.push_str(reply.as_str())?;
+    }
+    let office = Office {
+        texts: &[("m", models), ("p", PEOPLE)],
+        failing: &[],
+    };
+    let ran = run_office(alloc, WITH_TEXTS, &office, input.as_str(), &[], &[])?;
+    let is_quiet = ran.complaints.written().is_empty();
+    Ok(ran.status == Status(0) && is_quiet && ran.output.written() == want.as_bytes())
+}
+
+#[test]
+fn an_office_is_that_of_its_texts(rt: HostRuntime) -> Result<(), Fail> {
+    let needs = "{\"fault\":\"Role\",\"needs\":[\"potentialOwner\"]}";
+    let sees = "{\"fault\":\"Role\",\"needs\":[\"initiator\",\"stakeholder\",\"potentialOwner\",\
+        \"actualOwner\",\"administrator\"]}";
+    let created = "{\"owner\":null,\"state\":\"Created\",\"task\":1}";
+    let ready = "{\"owner\":null,\"state\":\"Ready\",\"task\":1}";
+    let claimed = "{\"owner\":\"anna\",\"state\":\"Reserved\",\"task\":1}";
+    let taken = "{\"allowed\":[\"Ready\"],\"fault\":\"State\",\"state\":\"Reserved\"}";
+    let sheet = "{\"administrators\":[\"cora\"],\"byGroup\":true,\"comments\":[],\"created\":1000,\
+        \"excludedOwners\":[],\"fault\":null,\"initiator\":\"dan\",\"input\":{},\"lastOwner\":null,\
+        \"model\":\"unit\",\"output\":{},\"owner\":\"anna\",\"parent\":null,\
+        \"potentialOwners\":[\"anna\",\"ben\"],\"priority\":5,\"stakeholders\":[],\"started\":false,\
+        \"state\":\"Reserved\",\"subs\":[],\"task\":1,\"until\":null,\"waits\":null}";
+    let unit = [
+        ("POST /tasks", "dan", "201 Created", ready),
+        ("POST /tasks/1/claim", "anna", "200 OK", claimed),
+        ("POST /tasks/1/claim", "ben", "409 Conflict", taken),
+        ("GET /tasks/1", "ben", "200 OK", sheet),
+        ("POST /tasks/1/claim", "root", "403 Forbidden", needs),
+        ("POST /tasks/1/claim", "dan", "403 Forbidden", needs),
+    ];
+    let shut = [
+        ("POST /tasks", "dan", "201 Created", created),
+        ("POST /tasks/1/claim", "cora", "403 Forbidden", needs),
+        ("GET /tasks/1", "anna", "403 Forbidden", sees),
+    ];
+    assert!(rt; answers(rt.alloc(), UNIT, &unit)?);
+    assert!(rt; answers(rt.alloc(), SHUT, &shut)?);
+    Ok(())
+}
+
+#[test]
+fn a_bad_text_is_told(rt: HostRuntime) -> Result<(), Fail> {
+    let long = "#".repeat(rt.alloc(), 262_145)?;
+    let long = long.as_str();
+    let circle = PEOPLE.replace(rt.alloc(), "\"ben\"]", "\"@clerks\"]")?;
+    let circle = circle.as_str();
+    let key = "[[model]]\nname = \"a\"\n[[model]]\nname = \"b\"\ncolour = \"red\"\n";
+    let none: &[u32] = &[];
+    let table = [
+        (SHUT, PEOPLE, &[1u32] as &[u32], 3, "texts: m\n"),
+        (SHUT, PEOPLE, &[2u32], 3, "texts: p\n"),
+        (long, PEOPLE, none, 4, "models: TooLong\n"),
+        (SHUT, long, none, 4, "people: TooLong\n"),
+        ("[[", long, none, 4, "people: TooLong\n"),
+        (long, PEOPLE, &[2u32], 4, "models: TooLong\n"),
+        ("[[", "[[", none, 4, "models: Syntax\n"),
+        ("", PEOPLE, none, 4, "models: Field 0\n"),
+        (key, circle, none, 4, "models: Field 1\n"),
+        (SHUT, circle, none, 4, "people: Cycle 5\n"),
+        (SHUT, "[[", none, 4, "people: Syntax\n"),
+    ];
+    for (models, people, failing, status, line) in table {
+        let office = Office {
+            texts: &[("m", models), ("p", people)],
+            failing,
+        };
+        let ran = run_office(rt.alloc(), WITH_TEXTS, &office, CREATE, &[], &[])?;
+        assert_eq!(rt; ran.status, Status(status), "{line:?}");
+        assert_eq!(rt; ran.complaints.written(), line.as_bytes());
+        assert_eq!(rt; ran.left, CREATE.len());
+        assert!(rt; ran.output.written().is_empty());
+    }
+    Ok(())
+}
+
+#[test]
+fn names_of_texts_stand_together(rt: HostRuntime) -> Result<(), Fail> {
+    for line in [
+        "run --from 0 --step 0 --models m",
+        "run --from 0 --step 0 --people p",
+        "run --from 0 --step 0 --models m --models m",
+        "run --from 0 --step 0 --models m --people -p",
+        "run --from 0 --step 0 --models m --people p --from 0",
+        "run --models m --people p",
+    ] {
+        let ran = run_with(rt.alloc(), line, CREATE, &[], &[])?;
+        assert_eq!(rt; ran.status, Status(2), "{line:?}");
+        assert_eq!(rt; ran.left, CREATE.len());
+    }
     Ok(())
 }

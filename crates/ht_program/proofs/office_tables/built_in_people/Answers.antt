@@ -1,4 +1,4 @@
-use Rattle.std.proofs.Common.{◌≡◌, Ok, Err, inl, inr, Result, ◌∙◌, sym}
+use Rattle.std.proofs.Common.{◌≡◌, Ok, Err, inl, inr, Result}
 use Rattle.std.specs.Fmt.{digits}
 use Rattle.ht_people.specs.BuiltIn.{built_in_people, built_in_text}
 use Rattle.ht_people.specs.Directory.{DirectoryOf}

@@ -1,0 +1,117 @@
+ghost use Rattle.std.specs.Prelude.{◌≡◌, ◌≤◌, IfOk, IfSome, length, option_map};
+ghost use Rattle.ht_program.specs.Named.{pair_of};
+ghost use Rattle.ht_program.specs.Opening as spec;
+ghost use Rattle.ht_program.specs.Opening.{Gives, HasTextsCause, Judges, Opens};
+
+use crate::office_tables::built_in_tables;
+use crate::words::Named;
+use ht_base::{Bytes, Memory};
+use ht_models::{Models, ModelsRefusal};
+use ht_outside::{TextFault, Texts};
+use ht_people::{Directory, PeopleRefusal};
+use ht_tree::Tables;
+use std::alloc::Global;
+
+/// The most bytes of a text.
+const TEXT_LIMIT: u32 = 262_144;
+
+/// One of the two texts of an office.
+#[derive(Clone, Copy, Debug, PartialEq, Eq)]
+pub enum Which {
+    Models,
+    People,
+}
+
+/// Why the two texts of an office give no tables.
+#[derive(Clone, Copy, Debug)]
+pub enum TextsFault {
+    /// A text could not be read.
+    Unread(Which),
+    /// A text has more than 262,144 bytes.
+    TooLong(Which),
+    Models(ModelsRefusal),
+    People(PeopleRefusal),
+    Memory,
+}
+
+/// The tables without tasks of the office that these texts say, or else of the built-in one. Both
+/// texts are read before they are judged, the models text first.
+pub(crate) fn open<X: Texts>(
+    alloc: Global,
+    named: Option<Named<'_>>,
+    texts: &mut X,
+) -> Result<Tables, TextsFault>
+    ensures opens { Opens (X.texts texts.old) (option_map pair_of named.entry) result }
+    ensures cause { HasTextsCause (X.text_faults texts.old) (X.text_faults texts.new) result }
+{
+    let Some(named) = named else {
+        return match built_in_tables(alloc) {
+            Ok(tables) => Ok(tables),
+            Err(Memory) => Err(TextsFault::Memory),
+        };
+    };
+    let models = match text_of(alloc, texts, Which::Models, named.models) {
+        Ok(models) => models,
+        Err(fault) => return Err(fault),
+    };
+    let people = match text_of(alloc, texts, Which::People, named.people) {
+        Ok(people) => people,
+        Err(fault) => return Err(fault),
+    };
+    judge(alloc, models.as_slice(), people.as_slice())
+}
+
+// The text of this name.
+fn text_of<X: Texts>(
+    alloc: Global,
+    texts: &mut X,
+    which: Which,
+    name: &str,
+) -> Result<Bytes, TextsFault>
+    ensures text { IfSome (X.texts texts.old) (λ text. Gives which (text name.now) result) }
+    ensures kept { X.texts texts.new ≡ X.texts texts.old }
+    ensures cause { spec.HasReadCause (X.text_faults texts.old) (X.text_faults texts.new) result }
+{
+    match texts.read(alloc, name, TEXT_LIMIT) {
+        Ok(bytes) => Ok(bytes),
+        Err(TextFault::Failed) => Err(TextsFault::Unread(which)),
+        Err(TextFault::TooLong) => Err(TextsFault::TooLong(which)),
+        Err(TextFault::Memory) => Err(TextsFault::Memory),
+    }
+}
+
+// The tables of two texts.
+fn judge(alloc: Global, models: &[u8], people: &[u8]) -> Result<Tables, TextsFault>
+    ensures { Judges models.now people.now result }
+{
+    let models = match Models::read(alloc, models) {
+        Ok(models) => models,
+        Err(refusal) => return Err(models_fault(refusal)),
+    };
+    let people = match Directory::read(alloc, people) {
+        Ok(people) => people,
+        Err(refusal) => return Err(people_fault(refusal)),
+    };
+    match Tables::new(alloc, models, people) {
+        Ok(tables) => Ok(tables),
+        Err(Memory) => Err(TextsFault::Memory),
+    }
+}
+
+fn models_fault(refusal: ModelsRefusal) -> TextsFault
+    ensures { result ≡ spec.models_fault refusal }
+{
+    match refusal {
+        ModelsRefusal::Memory => TextsFault::Memory,
+        other => TextsFault::Models(other),
+    }
+}
+
+fn people_fault(refusal: PeopleRefusal) -> TextsFault
+    ensures { result ≡ spec.people_fault refusal }
+{
+    match refusal {
+        PeopleRefusal::Memory => TextsFault::Memory,
+        other => TextsFault::People(other),
+    }
+}
