@@ -13,7 +13,8 @@ untold m p (Err why) j = tt
 
 judged : (m p : List ℕ) (result : Result RoomyTables TextsFault) → AreShort m p → Judges m p result → OpensText m p result
 judged m p (Ok t) short j = (short, j)
-judged m p (Err (Unread w)) short j = tt
+judged m p (Err (Unread which.Models)) short j = absurd j
+judged m p (Err (Unread which.People)) short j = absurd j
 judged m p (Err (TooLong which.Models)) short j = absurd j
 judged m p (Err (TooLong which.People)) short j = absurd j
 judged m p (Err (Models why)) short j = (short, j)

@@ -54,7 +54,8 @@ AreShort m p = (length m ≤ text_limit) × (length p ≤ text_limit)
 -- both are read before they are judged, the models text first
 abbrev pub OpensText : List ℕ → List ℕ → Result RoomyTables TextsFault → Type 0
 OpensText m p (Ok t) = AreShort m p × Judges m p (Ok t)
-OpensText m p (Err (Unread w)) = ⊤
+OpensText m p (Err (Unread which.Models)) = ⊤
+OpensText m p (Err (Unread which.People)) = length m ≤ text_limit
 OpensText m p (Err (TooLong which.Models)) = text_limit < length m
 OpensText m p (Err (TooLong which.People)) = (length m ≤ text_limit) × (text_limit < length p)
 OpensText m p (Err (Models why)) = AreShort m p × Judges m p (Err (Models why))
