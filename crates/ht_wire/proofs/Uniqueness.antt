@@ -12,7 +12,7 @@ use Rattle.ht_wire.specs.declared.reading.Next.TheVariants as next
 use Rattle.ht_wire.specs.declared.request.Request.{Request}
 use Rattle.ht_wire.specs.Fields.{has_body, is_last, person_of}
 use Rattle.ht_wire.specs.Heads.{IsEnd, IsHead, IsTooLong, IsNoHead, IsCorner, IsLineByte, HasBody, fields_of}
-use Rattle.ht_wire.specs.Reading.{Finds, IsTrueTo, IsExact}
+use Rattle.ht_wire.specs.Reading.{Finds, IsEither, IsTrueTo, IsExact}
 use Rattle.ht_wire.specs.Requests.{IsRequest, IsRefused, IsReason, IsSame}
 use Rattle.ht_wire.specs.Window.{window, room, front}
 use Rattle.ht_wire.proofs.Outcomes.{front_of, request_on}
@@ -92,11 +92,11 @@ request_or_refused s r rest code a refused = by_reason refused.why
 
 -- ---- refusals
 
-one_reason : (s : List ℕ) (c d : ℕ) → IsReason s c → IsReason s d → (d ≡ c) ⊎ IsCorner s
+one_reason : (s : List ℕ) (c d : ℕ) → IsReason s c → IsReason s d → (d ≡ c) ⊎ IsEither s c d
 one_reason s c d (inl a) (inl b) = inl (b.0 ∙ sym a.0)
-one_reason s c d (inl a) (inr (inl b)) = inr (long_or_none s a.1 b.1)
+one_reason s c d (inl a) (inr (inl b)) = inr (long_or_none s a.1 b.1, inl (a.0, b.0))
 one_reason s c d (inl a) (inr (inr b)) = absurd (head_or_long s b.1.0 b.1.1 b.1.2 a.1)
-one_reason s c d (inr (inl a)) (inl b) = inr (long_or_none s b.1 a.1)
+one_reason s c d (inr (inl a)) (inl b) = inr (long_or_none s b.1 a.1, inr (a.0, b.0))
 one_reason s c d (inr (inl a)) (inr (inl b)) = inl (b.0 ∙ sym a.0)
 one_reason s c d (inr (inl a)) (inr (inr b)) = absurd (head_or_none s b.1.0 b.1.1 b.1.2 a.1)
 one_reason s c d (inr (inr a)) (inl b) = absurd (head_or_long s a.1.0 a.1.1 a.1.2 b.1)

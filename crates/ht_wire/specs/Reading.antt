@@ -43,11 +43,15 @@ Gives r (Refused code) = ⊥
 Gives r ReadFault = ⊥
 Gives r Memory = ⊥
 
--- the answer is this code, or in a corner any other
+-- in a corner, 431 and 400 stand for each other
+abbrev pub IsEither : List ℕ → ℕ → ℕ → Type 0
+IsEither stream code other = IsCorner stream × (((code ≡ 431) × (other ≡ 400)) ⊎ ((code ≡ 400) × (other ≡ 431)))
+
+-- the answer is this code, or in a corner the other one
 abbrev pub Refuses : List ℕ → ℕ → Next → Type 0
 Refuses stream code (Request s) = ⊥
 Refuses stream code End = ⊥
-Refuses stream code (Refused other) = (other ≡ code) ⊎ IsCorner stream
+Refuses stream code (Refused other) = (other ≡ code) ⊎ IsEither stream code other
 Refuses stream code ReadFault = ⊥
 Refuses stream code Memory = ⊥
 
