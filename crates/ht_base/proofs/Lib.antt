@@ -1,3 +1,4 @@
-pub mod Ascending
-pub mod Indexing
-pub mod Naming
+mod Ascending
+mod Indexing
+mod Naming
+pub mod PublicLaws

@@ -1,12 +1,13 @@
-pub mod Answering
-pub mod Computing
-pub mod Examples
-pub mod Firsts
-pub mod Grammar
-pub mod Parsed
-pub mod Runs
-pub mod Scanned
-pub mod Spelling
-pub mod TokenIn
-pub mod Uniqueness
-pub mod Walking
+mod Answering
+mod Computing
+mod Examples
+mod Firsts
+mod Grammar
+mod Parsed
+pub mod PublicLaws
+mod Runs
+mod Scanned
+mod Spelling
+mod TokenIn
+mod Uniqueness
+mod Walking

@@ -1,5 +1,5 @@
-pub mod Allowed
-pub mod Authorising
-pub mod Leaving
-pub mod Owning
-pub mod Rows
+mod Allowed
+mod Authorising
+mod Leaving
+mod Owning
+mod Rows

@@ -6,7 +6,7 @@ use Rattle.toml.specs.Data.{Members, array, item, member, no_items, no_members, 
 use Rattle.toml.specs.Parse.{parse_document}
 use Rattle.toml.proofs.OnLiterals.{toml_on_literals}
 use Rattle.ht_expr.specs.Assignments.{everybody}
-use Rattle.ht_expr.proofs.Walking.{tree_row}
+use Rattle.ht_expr.proofs.PublicLaws.{tree_row}
 use Rattle.ht_models.specs.declared.refusal.ModelsRefusal.{ModelsRefusal}
 use Rattle.ht_models.specs.declared.refusal.ModelsRefusal.TheVariants.{Syntax, Field, Twice, UnknownModel, Cycle, Expression, Limit, Contradiction, Memory}
 use Rattle.ht_models.specs.Model.{ModelOf}

@@ -7,7 +7,7 @@ use Rattle.toml.proofs.OnLiterals.{toml_on_literals}
 use Rattle.toml.specs.Data.{Members, array, item, member, no_items, no_members, string, table}
 use Rattle.ht_base.specs.Places.{IsLeast, IsRepeated}
 use Rattle.ht_expr.specs.Assignments.{user}
-use Rattle.ht_expr.proofs.Walking.{tree_row}
+use Rattle.ht_expr.proofs.PublicLaws.{tree_row}
 use Rattle.ht_models.specs.declared.refusal.ModelsRefusal.TheVariants.{Field, Twice}
 use Rattle.ht_models.specs.Model.{ModelOf}
 use Rattle.ht_models.specs.ModelsText.{ModelText}

@@ -1,8 +1,8 @@
-pub mod Assignments
-pub mod BuiltIn
-pub mod Examples
-pub mod Firsts
-pub mod Lookups
-pub mod ModelLists
-pub mod Passing
-pub mod Shapes
+mod Assignments
+mod BuiltIn
+mod Examples
+mod Firsts
+mod Lookups
+mod ModelLists
+mod Passing
+mod Shapes

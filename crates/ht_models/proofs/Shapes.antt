@@ -6,7 +6,7 @@ use Rattle.toml.specs.Data.{Data, Members}
 use Rattle.ht_base.specs.Places.{IsLeast}
 use Rattle.ht_toml.specs.Entries.{IsFirstMissing, each}
 use Rattle.ht_toml.specs.Tables.{array_at, has_only}
-use Rattle.ht_toml.proofs.ReadEntries.{all_there}
+use Rattle.ht_toml.proofs.PublicLaws.{all_there}
 use Rattle.ht_models.specs.ModelsText.{IsMisshapen, ModelText, entries, has_entry, is_top, model_of_value, models_text, shapes}
 
 -- under a document of its shape, the first entry of another shape is the least place

@@ -1,1 +1,2 @@
-pub mod Flows
+mod Flows
+pub mod PublicLaws

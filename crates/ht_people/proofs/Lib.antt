@@ -1,18 +1,18 @@
-pub mod AtGroups
-pub mod BuiltIn
-pub mod Closed
-pub mod Descending
-pub mod Filtering
-pub mod Least
-pub mod LongChains
-pub mod Mapped
-pub mod Meeting
-pub mod Membership
-pub mod Merging
-pub mod Names
-pub mod OneAnswer
-pub mod Reaching
-pub mod Refusing
-pub mod Twice
-pub mod TwoLists
-pub mod Unknown
+mod AtGroups
+mod BuiltIn
+mod Closed
+mod Descending
+mod Filtering
+mod Least
+mod LongChains
+mod Mapped
+mod Meeting
+mod Membership
+mod Merging
+mod Names
+mod OneAnswer
+mod Reaching
+mod Refusing
+mod Twice
+mod TwoLists
+mod Unknown

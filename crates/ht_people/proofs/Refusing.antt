@@ -6,7 +6,7 @@ use Rattle.toml.specs.Data.{Data, Members}
 use Rattle.ht_base.specs.Places.{IsLeast}
 use Rattle.ht_toml.specs.Documents.{IsDocument}
 use Rattle.ht_toml.specs.Entries.{each}
-use Rattle.ht_toml.proofs.ReadEntries.{all_there}
+use Rattle.ht_toml.proofs.PublicLaws.{all_there}
 use Rattle.ht_people.specs.declared.entries.PersonEntry.{PersonEntry}
 use Rattle.ht_people.specs.declared.refusal.PeopleRefusal.{PeopleRefusal}
 use Rattle.ht_people.specs.declared.refusal.PeopleRefusal.TheVariants.{Syntax, Field, Twice, UnknownMember, Cycle, Limit, Memory}

@@ -4,7 +4,7 @@ use Rattle.std.specs.Prelude.{slice_get}
 use Rattle.std.proofs.lemmas.Bool.{cases_lt}
 use Rattle.std.proofs.lemmas.List.{length-map}
 use Rattle.std.proofs.lemmas.Option.{slice_get_within}
-use Rattle.ht_base.proofs.Indexing.{front_has, in_front_of}
+use Rattle.ht_base.proofs.PublicLaws.{front_has, in_front_of}
 use Rattle.ht_base.specs.Places.{IsLeast, IsRepeated}
 use Rattle.ht_base.specs.declared.indexes.IndexFault.TheVariants.{Repeated}
 use Rattle.ht_people.specs.declared.entries.MemberName.{MemberName}

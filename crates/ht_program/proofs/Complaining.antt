@@ -2,7 +2,7 @@
 use Rattle.std.proofs.Common.{◌≡◌, ◌∙◌, inl, inr, ℕ, ◌≤◌, Bool, true, false, List, ◌++◌, append_assoc, Option, Result, Ok, Err, is_err, ap, sym, arith}
 use Rattle.ht_outside.specs.Causes.{HasCause, Rose}
 use Rattle.ht_outside.specs.Tells.{WriteGrows}
-use Rattle.ht_wire.proofs.Written.{Grows-trans}
+use Rattle.ht_outside.proofs.PublicLaws.{Grows-trans}
 use Rattle.ht_program.specs.Running.{Complains}
 
 later_rose : (a b n : ℕ) → a ≤ b → Rose b n → Rose a n

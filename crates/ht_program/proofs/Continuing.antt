@@ -8,9 +8,9 @@ use Rattle.ht_tree.specs.Tables.{TablesOf}
 use Rattle.ht_wire.specs.declared.request.Request.{Request}
 use Rattle.ht_wire.specs.Reading.{EndsAt}
 use Rattle.ht_wire.specs.Requests.{AreRequests}
-use Rattle.ht_wire.proofs.Finding.{Takes-trans}
-use Rattle.ht_wire.proofs.Outcomes.{request_on}
-use Rattle.ht_wire.proofs.Written.{Grows-trans}
+use Rattle.ht_outside.proofs.PublicLaws.{Takes-trans}
+use Rattle.ht_wire.proofs.PublicLaws.{request_on}
+use Rattle.ht_outside.proofs.PublicLaws.{Grows-trans}
 use Rattle.ht_program.specs.declared.ending.Ending.{Ending}
 use Rattle.ht_program.specs.declared.ending.Ending.TheVariants as ending
 use Rattle.ht_program.specs.Exchanges.{Exchange, AreExchanges, entries, entry_of, replies, requests, spelled}

@@ -8,7 +8,7 @@ use Rattle.ht_wire.specs.declared.reading.Next.TheVariants as next
 use Rattle.ht_wire.specs.declared.request.Request.{Request}
 use Rattle.ht_wire.specs.Reading.{Reads, EndsAt, RefusedAt}
 use Rattle.ht_wire.specs.Replies.{IsReplyStatus, reply_bytes}
-use Rattle.ht_wire.proofs.Finding.{Takes-none}
+use Rattle.ht_outside.proofs.PublicLaws.{Takes-none}
 use Rattle.ht_wire.specs.Requests.{IsReason, IsRefusalCode}
 use Rattle.ht_program.specs.declared.ending.Ending.TheVariants as ending
 use Rattle.ht_program.specs.declared.routing.ApiRefusal.{ApiRefusal}

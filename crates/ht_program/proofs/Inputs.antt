@@ -7,7 +7,7 @@ use Rattle.ht_wire.specs.declared.request.Request.{Request}
 use Rattle.ht_wire.specs.Heads.{IsEnd}
 use Rattle.ht_wire.specs.Reading.{EndsAt}
 use Rattle.ht_wire.specs.Requests.{AreRequests, IsRequest, IsRefused}
-use Rattle.ht_wire.proofs.Uniqueness.{one_request, request_or_end, request_or_refused}
+use Rattle.ht_wire.proofs.PublicLaws.{one_request, request_or_end, request_or_refused}
 use Rattle.ht_program.specs.declared.ending.Ending.{Ending}
 use Rattle.ht_program.specs.declared.ending.Ending.TheVariants as ending
 use Rattle.ht_program.specs.Exchanges.{Exchange, requests}

@@ -1,10 +1,10 @@
-pub mod Continuing
-pub mod Adding
-pub mod Complaining
-pub mod Exchanging
-pub mod Grammar
-pub mod Inputs
-pub mod Opened
-pub mod Options
-pub mod Rest
-pub mod Statuses
+mod Adding
+mod Complaining
+mod Continuing
+mod Exchanging
+mod Grammar
+mod Inputs
+mod Opened
+mod Options
+mod Rest
+mod Statuses

@@ -1,2 +1,3 @@
-pub mod ReadEntries
-pub mod Views
+pub mod PublicLaws
+mod ReadEntries
+mod Views

@@ -1,6 +1,6 @@
-pub mod Putting
-pub mod Counting
-pub mod Sounding
-pub mod Planning
-pub mod Selecting
-pub mod Fitting
+mod Counting
+mod Fitting
+mod Planning
+mod Putting
+mod Selecting
+mod Sounding

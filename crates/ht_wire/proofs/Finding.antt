@@ -7,6 +7,7 @@ use Rattle.httparse.specs.declared.spans.RequestSpans.{RequestSpans}
 use Rattle.httparse.specs.Grammar.{RequestHead, print_request, HasNoRequest, NeverHasRequest, MayBecomeRequest}
 use Rattle.httparse.specs.Spans.{IsRequestAt, IsRequestWithin, RequestExceeds, RequestOverflows, span_bytes}
 use Rattle.ht_outside.specs.Tells.{Flow, Takes, IsAtEnd}
+use Rattle.ht_outside.proofs.PublicLaws.{Takes-none, Takes-trans}
 use Rattle.ht_wire.specs.declared.reading.Next.{Next}
 use Rattle.ht_wire.specs.declared.reading.Next.TheVariants as next
 use Rattle.ht_wire.specs.declared.request.Request.{Request}
@@ -19,21 +20,6 @@ use Rattle.ht_wire.specs.Requests.{Carries}
 use Rattle.ht_wire.specs.Window.{window, room}
 use Rattle.ht_wire.proofs.Outcomes.{reads_on, never_on, exceeds_on, overflows_on, front_of, front_full, more_on}
 use Rattle.ht_wire.proofs.Uniqueness.{exact_of}
-
-pub Takes-trans : (f g h : Option Flow) (xs ys : List ℕ) → Takes f g xs → Takes g h ys → Takes f h (xs ++ ys)
-Takes-trans None None None xs ys a b = tt
-Takes-trans None None (Some h) xs ys a b = b
-Takes-trans None (Some g) h xs ys a b = absurd a
-Takes-trans (Some f) None h xs ys a b = absurd a
-Takes-trans (Some f) (Some g) None xs ys a b = b
-Takes-trans (Some f) (Some g) (Some h) xs ys a b = record {
-  left = a.left ∙ ap (λ l. xs ++ l) b.left ∙ sym (append_assoc xs ys h.left);
-  taken = b.taken ∙ ap (λ l. l ++ ys) a.taken ∙ append_assoc f.taken xs ys;
-}
-
-pub Takes-none : (f : Option Flow) → Takes f f []
-Takes-none None = tt
-Takes-none (Some f) = record { left = refl; taken = sym (append-nil f.taken) }
 
 -- what was read since the call began
 pub record Took (f g : Option Flow) (old new : List ℕ) : Type 0 where

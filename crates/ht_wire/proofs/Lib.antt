@@ -1,6 +1,7 @@
-pub mod Buffered
-pub mod Finding
-pub mod Outcomes
-pub mod Phrases
-pub mod Uniqueness
-pub mod Written
+mod Buffered
+mod Finding
+mod Outcomes
+mod Phrases
+pub mod PublicLaws
+mod Uniqueness
+mod Written

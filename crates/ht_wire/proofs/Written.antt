@@ -1,16 +1,9 @@
 -- A reply that goes out by two writes.
-use Rattle.std.proofs.Common.{ℕ, List, ◌++◌, sym, ap, ◌∙◌, append_assoc, Option, Some, None, Result, Ok, Err}
+use Rattle.std.proofs.Common.{ℕ, List, ◌++◌, sym, ap, ◌∙◌, append_assoc, Option, Result, Ok, Err}
 use Rattle.std.specs.Result.{IsErr}
 use Rattle.std.specs.Prelude.{⊤}
 use Rattle.ht_outside.specs.Tells.{Grows, GrowsPart, WriteGrows}
-
-pub Grows-trans : (f g h : Option (List ℕ)) (xs ys : List ℕ) → Grows f g xs → Grows g h ys → Grows f h (xs ++ ys)
-Grows-trans None None None xs ys a b = tt
-Grows-trans None None (Some h) xs ys a b = b
-Grows-trans None (Some g) h xs ys a b = absurd a
-Grows-trans (Some f) None h xs ys a b = absurd a
-Grows-trans (Some f) (Some g) None xs ys a b = b
-Grows-trans (Some f) (Some g) (Some h) xs ys a b = b ∙ ap (λ l. l ++ ys) a ∙ append_assoc f xs ys
+use Rattle.ht_outside.proofs.PublicLaws.{Grows-trans}
 
 -- the first piece was written, and then as much of the second as the second write says
 pub second_write : {E : Type 0} (f g h : Option (List ℕ)) (xs ys : List ℕ) (result : Result ⊤ E) → Grows f g xs → WriteGrows g h result ys → WriteGrows f h result (xs ++ ys)

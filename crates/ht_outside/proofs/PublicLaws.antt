@@ -1,0 +1,26 @@
+-- Laws of the definitions, for the proofs of crates above: how takings and writings go on.
+use Rattle.std.proofs.Common.{List, [], ◌++◌, ℕ, refl, append-nil, append_assoc, ap, sym, ◌∙◌, Option, Some, None}
+use Rattle.ht_outside.specs.Tells.{Flow, Takes, Grows}
+
+pub Takes-trans : (f g h : Option Flow) (xs ys : List ℕ) → Takes f g xs → Takes g h ys → Takes f h (xs ++ ys)
+Takes-trans None None None xs ys a b = tt
+Takes-trans None None (Some h) xs ys a b = b
+Takes-trans None (Some g) h xs ys a b = absurd a
+Takes-trans (Some f) None h xs ys a b = absurd a
+Takes-trans (Some f) (Some g) None xs ys a b = b
+Takes-trans (Some f) (Some g) (Some h) xs ys a b = record {
+  left = a.left ∙ ap (λ l. xs ++ l) b.left ∙ sym (append_assoc xs ys h.left);
+  taken = b.taken ∙ ap (λ l. l ++ ys) a.taken ∙ append_assoc f.taken xs ys;
+}
+
+pub Takes-none : (f : Option Flow) → Takes f f []
+Takes-none None = tt
+Takes-none (Some f) = record { left = refl; taken = sym (append-nil f.taken) }
+
+pub Grows-trans : (f g h : Option (List ℕ)) (xs ys : List ℕ) → Grows f g xs → Grows g h ys → Grows f h (xs ++ ys)
+Grows-trans None None None xs ys a b = tt
+Grows-trans None None (Some h) xs ys a b = b
+Grows-trans None (Some g) h xs ys a b = absurd a
+Grows-trans (Some f) None h xs ys a b = absurd a
+Grows-trans (Some f) (Some g) None xs ys a b = b
+Grows-trans (Some f) (Some g) (Some h) xs ys a b = b ∙ ap (λ l. l ++ ys) a ∙ append_assoc f xs ys
