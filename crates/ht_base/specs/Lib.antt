@@ -1,6 +1,7 @@
 pub mod Bytes
 pub mod Examples
 pub mod Indexes
+pub mod Moment
 pub mod Name
 pub mod NameBytes
 pub mod Persons

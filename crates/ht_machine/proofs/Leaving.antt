@@ -10,7 +10,8 @@ use Rattle.ht_base.specs.Places.{place_in}
 use Rattle.ht_models.specs.Model.{ModelOf, names}
 use Rattle.ht_people.specs.Directory.{find}
 use Rattle.ht_tree.specs.Plans.{IsPlanOf, PlanOf, no_plan, planned}
-use Rattle.ht_tree.specs.Soundness.{IsSound, last_moment}
+use Rattle.ht_base.specs.Moment.{last_moment}
+use Rattle.ht_tree.specs.Soundness.{IsSound}
 use Rattle.ht_tree.specs.Tables.{TablesOf}
 use Rattle.ht_machine.specs.Commands.{Attempt, attempt, create, create_at, create_named}
 use Rattle.ht_machine.specs.Deciding.{asked, for_person, moment_of, reply, settled, stays}

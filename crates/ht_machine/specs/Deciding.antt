@@ -15,11 +15,11 @@ use Rattle.ht_base.specs.declared.reply.Refusal.{Refusal}
 use Rattle.ht_base.specs.declared.reply.Refusal.TheVariants as refusal
 use Rattle.ht_base.specs.declared.reply.Reply.{Reply}
 use Rattle.ht_base.specs.declared.task_id.TaskId.{TaskId}
+use Rattle.ht_base.specs.Moment.{last_moment}
 use Rattle.ht_people.specs.Directory.{DirectoryOf, find}
 use Rattle.ht_tree.specs.declared.row.Row.{Row}
 use Rattle.ht_tree.specs.Roles.{roles_in}
 use Rattle.ht_tree.specs.Rows.{row_at}
-use Rattle.ht_tree.specs.Soundness.{last_moment}
 use Rattle.ht_tree.specs.Tables.{TablesOf}
 use Rattle.ht_machine.specs.Authorisation.{why_not}
 use Rattle.ht_machine.specs.Commands.{Attempt, accepted, refused, attempt}

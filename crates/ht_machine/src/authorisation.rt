@@ -19,11 +19,10 @@ pub(crate) fn why_no_claim(roles: &Roles, state: State) -> Option<Refusal>
     None
 }
 
-/// Why who has these roles may not see a task, which others see in every state.
-pub(crate) fn why_no_sheet(roles: &Roles, state: State) -> Option<Refusal>
-    ensures { result ≡ why_not Op.Get roles.now state }
+/// Why who has these roles may not see a task. Others see it in every state.
+pub(crate) fn why_no_sheet(roles: &Roles) -> Option<Refusal>
+    ensures { (state : State) → result ≡ why_not Op.Get roles.now state }
 {
-    let _ = state;
     if sees_tasks(roles) {
         return None;
     }

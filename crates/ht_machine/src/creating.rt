@@ -1,8 +1,8 @@
 ghost use Rattle.std.specs.Prelude.{◌<◌, ◌≤◌, IfOk, length};
+ghost use Rattle.ht_base.specs.Moment.{last_moment};
 ghost use Rattle.ht_machine.specs.Commands as spec;
 ghost use Rattle.ht_machine.specs.Planning.{Finds, LeavesSound, Tries};
 ghost use Rattle.ht_tree.specs.Plans.{IsPlanOf, planned};
-ghost use Rattle.ht_tree.specs.Soundness.{last_moment};
 
 use crate::activating::activate;
 use crate::stop::Stop;

@@ -1,11 +1,12 @@
 ghost use Rattle.std.specs.Prelude.{◌≡◌, ◌≤◌, ◌<◌, IfOk, OnErr, length};
+ghost use Rattle.ht_base.specs.Moment.{last_moment};
 ghost use Rattle.ht_machine.specs.Commands as commands;
 ghost use Rattle.ht_machine.specs.Deciding as spec;
 ghost use Rattle.ht_machine.specs.Deciding.{IsValid};
 ghost use Rattle.ht_machine.specs.Planning.{Decides, Leaves, Tries};
 ghost use Rattle.ht_tree.specs.Plans.{no_plan};
 ghost use Rattle.ht_tree.specs.Rows.{row_at};
-ghost use Rattle.ht_tree.specs.Soundness.{IsSound, last_moment};
+ghost use Rattle.ht_tree.specs.Soundness.{IsSound};
 
 use crate::authorisation::why_no_sheet;
 use crate::claiming::claim;
@@ -183,7 +184,7 @@ fn show(
         return Ok(Answer::Refused(Refusal::Task(task)));
     };
     let roles = plan.roles_of(tables, task, caller);
-    match why_no_sheet(&roles, row.state) {
+    match why_no_sheet(&roles) {
         Some(refusal) => Ok(Answer::Refused(refusal)),
         None => Ok(Answer::Sheet(sheet(alloc, tables, row)?)),
     }

@@ -3,8 +3,8 @@ ghost use Rattle.ht_machine.specs.Deciding.{IsValid};
 
 use crate::{decide, run_one};
 use ht_base::{
-    Answer, Command, Event, Limit, Moment, Name, Query, Record, Refusal, Role, Roles, State,
-    StateSet, TaskId, Unknown,
+    Answer, Command, Event, Limit, Moment, Name, Names, Query, Record, Refusal, Role, Roles, Sheet,
+    State, StateSet, TaskId, Unknown,
 };
 use ht_models::Models;
 use ht_people::Directory;
@@ -66,17 +66,6 @@ fn get(caller: &str) -> Option<Event>
     })
 }
 
-// A claim or a sheet of the first task, or a create of the model with this name.
-fn asked(what: &str, caller: &str) -> Option<Event>
-    ensures { IfSome result IsValid }
-{
-    match what {
-        "claim" => claim(caller, 3000),
-        "get" => get(caller),
-        model => create(caller, 3000, model),
-    }
-}
-
 // The task, its state and its owner, where the event is accepted.
 fn done_of(answer: &Answer) -> Option<(TaskId, State, Option<Name>)> {
     match answer {
@@ -93,6 +82,50 @@ fn refusal_of(answer: &Answer) -> Option<Refusal> {
         Answer::Done { .. } => None,
         Answer::Sheet(_) => None,
     }
+}
+
+// A task of the first model, which anna has claimed.
+fn claimed_tables(alloc: Global) -> Result<Tables, Fail> {
+    let mut tables = tables(alloc)?;
+    let created = create("dan", 1000, "unit").ok_or("an event")?;
+    run_one(alloc, &mut tables, &created)?;
+    let claimed = claim("anna", 2000).ok_or("an event")?;
+    run_one(alloc, &mut tables, &claimed)?;
+    Ok(tables)
+}
+
+// The event is refused so, and changes nothing.
+fn is_refused(
+    alloc: Global,
+    tables: &mut Tables,
+    event: &Event,
+    refusal: Refusal,
+) -> Result<bool, Fail>
+    requires { IsValid event.now }
+{
+    let before = (tables.last(), tables.rows());
+    let decision = decide(alloc, tables, event)?;
+    let is_told = refusal_of(&decision.reply.answer) == Some(refusal);
+    let is_left = decision.left.is_some() || decision.reply.taken != 0;
+    run_one(alloc, tables, event)?;
+    Ok(is_told && !is_left && (tables.last(), tables.rows()) == before)
+}
+
+fn sheet_for(alloc: Global, tables: &mut Tables, caller: &str) -> Result<Sheet, Fail> {
+    let event = get(caller).ok_or("an event")?;
+    match run_one(alloc, tables, &event)?.answer {
+        Answer::Sheet(sheet) => Ok(sheet),
+        _ => Err(Fail::from("no sheet")),
+    }
+}
+
+fn are_names(names: &Names, texts: &[&str]) -> bool {
+    let names = names.as_slice();
+    names.len() == texts.len()
+        && names
+            .iter()
+            .zip(texts.iter())
+            .all(|(name, text)| name.as_bytes() == text.as_bytes())
 }
 
 #[test]
@@ -115,44 +148,65 @@ fn tasks_are_created_by_their_models(rt: HostRuntime) -> Result<(), Fail> {
 }
 
 #[test]
-fn refusals_change_nothing(rt: HostRuntime) -> Result<(), Fail> {
-    let mut tables = tables(rt.alloc())?;
-    let first = create("dan", 1000, "unit").ok_or("an event")?;
-    run_one(rt.alloc(), &mut tables, &first)?;
-    let claimed = claim("anna", 2000).ok_or("an event")?;
-    run_one(rt.alloc(), &mut tables, &claimed)?;
+fn claims_are_refused(rt: HostRuntime) -> Result<(), Fail> {
+    let mut tables = claimed_tables(rt.alloc())?;
     let needs = Roles::NONE.with(Role::PotentialOwner);
-    let sees = needs
-        .with(Role::Initiator)
-        .with(Role::Stakeholder)
-        .with(Role::ActualOwner)
-        .with(Role::Administrator);
     let taken = Refusal::State {
         allowed: StateSet::NONE.with(State::Ready),
         state: State::Reserved,
     };
+    let table = [
+        ("ben", taken),
+        ("anna", taken),
+        ("root", Refusal::Role { needs }),
+        ("dan", Refusal::Role { needs }),
+        ("cora", Refusal::Role { needs }),
+        ("eve", Refusal::Person),
+    ];
+    for (caller, refusal) in table {
+        let event = claim(caller, 3000).ok_or("an event")?;
+        assert!(rt;
+            is_refused(rt.alloc(), &mut tables, &event, refusal)?,
+            "{caller}"
+        );
+    }
+    Ok(())
+}
+
+#[test]
+fn creates_are_refused(rt: HostRuntime) -> Result<(), Fail> {
+    let mut tables = claimed_tables(rt.alloc())?;
     let unknown = Unknown::Model(Name::of(b"sole").ok_or("a name")?);
     let table = [
-        ("claim", "ben", taken),
-        ("claim", "anna", taken),
-        ("claim", "root", Refusal::Role { needs }),
-        ("claim", "dan", Refusal::Role { needs }),
-        ("claim", "cora", Refusal::Role { needs }),
-        ("claim", "eve", Refusal::Person),
-        ("unit", "eve", Refusal::Person),
-        ("sole", "dan", Refusal::Unknown(unknown)),
-        ("get", "root", Refusal::Role { needs: sees }),
-        ("get", "eve", Refusal::Person),
+        ("eve", "unit", Refusal::Person),
+        ("dan", "sole", Refusal::Unknown(unknown)),
     ];
-    for (what, caller, refusal) in table {
-        let event = asked(what, caller).ok_or("an event")?;
-        let decision = decide(rt.alloc(), &mut tables, &event)?;
-        assert!(rt; decision.left.is_none());
-        assert_eq!(rt; refusal_of(&decision.reply.answer), Some(refusal));
-        assert_eq!(rt; decision.reply.taken, 0);
-        run_one(rt.alloc(), &mut tables, &event)?;
-        assert_eq!(rt; tables.last(), Moment(2000));
-        assert_eq!(rt; tables.rows(), 1);
+    for (caller, model, refusal) in table {
+        let event = create(caller, 3000, model).ok_or("an event")?;
+        assert!(rt;
+            is_refused(rt.alloc(), &mut tables, &event, refusal)?,
+            "{caller}"
+        );
+    }
+    Ok(())
+}
+
+#[test]
+fn sheets_are_refused(rt: HostRuntime) -> Result<(), Fail> {
+    let mut tables = claimed_tables(rt.alloc())?;
+    let needs = Roles::NONE
+        .with(Role::Initiator)
+        .with(Role::Stakeholder)
+        .with(Role::PotentialOwner)
+        .with(Role::ActualOwner)
+        .with(Role::Administrator);
+    let table = [("root", Refusal::Role { needs }), ("eve", Refusal::Person)];
+    for (caller, refusal) in table {
+        let event = get(caller).ok_or("an event")?;
+        assert!(rt;
+            is_refused(rt.alloc(), &mut tables, &event, refusal)?,
+            "{caller}"
+        );
     }
     Ok(())
 }
@@ -181,24 +235,30 @@ fn a_task_is_claimed(rt: HostRuntime) -> Result<(), Fail> {
 #[test]
 fn a_task_is_shown(rt: HostRuntime) -> Result<(), Fail> {
     let mut tables = tables(rt.alloc())?;
-    let first = create("dan", 1000, "unit").ok_or("an event")?;
-    run_one(rt.alloc(), &mut tables, &first)?;
+    let created = create("dan", 1000, "unit").ok_or("an event")?;
+    run_one(rt.alloc(), &mut tables, &created)?;
+    let sheet = sheet_for(rt.alloc(), &mut tables, "dan")?;
+    assert_eq!(rt;
+        (sheet.task, sheet.state, sheet.owner.is_none()),
+        (TaskId(1), State::Ready, true)
+    );
+    assert_eq!(rt; (sheet.created, sheet.by_group), (Moment(1000), true));
+    assert!(rt; Some(sheet.initiator) == Name::of(b"dan"));
+    assert!(rt; Some(sheet.model) == Name::of(b"unit"));
+    Ok(())
+}
+
+#[test]
+fn a_claimed_task_is_shown_to_its_people(rt: HostRuntime) -> Result<(), Fail> {
+    let mut tables = claimed_tables(rt.alloc())?;
     for caller in ["anna", "ben", "cora", "dan"] {
-        let event = get(caller).ok_or("an event")?;
-        let reply = run_one(rt.alloc(), &mut tables, &event)?;
-        let Answer::Sheet(sheet) = reply.answer else {
-            return Err(Fail::from("no sheet"));
-        };
-        assert_eq!(rt; sheet.state, State::Ready);
-        assert_eq!(rt; sheet.created, Moment(1000));
-        assert!(rt; sheet.by_group);
-        assert!(rt; Some(sheet.initiator) == Name::of(b"dan"));
-        assert!(rt; Some(sheet.model) == Name::of(b"unit"));
-        let owners = sheet.potential_owners.as_slice();
-        assert_eq!(rt; owners.len(), 2);
-        assert!(rt; owners.first().copied() == Name::of(b"anna"));
-        let administrators = sheet.administrators.as_slice();
-        assert!(rt; administrators.first().copied() == Name::of(b"cora"));
+        let sheet = sheet_for(rt.alloc(), &mut tables, caller)?;
+        assert!(rt;
+            sheet.state == State::Reserved && sheet.owner == Name::of(b"anna"),
+            "{caller}"
+        );
+        assert!(rt; are_names(&sheet.potential_owners, &["anna", "ben"]));
+        assert!(rt; are_names(&sheet.administrators, &["cora"]));
     }
     Ok(())
 }

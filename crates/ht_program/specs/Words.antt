@@ -1,10 +1,7 @@
 -- The words of the command line: the command run, and then its options.
 use Rattle.std.specs.Prelude.{◌≡◌, ℕ, ◌+◌, ◌*◌, ◌≤◌, ◌==◌, min, Bool, true, false, not, ◌&&◌, List, [], ◌∷◌, Option, Some, None, is_none, bytes_eq, codes, decimal, if◌then◌else◌, ⊤}
 use Rattle.std.specs.List.{list_any}
-
--- the last moment there is, in milliseconds since 1970-01-01T00:00:00Z
-abbrev pub last_moment : ℕ
-last_moment = 253402300799999
+use Rattle.ht_base.specs.Moment.{last_moment}
 
 -- the word is this number of 0 to the last moment, in decimal without leading zeros
 pub record IsNumber (word : List ℕ) (n : ℕ) : Type 0 where

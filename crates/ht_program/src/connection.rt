@@ -1,5 +1,6 @@
 ghost use Rattle.std.specs.Prelude.{◌≡◌, ◌+◌, ◌<◌, ◌≤◌, [], length, Some, IfOk, MatchOption};
 ghost use Rattle.ht_outside.specs.Causes.{HasCause};
+ghost use Rattle.ht_base.specs.Moment.{last_moment};
 ghost use Rattle.ht_machine.specs.Deciding.{IsValid, decide};
 ghost use Rattle.ht_wire.specs.Reading.{HasReadCause};
 ghost use Rattle.ht_wire.specs.Replies.{IsReplyStatus};
@@ -7,7 +8,6 @@ ghost use Rattle.ht_program.specs.Answering.{Answers, Decides};
 ghost use Rattle.ht_program.specs.Inputs.{budget};
 ghost use Rattle.ht_program.specs.Running.{Follows, Goes, HasCauses, Ran};
 ghost use Rattle.ht_program.specs.Texts.{memory_text};
-ghost use Rattle.ht_program.specs.Words.{last_moment};
 
 use crate::ending::Ending;
 use crate::routing::event_of;

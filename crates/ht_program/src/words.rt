@@ -1,7 +1,8 @@
 ghost use Rattle.std.specs.Prelude.{◌≡◌, ◌≤◌, ℕ, List, Option, Some, bytes_eq, codes, map, option_map, string_bytes, IfSome, IfNone};
 ghost use Rattle.std.specs.List.{list_any};
+ghost use Rattle.ht_base.specs.Moment.{last_moment};
 ghost use Rattle.ht_program.specs.Words as spec;
-ghost use Rattle.ht_program.specs.Words.{AreTexts, IsNumber, IsRun, last_moment, moment_of};
+ghost use Rattle.ht_program.specs.Words.{AreTexts, IsNumber, IsRun, moment_of};
 ghost use Rattle.ht_program.specs.Named.{pair_of};
 
 use crate::numbers::decimal_of;

@@ -13,7 +13,8 @@ use Rattle.ht_tree.specs.Creating.{new_row, parent_row, role_or}
 use Rattle.ht_tree.specs.Plans.{Follow, last_of, later_or}
 use Rattle.ht_tree.specs.Rows.{put_in, row_at}
 use Rattle.ht_base.specs.Persons.{AllBelow, Ascends}
-use Rattle.ht_tree.specs.Soundness.{Fits, IsSound, IsSoundRow, last_moment}
+use Rattle.ht_base.specs.Moment.{last_moment}
+use Rattle.ht_tree.specs.Soundness.{Fits, IsSound, IsSoundRow}
 use Rattle.ht_tree.specs.Tables.{TablesOf}
 use Rattle.ht_tree.proofs.Putting.{row_at-put_in}
 use Rattle.ht_tree.proofs.Selecting.{selected_apart, selected_ascends}

@@ -2,15 +2,12 @@
 use Rattle.std.specs.Prelude.{◌≡◌, ℕ, ◌<◌, ◌≤◌, Bool, true, false, List, length, Some, is_some, IsTrue, IfSome}
 use Rattle.ht_base.specs.declared.state.State.{State}
 use Rattle.ht_base.specs.declared.state.State.TheVariants.{Created, Reserved, InProgress, SuspendedReady, SuspendedReserved, SuspendedInProgress}
+use Rattle.ht_base.specs.Moment.{last_moment}
 use Rattle.ht_base.specs.Persons.{AllBelow, Ascends, has}
 use Rattle.ht_tree.specs.declared.row.Row.{Row}
 use Rattle.ht_tree.specs.Rows.{row_at}
 use Rattle.ht_tree.specs.Sizes.{most_tasks, total_size}
 use Rattle.ht_tree.specs.Tables.{TablesOf}
-
--- the last moment there is, in milliseconds since 1970-01-01T00:00:00Z
-abbrev pub last_moment : ℕ
-last_moment = 253402300799999
 
 -- ---- states (WS-HumanTask 1.1, 4.10)
 

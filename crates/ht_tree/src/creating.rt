@@ -1,10 +1,10 @@
 ghost use Rattle.std.specs.Prelude.{◌≡◌, ◌<◌, ◌≤◌, ◌+◌, ◌^◌, [], IfOk, IfSome, OnErr, OnOk, None, Err, length, option_map, slice_get};
 ghost use Rattle.std.specs.Option.{option_map_or};
+ghost use Rattle.ht_base.specs.Moment.{last_moment};
 ghost use Rattle.ht_expr.specs.Shown.{shown};
 ghost use Rattle.ht_tree.specs.Assigning.{potential_owners, resolved};
 ghost use Rattle.ht_tree.specs.Creating as spec;
 ghost use Rattle.ht_tree.specs.Creating.{IsFull, role_or};
-ghost use Rattle.ht_tree.specs.Soundness.{last_moment};
 ghost use Rattle.ht_tree.specs.Plans.{IsPlanOf, KeepsSound, planned_rows, with_row};
 
 use crate::assigning::found;

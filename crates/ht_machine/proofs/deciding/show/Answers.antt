@@ -20,7 +20,7 @@ returns-in-Some-why_no_sheet c =
     let R : Option Row → Type 0 = λ o. IfSome o (λ r. c.roles_of-roles.result ≡ roles_in t.people r c.args.caller) in
     let roles : c.roles_of-roles.result ≡ roles_in t.people row c.args.caller = subst R at (subst P c.requires.plan c.roles_of-roles.ensures) in
     let why : why_not Get (roles_in t.people row c.args.caller) row.state ≡ Some c.in-Some-why_no_sheet.refusal =
-    sym (ap (λ (r : Roles). why_not Get r row.state) roles) ∙ sym c.why_no_sheet.ensures ∙ c.in-Some-why_no_sheet.is in
+    sym (ap (λ (r : Roles). why_not Get r row.state) roles) ∙ sym (c.why_no_sheet.ensures row.state) ∙ c.in-Some-why_no_sheet.is in
     sym (sheet_is t c.args.caller c.args.task.0 (row_at c.args.task.0 t.rows) row (Some c.in-Some-why_no_sheet.refusal) at why)
 
 pub returns-in_ok-sheet-in-None : goal.returns-in_ok-sheet-in-None
@@ -32,5 +32,5 @@ returns-in_ok-sheet-in-None c =
     let R : Option Row → Type 0 = λ o. IfSome o (λ r. c.roles_of-roles.result ≡ roles_in t.people r c.args.caller) in
     let roles : c.roles_of-roles.result ≡ roles_in t.people row c.args.caller = subst R at (subst P c.requires.plan c.roles_of-roles.ensures) in
     let why : why_not Get (roles_in t.people row c.args.caller) row.state ≡ None =
-    sym (ap (λ (r : Roles). why_not Get r row.state) roles) ∙ sym c.why_no_sheet.ensures ∙ c.in-None.is in
+    sym (ap (λ (r : Roles). why_not Get r row.state) roles) ∙ sym (c.why_no_sheet.ensures row.state) ∙ c.in-None.is in
     ap (λ (s : TaskSheet). Sheet s) c.in_ok-sheet-in-None.ensures ∙ sym (sheet_is t c.args.caller c.args.task.0 (row_at c.args.task.0 t.rows) row None at why)

@@ -1,7 +1,8 @@
 use Rattle.std.proofs.Common.{◌≤◌, sym, subst, arith}
 use Rattle.std.proofs.lemmas.Result.{on_ok_weaker}
 use Rattle.ht_tree.specs.Plans.{PlanOf, planned}
-use Rattle.ht_tree.specs.Soundness.{IsSound, last_moment}
+use Rattle.ht_base.specs.Moment.{last_moment}
+use Rattle.ht_tree.specs.Soundness.{IsSound}
 use Rattle.ht_tree.proofs.tests.planned.Goals as goal
 
 pub returns-clause-sound : goal.returns-clause-sound
