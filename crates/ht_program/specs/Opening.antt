@@ -97,13 +97,8 @@ abbrev pub people_fault : PeopleRefusal → TextsFault
 people_fault people.Memory = Memory
 people_fault why = People why
 
--- a text that couldn't be read has a cause, and the count never falls
-pub record HasReadCause (before now : ℕ) (result : Result BytesOf TextsFault) : Type 0 where
-  pub later : before ≤ now
-  pub unread : (w : Which) → result ≡ Err (Unread w) → Rose before now
-
--- and so where both are read
-pub record HasTextsCause (before now : ℕ) (result : Result RoomyTables TextsFault) : Type 0 where
+-- that a text couldn't be read has a cause, and the count never falls
+pub record HasTextsCause {T : Type 0} (before now : ℕ) (result : Result T TextsFault) : Type 0 where
   pub later : before ≤ now
   pub unread : (w : Which) → result ≡ Err (Unread w) → Rose before now
 

@@ -70,7 +70,7 @@ fn text_of<X: Texts>(
 ) -> Result<Bytes, TextsFault>
     ensures text { IfSome (X.texts texts.old) (λ text. Gives which (text name.now) result) }
     ensures kept { X.texts texts.new ≡ X.texts texts.old }
-    ensures cause { spec.HasReadCause (X.text_faults texts.old) (X.text_faults texts.new) result }
+    ensures cause { HasTextsCause (X.text_faults texts.old) (X.text_faults texts.new) result }
 {
     match texts.read(alloc, name, TEXT_LIMIT) {
         Ok(bytes) => Ok(bytes),
