@@ -1,4 +1,4 @@
--- Who may do what in which state (WS-HumanTask 1.1, 7.1.4 "Operation Authorizations"; narrowed).
+-- Who may do what in which state (WS-HumanTask 1.1, 7.1.5 "Operation Authorizations"; narrowed).
 use Rattle.std.specs.Prelude.{Bool, ◌||◌, List, [], ◌∷◌, map, fold, Option, Some, None, if◌then◌else◌}
 use Rattle.std.specs.List.{flat_map, list_any}
 use Rattle.ht_base.specs.declared.operation.Op.{Op}

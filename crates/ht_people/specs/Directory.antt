@@ -1,5 +1,5 @@
 -- The directory: persons and groups, each named by its place, persons first and then groups (people
--- assignment, WS-HumanTask 1.1, 3.2).
+-- assignment, WS-HumanTask 1.1, 3.5).
 use Rattle.std.specs.Prelude.{ℕ, ◌+◌, ◌-◌, nat_lt, List, [], length, map, Option, option_map, unwrap_or, slice_get, if◌then◌else◌}
 use Rattle.std.specs.Option.{option_map_or}
 use Rattle.ht_base.specs.Places.{place_in}

@@ -1,5 +1,5 @@
 -- What a people text says, by the shape of its document: persons, and groups with their members
--- (people assignment, WS-HumanTask 1.1, 3.2).
+-- (people assignment, WS-HumanTask 1.1, 3.5).
 use Rattle.std.specs.Prelude.{◌≡◌, ◌⊎◌, ℕ, ◌==◌, ◌&&◌, Bool, false, List, [], ◌∷◌, ◌++◌, map, Option, Some, None, is_some, option_map, unwrap_or, slice_get, codes, if◌then◌else◌}
 use Rattle.std.specs.Option.{option_and_then}
 use Rattle.toml.specs.Data.{Data, Members, as_str, as_table}

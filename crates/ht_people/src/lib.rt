@@ -1,5 +1,5 @@
 //! The directory: persons, groups and who is in them, read from a TOML text, and sets of persons
-//! (people assignment, WS-HumanTask 1.1, 3.2).
+//! (people assignment, WS-HumanTask 1.1, 3.5).
 #![tactic(auto)]
 
 mod built_in;

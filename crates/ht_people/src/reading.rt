@@ -14,7 +14,7 @@ const MOST_PERSONS: usize = 1024;
 const MOST_GROUPS: usize = 256;
 
 impl Directory {
-    /// The directory of a people text (people assignment, WS-HumanTask 1.1, 3.2), or the first
+    /// The directory of a people text (people assignment, WS-HumanTask 1.1, 3.5), or the first
     /// refusal that holds of it.
     ///
     /// The text is TOML. It may have an array `person` of tables, each with a `name` and, where the

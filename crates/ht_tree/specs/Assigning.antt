@@ -1,4 +1,4 @@
--- Whom a people assignment finds (WS-HumanTask 1.1, 3.1 and 4.3): persons of the directory, in
+-- Whom a people assignment finds (WS-HumanTask 1.1, 3.1 and 3.5): persons of the directory, in
 -- ascending order.
 use Rattle.std.specs.Prelude.{ℕ, ◌==◌, Bool, true, false, not, ◌&&◌, ◌||◌, List, filter, Option}
 use Rattle.std.specs.Option.{option_and_then, option_map_or}

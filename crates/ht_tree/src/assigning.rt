@@ -25,7 +25,7 @@ pub fn env(_alloc: Global, tables: &Tables, plan: &Plan, row: &Row) -> Result<En
     })
 }
 
-/// The persons whom an assignment finds for a row, in ascending order (WS-HumanTask 1.1, 4.3).
+/// The persons whom an assignment finds for a row, in ascending order (WS-HumanTask 1.1, 3.5).
 pub fn resolve(
     alloc: Global,
     tables: &Tables,
