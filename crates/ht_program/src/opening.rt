@@ -11,6 +11,7 @@ use ht_outside::{TextFault, Texts};
 use ht_people::{Directory, PeopleRefusal};
 use ht_tree::Tables;
 use std::alloc::Global;
+use thiserror::Error;
 
 /// The most bytes of a text.
 const TEXT_LIMIT: u32 = 262_144;
@@ -23,15 +24,30 @@ pub enum Which {
 }
 
 /// Why the two texts of an office give no tables.
-#[derive(Clone, Copy, Debug)]
+#[derive(Clone, Copy, Debug, Error)]
 pub enum TextsFault {
-    /// A text could not be read.
+    #[error("a text can't be read")]
     Unread(Which),
     /// A text has more than 262,144 bytes.
+    #[error("a text is too long")]
     TooLong(Which),
+    #[error("the models text is refused")]
     Models(ModelsRefusal),
+    #[error("the people text is refused")]
     People(PeopleRefusal),
+    #[error("out of memory")]
     Memory,
+}
+
+impl From<Memory> for TextsFault {
+    ghost use Rattle.std.specs.Prelude.{◌≡◌};
+    ghost use Rattle.ht_program.specs.declared.opening.TextsFault.TheVariants as fault;
+
+    ghost from_gives = { λ _ f. f ≡ fault.Memory };
+
+    fn from(_memory: Memory) -> TextsFault {
+        TextsFault::Memory
+    }
 }
 
 /// The tables without tasks of the office that these texts say, or else of the built-in one. Both
@@ -45,19 +61,10 @@ pub(crate) fn open<X: Texts>(
     ensures cause { HasTextsCause (X.text_faults texts.old) (X.text_faults texts.new) result }
 {
     let Some(named) = named else {
-        return match built_in_tables(alloc) {
-            Ok(tables) => Ok(tables),
-            Err(Memory) => Err(TextsFault::Memory),
-        };
+        return Ok(built_in_tables(alloc)?);
     };
-    let models = match text_of(alloc, texts, Which::Models, named.models) {
-        Ok(models) => models,
-        Err(fault) => return Err(fault),
-    };
-    let people = match text_of(alloc, texts, Which::People, named.people) {
-        Ok(people) => people,
-        Err(fault) => return Err(fault),
-    };
+    let models = text_of(alloc, texts, Which::Models, named.models)?;
+    let people = text_of(alloc, texts, Which::People, named.people)?;
     judge(alloc, models.as_slice(), people.as_slice())
 }
 
@@ -92,10 +99,7 @@ fn judge(alloc: Global, models: &[u8], people: &[u8]) -> Result<Tables, TextsFau
         Ok(people) => people,
         Err(refusal) => return Err(people_fault(refusal)),
     };
-    match Tables::new(alloc, models, people) {
-        Ok(tables) => Ok(tables),
-        Err(Memory) => Err(TextsFault::Memory),
-    }
+    Ok(Tables::new(alloc, models, people)?)
 }
 
 fn models_fault(refusal: ModelsRefusal) -> TextsFault

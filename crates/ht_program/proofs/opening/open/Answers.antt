@@ -9,6 +9,6 @@ pub returns-clause-opens : goal.returns-clause-opens
 returns-clause-opens g c =
     let told = g.X.Texts.texts c.args.texts.now in
     let names = pair_of c.in-Some.named in
-    let P : Option (List ℕ → List ℕ) → Type 0 = λ t. IfSome t (λ text. Gives which.People (text names.1) (Ok c.in-Ok-text_of-2.people)) in
-    let second : P told = subst P c.text_of.ensures.kept c.in-Ok-text_of-2.ensures.text in
-    rw (c.in-Some.is) (opened told names c.in-Ok-text_of.models c.in-Ok-text_of-2.people c.judge.result c.in-Ok-text_of.ensures.text second (rw (← c.as_slice.ensures, ← c.as_slice-2.ensures) c.judge.ensures))
+    let P : Option (List ℕ → List ℕ) → Type 0 = λ t. IfSome t (λ text. Gives which.People (text names.1) (Ok c.in_ok-people.people)) in
+    let second : P told = subst P c.text_of.ensures.kept c.in_ok-people.ensures.text in
+    rw (c.in-Some.is) (opened told names c.in_ok-models.models c.in_ok-people.people c.judge.result c.in_ok-models.ensures.text second (rw (← c.as_slice.ensures, ← c.as_slice-2.ensures) c.judge.ensures))
