@@ -1,5 +1,6 @@
 -- Worked examples of the definitions. A wrong reading of one fails the check.
-use Rattle.std.specs.Prelude.{◌≡◌, refl, [], Some, None, codes, true, false, ◌∷◌}
+use Rattle.std.specs.Prelude.{◌≡◌, ℕ, ◌+◌, refl, List, [], Some, None, codes, true, false, ◌∷◌}
+use Rattle.ht_base.specs.History.{Entry, IsLegal, end_of, own}
 use Rattle.ht_base.specs.Name.{is_name, name_of}
 use Rattle.ht_base.specs.Persons.{has}
 use Rattle.ht_base.specs.Places.{place_in}
@@ -45,3 +46,24 @@ before_the_longer = refl
 
 not_before_itself : is_before (codes "p1") (codes "p1") ≡ false
 not_before_itself = refl
+
+-- ---- histories, of a machine that adds and answers the sum
+
+abbrev adds : ℕ → ℕ → ℕ → ℕ → Type 0
+adds old event reply new = (reply ≡ old + event) × (new ≡ reply)
+
+abbrev entry : ℕ → ℕ → ℕ → Entry ℕ ℕ ℕ
+entry pass event sum = record { pass = pass; event = event; reply = sum; after = sum }
+
+-- two passes by turns
+abbrev by_turns : List (Entry ℕ ℕ ℕ)
+by_turns = entry 1 5 15 ∷ entry 2 1 16 ∷ entry 1 4 20 ∷ []
+
+legal : IsLegal adds 10 by_turns
+legal = ((refl, refl), ((refl, refl), ((refl, refl), tt)))
+
+ends_at_the_last : end_of 10 by_turns ≡ 20
+ends_at_the_last = refl
+
+of_one_pass : own 1 by_turns ≡ entry 1 5 15 ∷ entry 1 4 20 ∷ []
+of_one_pass = refl

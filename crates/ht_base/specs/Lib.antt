@@ -1,5 +1,7 @@
 pub mod Bytes
+pub mod Events
 pub mod Examples
+pub mod History
 pub mod Indexes
 pub mod Moment
 pub mod Name

@@ -26,6 +26,8 @@ pub enum Refusal {
     State { allowed: StateSet, state: State },
     Unknown(Unknown),
     Limit(Limit),
+    /// There is not enough memory. Nothing was changed.
+    Memory,
 }
 
 /// What an event is answered with.

@@ -1,6 +1,6 @@
 use crate::{
-    Bytes, IndexFault, Kind, LAST, Moment, Name, Names, Person, Persons, Role, Roles, State,
-    StateSet, Txt, Value, Values, index, name_places,
+    Bytes, Command, Event, IndexFault, Kind, LAST, Moment, Name, Names, Op, Person, Persons, Query,
+    Record, Role, Roles, State, StateSet, TaskId, Txt, Value, Values, index, name_places,
 };
 use std::alloc::AllocError;
 use std::test::Fail;
@@ -167,4 +167,40 @@ fn names_have_their_places(rt: HostRuntime) -> Result<(), Fail> {
     let repeated = index(rt.alloc(), &names);
     assert_eq!(rt; repeated.err(), Some(IndexFault::Repeated(3)));
     Ok(())
+}
+
+#[test]
+fn events_and_records_are_copied(rt: HostRuntime) -> Result<(), Fail> {
+    let anna = Name::of(b"anna").ok_or("a name")?;
+    let unit = Command::Create { model: Some(anna) };
+    for (command, op) in [(unit, Op::Create), (Command::Claim, Op::Claim)] {
+        let asked = Event::Ask {
+            at: Moment(1000),
+            caller: anna,
+            task: TaskId(1),
+            command: command.copy(rt.alloc())?,
+        };
+        let kept = Record::Asked {
+            at: Moment(1000),
+            caller: anna,
+            task: TaskId(1),
+            command,
+        };
+        assert_eq!(rt; op_asked(&asked.copy(rt.alloc())?), Some(op));
+        let Record::Asked { command, .. } = kept.copy(rt.alloc())?;
+        assert_eq!(rt; command.op(), op);
+    }
+    let read = Event::Read {
+        caller: anna,
+        query: Query::Sheet(TaskId(1)),
+    };
+    assert_eq!(rt; op_asked(&read.copy(rt.alloc())?), None);
+    Ok(())
+}
+
+fn op_asked(event: &Event) -> Option<Op> {
+    match event {
+        Event::Ask { command, .. } => Some(command.op()),
+        Event::Read { .. } => None,
+    }
 }
