@@ -1,0 +1,4 @@
+mod Gathering
+mod Judged
+pub mod PublicLaws
+mod Tables
