@@ -1,18 +1,16 @@
 -- The tasks of all trees, when a row is changed or put behind.
-use Rattle.std.proofs.Common.{◌≡◌, ℕ, ◌+◌, ◌*◌, ◌-◌, ◌<◌, ◌≤◌, zero, suc, List, [], ◌∷◌, ◌++◌, length, Option, Some, None, refl, ap, ◌∙◌, arith}
+use Rattle.std.proofs.Common.{◌≡◌, ℕ, ◌+◌, ◌-◌, ◌<◌, ◌≤◌, zero, suc, List, [], ◌∷◌, ◌++◌, length, Option, Some, None, refl, ap, ◌∙◌, arith}
 use Rattle.std.specs.Prelude.{slice_get, slice_set}
-use Rattle.std.specs.Option.{option_map_or}
 use Rattle.std.proofs.Common.{inl, inr}
 use Rattle.std.proofs.lemmas.Bool.{cases_lt}
 use Rattle.std.proofs.lemmas.Option.{slice_get-get_or, slice_get_past}
 use Rattle.ht_tree.specs.Plans.{IsNext}
 use Rattle.ht_tree.specs.Rows.{put_in, row_at}
 use Rattle.ht_tree.proofs.Putting.{put_new, put_old}
-use Rattle.ht_base.specs.declared.task_id.TaskId.{TaskId}
 use Rattle.ht_models.specs.Model.{ModelOf}
 use Rattle.ht_tree.specs.declared.row.Row.{Row}
-use Rattle.ht_tree.specs.Puts.{AreSmall, IsResized}
-use Rattle.ht_tree.specs.Sizes.{size_under, top_size, total_size}
+use Rattle.ht_tree.specs.Puts.{IsResized}
+use Rattle.ht_tree.specs.Sizes.{top_size, total_size}
 
 pub total_set : (models : List ModelOf) (rows : List Row) (i : ℕ) (old row : Row) → slice_get rows i ≡ Some old → total_size models (slice_set rows i row) + top_size models old ≡ total_size models rows + top_size models row
 total_set models [] i old row at = cc
@@ -26,17 +24,6 @@ pub total_push : (models : List ModelOf) (rows : List Row) (row : Row) → total
 total_push models [] row = omega arith
 total_push models (r ∷ rows) row = let rest = total_push models rows row in omega arith
 
-top_small : (models : List ModelOf) → AreSmall models → (row : Row) (parent : Option (TaskId × ℕ)) → size_under models row parent ≤ 256
-top_small models small row None = small row.model
-top_small models small row (Some p) = omega arith
-
-pub total_small : (models : List ModelOf) (rows : List Row) → AreSmall models → total_size models rows ≤ 256 * length rows
-total_small models [] small = omega arith
-total_small models (r ∷ rows) small =
-    let rest = total_small models rows small in
-    let one : top_size models r ≤ 256 = top_small models small r r.parent in
-    omega arith
-
 pub top_within : (models : List ModelOf) (rows : List Row) (i : ℕ) (row : Row) → slice_get rows i ≡ Some row → top_size models row ≤ total_size models rows
 top_within models [] i row at = cc
 top_within models (r ∷ rows) zero row at =
@@ -44,14 +31,6 @@ top_within models (r ∷ rows) zero row at =
     let size : top_size models r ≡ top_size models row = ap (λ (x : Row). top_size models x) same in
     omega arith
 top_within models (r ∷ rows) (suc i) row at = let rest = top_within models rows i row at in omega arith
-
--- where each model is a tree of one task, each is small
-pub ones_small : (models : List ModelOf) → ((place : ℕ) (m : ModelOf) → slice_get models place ≡ Some m → m.size ≡ 1) → AreSmall models
-ones_small models ones place = at (slice_get models place) refl
-  where
-    at : (o : Option ModelOf) → slice_get models place ≡ o → option_map_or (λ m. m.size) o 0 ≤ 256
-    at None is = omega arith
-    at (Some m) is = let one = ones place m is in omega arith
 
 -- ---- one row put
 

@@ -8,14 +8,16 @@ use Rattle.ht_base.specs.declared.values.Values.{Values}
 use Rattle.ht_expr.specs.Assignments.{Assignment}
 use Rattle.ht_models.specs.Model.{ModelOf}
 use Rattle.ht_tree.specs.declared.row.Row.{Row}
-use Rattle.ht_tree.specs.Assigning.{is_found}
-use Rattle.ht_tree.specs.Creating.{new_row, parent_row, role_or}
-use Rattle.ht_tree.specs.Plans.{Follow, last_of, later_or}
+use Rattle.ht_tree.specs.Assigning.{is_found, potential_owners, resolved}
+use Rattle.ht_tree.specs.declared.comments.Comment.{Comment}
+use Rattle.std.specs.List.{All}
+use Rattle.ht_tree.specs.Creating.{bare_row, new_row, parent_row, role_or}
+use Rattle.ht_tree.specs.Plans.{Follow, IsPlanOf, PlanOf, last_of, later_or, planned}
 use Rattle.ht_tree.specs.Rows.{put_in, row_at}
 use Rattle.ht_base.specs.Persons.{AllBelow, Ascends}
 use Rattle.ht_base.specs.Moment.{last_moment}
-use Rattle.ht_tree.specs.Soundness.{Fits, IsSound, IsSoundRow}
-use Rattle.ht_tree.specs.Tables.{TablesOf}
+use Rattle.ht_tree.specs.Soundness.{AreKnown, Fits, FitsIn, IsFiled, IsSound, IsSoundIn, IsSoundRow}
+use Rattle.ht_tree.specs.Tables.{TablesOf, administrators_of, stakeholders_of, task_row}
 use Rattle.ht_tree.proofs.Putting.{row_at-put_in}
 use Rattle.ht_tree.proofs.Selecting.{selected_apart, selected_ascends}
 
@@ -28,43 +30,25 @@ selected_persons t test from (suc n) h = at (test from) (selected_persons t test
     at true rest = (omega arith, rest)
     at false rest = rest
 
-pub all_selected : (t : TablesOf) (test : ℕ → Bool) → AllBelow (length t.people.persons) (filter test (range_with_len 0 (length t.people.persons)))
+all_selected : (t : TablesOf) (test : ℕ → Bool) → AllBelow (length t.people.persons) (filter test (range_with_len 0 (length t.people.persons)))
 all_selected t test = selected_persons t test 0 (length t.people.persons) (omega arith)
 
-role_persons : (t : TablesOf) (creator : ℕ) (a : Option Assignment) (inherited : List ℕ) → AllBelow (length t.people.persons) inherited → AllBelow (length t.people.persons) (role_or t.people creator a inherited)
-role_persons t creator None inherited all = all
-role_persons t creator (Some a) inherited all = all_selected t (is_found t.people creator a)
+-- ---- what is sound fits
 
-inherited_persons : (t : TablesOf) (role : Row → List ℕ) (above : Option Row) → IfSome above (λ r. AllBelow (length t.people.persons) (role r)) → AllBelow (length t.people.persons) (option_map_or role above [])
-inherited_persons t role None all = tt
-inherited_persons t role (Some r) all = all
-
-pub new_row_fits : (t : TablesOf) (rows : List Row) (m : ModelOf) (model : ℕ) (parent : Option (TaskId × ℕ)) (initiator : ℕ) (input : Values) (waits : Option Moment) (at : Moment) → model < length t.models → initiator < length t.people.persons → IfSome parent (λ p. (1 ≤ p.0.0) × (p.0.0 ≤ length rows)) → IfSome (parent_row rows parent) (Fits t) → Fits t (new_row t rows m model parent initiator input waits at)
-new_row_fits t rows m model parent initiator input waits at known person below above = record {
-  model = known;
-  parent = lower parent below;
-  owner = tt;
-  last_owner = tt;
-  initiator = person;
-  potential_owners = all_selected t _;
-  excluded_owners = all_selected t _;
-  administrators = role_persons t initiator m.administrators _ (inherited_persons t (λ r. r.administrators) (parent_row rows parent) (admins (parent_row rows parent) above));
-  stakeholders = role_persons t initiator m.stakeholders _ (inherited_persons t (λ r. r.stakeholders) (parent_row rows parent) (holders (parent_row rows parent) above));
-  waits = λ _. refl;
-  until = λ h. absurd (cc);
+pub sound_row_fits : (models persons : ℕ) (row : Row) → IsSoundIn models persons row → FitsIn models persons row
+sound_row_fits models persons row sound = record {
+  filed = sound.filed;
+  who = (sound.who).known;
+  owner = (sound.whose).known;
+  commenters = (sound.how).known;
+  waits = (sound.when).waits;
+  until = (sound.when).until;
 }
-  where
-    lower : (parent : Option (TaskId × ℕ)) → IfSome parent (λ p. (1 ≤ p.0.0) × (p.0.0 ≤ length rows)) → IfSome parent (λ p. (1 ≤ p.0.0) × (p.0.0 < length rows + 1))
-    lower None h = tt
-    lower (Some p) h = (h.0, let high = h.1 in omega arith)
 
-    admins : (o : Option Row) → IfSome o (Fits t) → IfSome o (λ r. AllBelow (length t.people.persons) r.administrators)
-    admins None f = tt
-    admins (Some r) f = f.administrators
-
-    holders : (o : Option Row) → IfSome o (Fits t) → IfSome o (λ r. AllBelow (length t.people.persons) r.stakeholders)
-    holders None f = tt
-    holders (Some r) f = f.stakeholders
+-- and so does a sound row that was found
+pub sound_fits : (t : TablesOf) (found : Option (Bor Row)) → IfSome found (λ r. IsSoundRow t r.now) → IfSome found (λ r. Fits t r.now)
+sound_fits t None sound = tt
+sound_fits t (Some r) sound = sound_row_fits (length t.models) (length t.people.persons) r.now sound
 
 -- every row after some were put fits, where those before did
 pub fits_after : (t : TablesOf) (rows puts : List Row) → ((task : ℕ) (row : Row) → row_at task rows ≡ Some row → Fits t row) → Follow t rows puts → (task : ℕ) (row : Row) → row_at task (fold put_in rows puts) ≡ Some row → Fits t row
@@ -78,35 +62,96 @@ fits_after t rows (p ∷ puts) fit f task row at = fits_after t (put_in rows p) 
         here true e = let same : p ≡ row = cc in let P : Row → Type 0 = λ r. Fits t r in subst P same f.1
         here false e = fit task row e
 
-pub parent_fits : (t : TablesOf) (puts : List Row) (parent : Option (TaskId × ℕ)) → IsSound t → Follow t t.rows puts → IfSome (parent_row (fold put_in t.rows puts) parent) (Fits t)
-parent_fits t puts None sound f = tt
-parent_fits t puts (Some p) sound f = at (row_at p.0.0 (fold put_in t.rows puts)) refl
-  where
-    at : (o : Option Row) → row_at p.0.0 (fold put_in t.rows puts) ≡ o → IfSome o (Fits t)
-    at None e = tt
-    at (Some row) e = fits_after t t.rows puts (λ task r is. (sound.rows_sound task r is).fits) f p.0.0 row e
+-- each row of planned tables fits
+planned_fits : (t : TablesOf) (p : PlanOf) → IsSound t → IsPlanOf t p → (task : ℕ) (row : Row) → task_row (planned t p) task ≡ Some row → Fits t row
+planned_fits t p sound fit = fits_after t t.rows (p.changes).rows (λ task r is. sound_row_fits (length t.models) (length t.people.persons) r (sound.rows_sound task r is)) fit.changes_fit
 
--- ---- that a new row is sound
+pub parent_fits : (t : TablesOf) (p : PlanOf) (parent : Option (TaskId × ℕ)) → IsSound t → IsPlanOf t p → IfSome (parent_row (planned t p) parent) (Fits t)
+parent_fits t p None sound fit = tt
+parent_fits t p (Some above) sound fit = at (task_row (planned t p) above.0.0) refl
+  where
+    at : (o : Option Row) → task_row (planned t p) above.0.0 ≡ o → IfSome o (Fits t)
+    at None e = tt
+    at (Some row) e = planned_fits t p sound fit above.0.0 row e
+
+-- ---- a new row
+
+no_comment : (P : Comment → Type 0) → All P []
+no_comment P k c h = absurd (omega arith)
+
+filed_below : (models rows place : ℕ) (parent : Option (TaskId × ℕ)) → place < models → IfSome parent (λ p. (1 ≤ p.0.0) × (p.0.0 ≤ rows)) → IsFiled models (record { 0 = rows + 1 }) parent place
+filed_below models rows place parent known below = record { model = known; parent = at parent below }
+  where
+    at : (parent : Option (TaskId × ℕ)) → IfSome parent (λ p. (1 ≤ p.0.0) × (p.0.0 ≤ rows)) → IfSome parent (λ p. (1 ≤ p.0.0) × (p.0.0 < rows + 1))
+    at None h = tt
+    at (Some p) h = (h.0, let high = h.1 in omega arith)
+
+-- before its roles are set
+pub bare_row_fits : (t : TablesOf) (rows : ℕ) (model : ℕ) (parent : Option (TaskId × ℕ)) (initiator : ℕ) (input : Values) (waits : Option Moment) (at : Moment) → model < length t.models → initiator < length t.people.persons → IfSome parent (λ p. (1 ≤ p.0.0) × (p.0.0 ≤ rows)) → Fits t (bare_row (record { 0 = rows + 1 }) model parent initiator input waits at)
+bare_row_fits t rows model parent initiator input waits at known person below = record {
+  filed = filed_below (length t.models) rows model parent known below;
+  who = record { initiator = person; last_owner = tt; potential_owners = tt; excluded_owners = tt; administrators = tt; stakeholders = tt };
+  owner = tt;
+  commenters = no_comment _;
+  waits = λ _. refl;
+  until = λ h. absurd cc;
+}
+
+role_persons : (t : TablesOf) (creator : ℕ) (a : Option Assignment) (inherited : List ℕ) → AllBelow (length t.people.persons) inherited → AllBelow (length t.people.persons) (role_or t.people creator a inherited)
+role_persons t creator None inherited all = all
+role_persons t creator (Some a) inherited all = all_selected t (is_found t.people creator a)
+
+inherited_persons : (t : TablesOf) (role : Row → List ℕ) (above : Option Row) → IfSome above (λ r. AllBelow (length t.people.persons) (role r)) → AllBelow (length t.people.persons) (option_map_or role above [])
+inherited_persons t role None all = tt
+inherited_persons t role (Some r) all = all
+
+new_known : (t : TablesOf) (m : ModelOf) (model : ℕ) (parent : Option (TaskId × ℕ)) (initiator : ℕ) → initiator < length t.people.persons → IfSome (parent_row t parent) (Fits t) → AreKnown (length t.people.persons) initiator None (potential_owners t.people initiator m.potential_owners m.excluded_owners) (resolved t.people initiator m.excluded_owners) (role_or t.people initiator m.administrators (option_map_or (administrators_of t) (parent_row t parent) [])) (role_or t.people initiator m.stakeholders (option_map_or (stakeholders_of t) (parent_row t parent) []))
+new_known t m model parent initiator person above = record {
+  initiator = person;
+  last_owner = tt;
+  potential_owners = all_selected t _;
+  excluded_owners = all_selected t _;
+  administrators = role_persons t initiator m.administrators _ (inherited_persons t (administrators_of t) (parent_row t parent) (admins (parent_row t parent) above));
+  stakeholders = role_persons t initiator m.stakeholders _ (inherited_persons t (stakeholders_of t) (parent_row t parent) (holders (parent_row t parent) above));
+}
+  where
+    admins : (o : Option Row) → IfSome o (Fits t) → IfSome o (λ r. AllBelow (length t.people.persons) r.administrators)
+    admins None f = tt
+    admins (Some r) f = (f.who).administrators
+
+    holders : (o : Option Row) → IfSome o (Fits t) → IfSome o (λ r. AllBelow (length t.people.persons) r.stakeholders)
+    holders None f = tt
+    holders (Some r) f = (f.who).stakeholders
+
+pub new_row_fits : (t : TablesOf) (m : ModelOf) (model : ℕ) (parent : Option (TaskId × ℕ)) (initiator : ℕ) (input : Values) (waits : Option Moment) (at : Moment) → model < length t.models → initiator < length t.people.persons → IfSome parent (λ p. (1 ≤ p.0.0) × (p.0.0 ≤ length t.rows)) → IfSome (parent_row t parent) (Fits t) → Fits t (new_row t m model parent initiator input waits at)
+new_row_fits t m model parent initiator input waits at known person below above = record {
+  filed = filed_below (length t.models) (length t.rows) model parent known below;
+  who = new_known t m model parent initiator person above;
+  owner = tt;
+  commenters = no_comment _;
+  waits = λ _. refl;
+  until = λ h. absurd cc;
+}
 
 role_ascends : (t : TablesOf) (creator : ℕ) (a : Option Assignment) → Ascends (role_or t.people creator a [])
 role_ascends t creator None = tt
 role_ascends t creator (Some a) = selected_ascends (is_found t.people creator a) (length t.people.persons)
 
 -- of a top task
-pub new_row_sound : (t : TablesOf) (rows : List Row) (m : ModelOf) (model initiator : ℕ) (input : Values) (waits : Option Moment) (at : Moment) → model < length t.models → initiator < length t.people.persons → at.0 ≤ last_moment → IfSome waits (λ m. m.0 ≤ last_moment) → IsSoundRow t (new_row t rows m model None initiator input waits at)
-new_row_sound t rows m model initiator input waits at known person early soon = record {
-  fits = new_row_fits t rows m model None initiator input waits at known person tt tt;
-  owned = refl;
-  owner_allowed = tt;
-  owners_allowed = selected_apart (is_found t.people initiator m.potential_owners) (is_found t.people initiator m.excluded_owners) (length t.people.persons);
-  potential_ascend = selected_ascends _ (length t.people.persons);
-  excluded_ascend = selected_ascends _ (length t.people.persons);
-  administrators_ascend = role_ascends t initiator m.administrators;
-  stakeholders_ascend = role_ascends t initiator m.stakeholders;
-  created_within = early;
-  waits_within = soon;
-  until_within = tt;
-  priority_within = omega arith;
+pub new_row_sound : (t : TablesOf) (m : ModelOf) (model initiator : ℕ) (input : Values) (waits : Option Moment) (at : Moment) → model < length t.models → initiator < length t.people.persons → at.0 ≤ last_moment → IfSome waits (λ m. m.0 ≤ last_moment) → IsSoundRow t (new_row t m model None initiator input waits at)
+new_row_sound t m model initiator input waits at known person early soon = record {
+  filed = filed_below (length t.models) (length t.rows) model None known tt;
+  who = record {
+    known = new_known t m model None initiator person tt;
+    apart = selected_apart (is_found t.people initiator m.potential_owners) (is_found t.people initiator m.excluded_owners) (length t.people.persons);
+    potential_ascend = selected_ascends _ (length t.people.persons);
+    excluded_ascend = selected_ascends _ (length t.people.persons);
+    administrators_ascend = role_ascends t initiator m.administrators;
+    stakeholders_ascend = role_ascends t initiator m.stakeholders;
+  };
+  whose = record { owned = refl; known = tt; allowed = tt };
+  when = record { waits = λ _. refl; until = λ h. absurd cc; created_within = early; waits_within = soon; until_within = tt };
+  how = record { priority_within = omega arith; few = omega arith; known = no_comment _; moments_within = no_comment _; texts_within = no_comment _ };
 }
 
 -- a row that is put fits
@@ -118,8 +163,3 @@ put_fits t rows (p ∷ puts) task row f at = here (last_of task puts) (p.task.0 
     here (Some r) b e rest = let same : r ≡ row = cc in let P : Row → Type 0 = λ x. Fits t x in subst P same (rest r refl)
     here None true e rest = let same : p ≡ row = cc in let P : Row → Type 0 = λ x. Fits t x in subst P same f.1
     here None false e rest = cc
-
--- and so does one that is sound
-pub sound_fits : (t : TablesOf) (found : Option (Bor Row)) → IfSome found (λ r. IsSoundRow t r.now) → IfSome found (λ r. Fits t r.now)
-sound_fits t None sound = tt
-sound_fits t (Some r) sound = sound.fits

@@ -1,32 +1,22 @@
 -- The tasks of all trees after rows were put one after another.
-use Rattle.std.proofs.Common.{◌≡◌, ℕ, ◌+◌, ◌<◌, ◌≤◌, ◌^◌, zero, suc, List, length, fold, take, Option, Some, None, IfSome, option_map, Bor, ap, sym, ◌∙◌, subst, arith}
+use Rattle.std.proofs.Common.{◌≡◌, ℕ, ◌+◌, ◌<◌, ◌≤◌, zero, suc, List, length, fold, take, Option, Some, None, IfSome, option_map, Bor, ap, sym, ◌∙◌, subst, arith}
 use Rattle.std.specs.Prelude.{slice_get}
 use Rattle.ht_tree.specs.declared.row.Row.{Row}
 use Rattle.ht_tree.specs.Plans.{Follow}
-use Rattle.ht_tree.specs.Puts.{AreSmall, HaveModels, IsResized}
+use Rattle.ht_tree.specs.Puts.{HaveModels, IsResized}
 use Rattle.ht_tree.specs.Rows.{put_in, row_at}
 use Rattle.ht_tree.specs.Sizes.{top_size, total_size}
 use Rattle.ht_tree.specs.Soundness.{IsSound}
 use Rattle.ht_tree.specs.Tables.{TablesOf}
-use Rattle.ht_tree.proofs.Counting.{resized_once, resized_put, top_within, total_small}
-use Rattle.ht_tree.proofs.Putting.{fold_take, follow_at, follow_take, long_take, models_fold}
+use Rattle.ht_tree.proofs.Counting.{resized_once, resized_put, top_within}
+use Rattle.ht_tree.proofs.Putting.{fold_take, follow_at, follow_take, models_fold}
 use Rattle.ht_tree.proofs.Sounding.{have_models}
 
 -- what is known where the rows before place i were put
 pub record IsUnderWay (t : TablesOf) (puts : List Row) (i total : ℕ) : Type 0 where
-  pub small : AreSmall t.models
   pub sound : IsSound t
   pub follow : Follow t t.rows puts
-  pub few : length (fold put_in t.rows puts) < 2 ^ 32
   pub counted : total ≡ total_size t.models (fold put_in t.rows (take i puts))
-
-pub still_small : (t : TablesOf) (puts : List Row) (i total : ℕ) → IsUnderWay t puts i total → total < 2 ^ 63
-still_small t puts i total w =
-    let most = total_small t.models (fold put_in t.rows (take i puts)) w.small in
-    let long = long_take t t.rows puts i w.follow in
-    let few = w.few in
-    let counted = w.counted in
-    omega arith
 
 there : (rows : List Row) (task : ℕ) (row : Row) → row_at task rows ≡ Some row → (i : ℕ) × (slice_get rows i ≡ Some row)
 there rows zero row at = absurd (none_some at)

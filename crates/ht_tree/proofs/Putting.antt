@@ -3,7 +3,7 @@ use Rattle.std.proofs.Common.{◌≡◌, ℕ, ◌+◌, ◌-◌, ◌<◌, ◌≤�
 use Rattle.std.specs.Prelude.{slice_get, slice_set}
 use Rattle.std.proofs.Common.{get_or, take, length-append, le-leb, subst}
 use Rattle.ht_tree.specs.Soundness.{Fits}
-use Rattle.ht_tree.specs.Tables.{TablesOf}
+use Rattle.ht_tree.specs.Tables.{TablesOf, with_row}
 use Rattle.std.proofs.lemmas.List.{take_more}
 use Rattle.std.proofs.lemmas.Option.{get_or_from_slice_get, slice_get_within}
 use Rattle.std.proofs.Common.{eq-eqb}
@@ -11,8 +11,8 @@ use Rattle.std.proofs.lemmas.Bool.{cases_eq, cases_lt}
 use Rattle.std.proofs.lemmas.Bool.Decides.{nat_tests}
 use Rattle.ht_tree.specs.declared.row.Row.{Row}
 use Rattle.std.proofs.lemmas.List.{take-append-le}
-use Rattle.ht_tree.specs.Plans.{changes_of, Follow, IsNext, IsPlanOf, PlanOf, last_of, later_or, planned_rows, with_row}
-use Rattle.ht_tree.specs.Puts.{CanPut, HaveModels}
+use Rattle.ht_tree.specs.Plans.{changes_of, Follow, Goes, IsNext, IsPlanOf, Lends, PlanOf, last_of, later_or, planned}
+use Rattle.ht_tree.specs.Puts.{CanPut, HaveModels, put_more}
 use Rattle.ht_tree.specs.Rows.{put_in, row_at}
 
 -- ---- the last row that is put of a task
@@ -129,17 +129,25 @@ few_put t rows (p ∷ puts) f =
     let long = length-put_in rows p f.0 in
     omega arith
 
-pub with_row_fits : (t : TablesOf) (p : PlanOf) (row : Row) → IsPlanOf t p → IsNext (planned_rows t p) row → Fits t row → IsPlanOf t (with_row p row)
-with_row_fits t p row fit next fits = record {
+put_more_fits : (t : TablesOf) (p : PlanOf) (row : Row) → IsPlanOf t p → IsNext (planned t p).rows row → Fits t row → IsPlanOf t (put_more p row)
+put_more_fits t p row fit next fits = record {
   changes_fit = follow_push t t.rows (p.changes).rows row fit.changes_fit next fits;
   marked_fit = fit.marked_fit;
+}
+
+pub put_goes : (t : TablesOf) (p : PlanOf) (row : Row) → IsPlanOf t p → IsNext (planned t p).rows row → Fits t row → Goes t p (put_more p row) (planned t p) (with_row (planned t p) row)
+put_goes t p row fit next fits = record {
+  from = refl;
+  to = ap (λ (l : List Row). record (planned t p) { rows = l }) (fold_push t.rows (p.changes).rows row);
+  fits = put_more_fits t p row fit next fits;
+  marked = refl;
 }
 
 -- a plan of these rows, marked at a place
 abbrev pub plan_with : List Row → ℕ → PlanOf
 plan_with rows mark = record { changes = changes_of rows; marked = changes_of (take mark rows) }
 
-pub pushed_plan : (rows : List Row) (mark : ℕ) (row : Row) → mark ≤ length rows → plan_with (rows ++ row ∷ []) mark ≡ with_row (plan_with rows mark) row
+pub pushed_plan : (rows : List Row) (mark : ℕ) (row : Row) → mark ≤ length rows → plan_with (rows ++ row ∷ []) mark ≡ put_more (plan_with rows mark) row
 pushed_plan rows mark row h = ap (λ (front : List Row). with_marked front) (take-append-le mark rows (row ∷ []) h)
   where
     with_marked : List Row → PlanOf
@@ -156,7 +164,7 @@ few_fold count rows (p ∷ puts) f =
 
 pub can_put : (t : TablesOf) (rows puts : List Row) → Follow t rows puts → CanPut (length t.models) rows puts
 can_put t rows [] f = tt
-can_put t rows (p ∷ puts) f = (f.0, (f.1).model, can_put t (put_in rows p) puts f.2)
+can_put t rows (p ∷ puts) f = (f.0, ((f.1).filed).model, can_put t (put_in rows p) puts f.2)
 
 pub models_put : (count : ℕ) (rows : List Row) (row : Row) → IsNext rows row → row.model < count → HaveModels count rows → HaveModels count (put_in rows row)
 models_put count rows row next h have i r at = here (row.task.0 == suc i) (sym (row_at-put_in rows row (suc i) next) ∙ at)
@@ -178,10 +186,75 @@ fold_take rows puts i row at =
 
 pub models_fold : (t : TablesOf) (rows puts : List Row) → Follow t rows puts → HaveModels (length t.models) rows → HaveModels (length t.models) (fold put_in rows puts)
 models_fold t rows [] f have = have
-models_fold t rows (p ∷ puts) f have = models_fold t (put_in rows p) puts f.2 (models_put (length t.models) rows p f.0 (f.1).model have)
+models_fold t rows (p ∷ puts) f have = models_fold t (put_in rows p) puts f.2 (models_put (length t.models) rows p f.0 ((f.1).filed).model have)
 
-pub long_take : (t : TablesOf) (rows puts : List Row) (i : ℕ) → Follow t rows puts → length (fold put_in rows (take i puts)) ≤ length (fold put_in rows puts)
-long_take t rows [] zero f = omega arith
-long_take t rows [] (suc i) f = omega arith
-long_take t rows (p ∷ puts) zero f = few_put t rows (p ∷ puts) f
-long_take t rows (p ∷ puts) (suc i) f = long_take t (put_in rows p) puts i f.2
+-- ---- a row that is taken out of a plan, to be put again
+
+follow_front : (t : TablesOf) (rows puts : List Row) (row : Row) → Follow t rows (puts ++ row ∷ []) → Follow t rows puts × IsNext (fold put_in rows puts) row × Fits t row
+follow_front t rows [] row f = (tt, f.0, f.1)
+follow_front t rows (p ∷ puts) row f = let rest = follow_front t (put_in rows p) puts row f.2 in ((f.0, f.1, rest.0), rest.1, rest.2)
+
+set_twice : (rows : List Row) (i : ℕ) (r s : Row) → slice_set (slice_set rows i r) i s ≡ slice_set rows i s
+set_twice [] i r s = refl
+set_twice (x ∷ rows) zero r s = refl
+set_twice (x ∷ rows) (suc i) r s = ap (λ (l : List Row). x ∷ l) (set_twice rows i r s)
+
+last_set : (rows : List Row) (r s : Row) → slice_set (rows ++ r ∷ []) (length rows) s ≡ rows ++ s ∷ []
+last_set [] r s = refl
+last_set (x ∷ rows) r s = ap (λ (l : List Row). x ∷ l) (last_set rows r s)
+
+-- the second of two rows of a task counts
+put_twice : (rows : List Row) (r s : Row) → IsNext rows r → s.task.0 ≡ r.task.0 → put_in (put_in rows r) s ≡ put_in rows s
+put_twice rows r s next same =
+    let high = next.1 in
+    elim (cases_lt (length rows) r.task.0) [
+      | inl new ↦
+          let long : length (rows ++ r ∷ []) ≡ length rows + 1 = length-append rows (r ∷ []) in
+          let place : s.task.0 - 1 ≡ length rows = omega arith in
+          ap (λ (l : List Row). put_in l s) (put_new rows r new)
+          ∙ put_old (rows ++ r ∷ []) s (omega arith)
+          ∙ ap (λ (k : ℕ). slice_set (rows ++ r ∷ []) k s) place
+          ∙ last_set rows r s
+          ∙ sym (put_new rows s (omega arith))
+      | inr old ↦
+          let long : length (slice_set rows (r.task.0 - 1) r) ≡ length rows = length-set rows (r.task.0 - 1) r in
+          let place : s.task.0 - 1 ≡ r.task.0 - 1 = omega arith in
+          ap (λ (l : List Row). put_in l s) (put_old rows r old)
+          ∙ put_old (slice_set rows (r.task.0 - 1) r) s (omega arith)
+          ∙ ap (λ (k : ℕ). slice_set (slice_set rows (r.task.0 - 1) r) k s) place
+          ∙ set_twice rows (r.task.0 - 1) r s
+          ∙ ap (λ (k : ℕ). slice_set rows k s) (sym place)
+          ∙ sym (put_old rows s (omega arith))
+    ]
+
+-- the row that was put last, and the plan without it
+pub record IsTaken (t : TablesOf) (old new : PlanOf) (task : ℕ) (row : Row) : Type 0 where
+  pub there : row_at task (planned t old).rows ≡ Some row
+  pub fits : Fits t row
+  pub lends : Lends t old new task
+
+pub taken_last : (t : TablesOf) (new : PlanOf) (task : ℕ) (row : Row) → row.task.0 ≡ task → IsPlanOf t (put_more new row) → IsTaken t (put_more new row) new task row
+taken_last t new task row number fit =
+    let rows = (planned t new).rows in
+    let puts = (new.changes).rows in
+    let front = follow_front t t.rows puts row fit.changes_fit in
+    let after : (planned t (put_more new row)).rows ≡ put_in rows row = fold_push t.rows puts row in
+    let long = length-put_in rows row front.1 in
+    record {
+      there =
+          ap (λ (l : List Row). row_at task l) after
+          ∙ row_at-put_in rows row task front.1
+          ∙ ap (λ (b : Bool). if b then Some row else row_at task rows) (eq-eqb row.task.0 task number);
+      fits = front.2;
+      lends = record {
+        fits = record { changes_fit = front.0; marked_fit = fit.marked_fit };
+        marked = refl;
+        next = λ r same next. (next.0, let high = (front.1).1 in omega arith);
+        again = λ r same next.
+            sym (ap (λ (l : List Row). record (planned t new) { rows = put_in l r }) after
+            ∙ ap (λ (l : List Row). record (planned t new) { rows = l }) (put_twice rows row r front.1 (same ∙ sym number)));
+      };
+    }
+
+pub lent_stays : (t : TablesOf) (p : PlanOf) (task : ℕ) → IsPlanOf t p → Lends t p p task
+lent_stays t p task fit = record { fits = fit; marked = refl; next = λ r same next. next; again = λ r same next. refl }

@@ -3,6 +3,7 @@ use Rattle.std.proofs.Common.{◌⊎◌, inl, inr, subst, ◌+◌, ◌++◌, ◌
 use Rattle.std.proofs.lemmas.Bool.{eqb-true}
 use Rattle.std.proofs.lemmas.Option.{slice_get_within}
 use Rattle.ht_base.specs.declared.task_id.TaskId.{TaskId}
+use Rattle.ht_base.specs.Moment.{last_moment}
 use Rattle.ht_models.specs.Model.{ModelOf}
 use Rattle.ht_people.specs.Directory.{DirectoryOf}
 use Rattle.ht_tree.specs.declared.row.Row.{Row}
@@ -11,7 +12,7 @@ use Rattle.ht_tree.specs.Puts.{HaveModels, IsResized}
 use Rattle.ht_tree.specs.Rows.{put_in, row_at}
 use Rattle.ht_tree.specs.Sizes.{most_tasks, size_of, size_under, top_size, total_size}
 use Rattle.ht_tree.specs.Soundness.{IsSound, IsSoundRow}
-use Rattle.ht_tree.specs.Tables.{TablesOf, empty_tables}
+use Rattle.ht_tree.specs.Tables.{TablesOf, at_moment, empty_tables, with_row}
 use Rattle.ht_tree.proofs.Counting.{resized_put, total_push}
 use Rattle.ht_tree.proofs.Putting.{length-put_in, row_at-put_in}
 
@@ -29,7 +30,7 @@ empty_sound models people = record {
 }
 
 pub have_models : (t : TablesOf) → IsSound t → HaveModels (length t.models) t.rows
-have_models t sound i row at = (sound.rows_sound (suc i) row at).fits.model
+have_models t sound i row at = ((sound.rows_sound (suc i) row at).filed).model
 
 -- ---- a sound row behind the others
 
@@ -77,12 +78,12 @@ same_size models r s None (Some q) e m = cc
 same_size models r s (Some p) None e m = cc
 same_size models r s (Some p) (Some q) e m = refl
 
-within : (rows : List Row) (row : Row) (task : ℕ) → row_at task rows ≡ Some row → (1 ≤ task) × (task ≤ length rows)
+pub within : (rows : List Row) (row : Row) (task : ℕ) → row_at task rows ≡ Some row → (1 ≤ task) × (task ≤ length rows)
 within rows row zero at = cc
 within rows row (suc i) at = (omega arith, let low = slice_get_within rows i row at in omega arith)
 
-pub set_sound : (t : TablesOf) (row : Row) → IsSound t → IsSoundRow t row → Replaces t.rows row → IsSound (record t { rows = put_in t.rows row })
-set_sound t row sound fine place = record {
+pub put_sound : (t : TablesOf) (row : Row) → IsSound t → IsSoundRow t row → Replaces t.rows row → IsSound (with_row t row)
+put_sound t row sound fine place = record {
   numbered = λ task r at. (in_place task r (row.task.0 == task) refl (sym (row_at-put_in t.rows row task next) ∙ at)).0;
   rows_sound = λ task r at. (in_place task r (row.task.0 == task) refl (sym (row_at-put_in t.rows row task next) ∙ at)).1;
   last_within = sound.last_within;
@@ -111,3 +112,14 @@ set_sound t row sound fine place = record {
         let resized : total_size t.models (put_in t.rows row) + top_size t.models place.before ≡ total_size t.models t.rows + top_size t.models row = subst P place.there (resized_put t.models t.rows row next) in
         let size : top_size t.models row ≡ top_size t.models place.before = same_size t.models row place.before row.parent (place.before).parent place.parent place.model in
         omega arith
+
+-- ---- at another moment
+
+pub sound_at : (t : TablesOf) (at : ℕ) → IsSound t → at ≤ last_moment → IsSound (at_moment t at)
+sound_at t at sound early = record {
+  numbered = sound.numbered;
+  rows_sound = sound.rows_sound;
+  last_within = early;
+  tasks_counted = sound.tasks_counted;
+  tasks_within = sound.tasks_within;
+}

@@ -9,11 +9,15 @@ use Rattle.ht_people.specs.Directory.{DirectoryOf}
 use Rattle.ht_tree.specs.declared.row.Row.{Row}
 use Rattle.ht_tree.specs.Assigning.{potential_owners, resolved}
 use Rattle.ht_tree.specs.Creating.{new_row}
-use Rattle.ht_tree.specs.Plans.{no_plan, planned_rows, with_row}
 use Rattle.ht_tree.specs.Roles.{roles_in}
 use Rattle.ht_tree.specs.Rows.{row_at}
 use Rattle.ht_tree.specs.Sizes.{total_size}
-use Rattle.ht_tree.specs.Tables.{TablesOf, empty_tables}
+use Rattle.ht_tree.specs.declared.notice.Notice.{Notice}
+use Rattle.ht_tree.specs.declared.slot.Kept.TheVariants as kept
+use Rattle.ht_tree.specs.declared.slot.Slot.{Slot}
+use Rattle.ht_base.specs.declared.operation.Op.TheVariants as op
+use Rattle.ht_tree.specs.Plans.{ChangesOf, planned}
+use Rattle.ht_tree.specs.Tables.{TablesOf, empty_tables, model_at, model_named, task_row}
 
 abbrev person : List ℕ → PersonEntry
 person name = record { name = name; operator = false }
@@ -79,7 +83,7 @@ shut = record {
 }
 
 abbrev unit : ModelOf
-unit = record shut { potential_owners = group (codes "clerks"); excluded_owners = nobody }
+unit = record shut { name = codes "unit"; potential_owners = group (codes "clerks"); excluded_owners = nobody }
 
 abbrev at : ℕ → Moment
 at n = record { 0 = n }
@@ -88,7 +92,7 @@ abbrev nothing_yet : TablesOf
 nothing_yet = empty_tables (shut ∷ unit ∷ []) office
 
 abbrev first : Row
-first = new_row nothing_yet [] shut 0 None 3 [] None (at 1000)
+first = new_row nothing_yet shut 0 None 3 [] None (at 1000)
 
 nobody_may_own_it : first.potential_owners ≡ []
 nobody_may_own_it = refl
@@ -107,10 +111,10 @@ named_one_by_one = refl
 abbrev watched : Row
 watched = record first { stakeholders = 4 ∷ [] }
 
-from_the_parent : (new_row nothing_yet (watched ∷ []) unit 1 (Some (record { 0 = 1 }, 0)) 0 [] None (at 1000)).stakeholders ≡ 4 ∷ []
+from_the_parent : (new_row (record nothing_yet { rows = watched ∷ [] }) unit 1 (Some (record { 0 = 1 }, 0)) 0 [] None (at 1000)).stakeholders ≡ 4 ∷ []
 from_the_parent = refl
 
-by_a_group : (new_row nothing_yet (watched ∷ []) unit 1 None 0 [] None (at 1000)).by_group ≡ true
+by_a_group : (new_row nothing_yet unit 1 None 0 [] None (at 1000)).by_group ≡ true
 by_a_group = refl
 
 -- ---- rows put into others
@@ -121,8 +125,38 @@ second = record first { task = record { 0 = 2 } }
 abbrev changed : Row
 changed = record first { state = Ready }
 
-a_plan : planned_rows (record nothing_yet { rows = first ∷ [] }) (with_row (with_row no_plan second) changed) ≡ changed ∷ second ∷ []
+abbrev puts : List Row → ChangesOf
+puts rows = record { rows = rows; notices = []; slot = None }
+
+-- the last row that is put of a task counts
+a_plan : (planned (record nothing_yet { rows = first ∷ [] }) (record { changes = puts (second ∷ changed ∷ []); marked = puts [] })).rows ≡ changed ∷ second ∷ []
 a_plan = refl
+
+abbrev told : Notice
+told = record { task = record { 0 = 1 }; deadline = codes "one"; escalation = codes "tell"; moment = at 11000; recipients = 2 ∷ [] }
+
+-- notifications stand behind those that are there
+a_notice : (planned (record nothing_yet { notices = record told { recipients = 3 ∷ [] } ∷ [] }) (record { changes = record (puts []) { notices = told ∷ [] }; marked = puts [] })).notices ≡ record told { recipients = 3 ∷ [] } ∷ told ∷ []
+a_notice = refl
+
+abbrev slot : ℕ → ℕ → ℕ → Slot
+slot person device number = record { person = person; device = device; number = number; op = op.Claim; task = record { 0 = 1 }; kept = kept.Done (record { 0 = 1 }) Ready None }
+
+-- a kept reply stands in the place of its person and device, and else in their order
+a_slot : (planned (record nothing_yet { slots = slot 0 3 1 ∷ slot 1 2 7 ∷ slot 2 0 4 ∷ [] }) (record { changes = record (puts []) { slot = Some (slot 1 2 8) }; marked = puts [] })).slots ≡ slot 0 3 1 ∷ slot 1 2 8 ∷ slot 2 0 4 ∷ []
+a_slot = refl
+
+a_new_slot : (planned (record nothing_yet { slots = slot 0 3 1 ∷ slot 2 0 4 ∷ [] }) (record { changes = record (puts []) { slot = Some (slot 0 5 9) }; marked = puts [] })).slots ≡ slot 0 3 1 ∷ slot 0 5 9 ∷ slot 2 0 4 ∷ []
+a_new_slot = refl
+
+its_row : task_row (record nothing_yet { rows = first ∷ second ∷ [] }) 2 ≡ Some second
+its_row = refl
+
+the_second_model : model_named nothing_yet (codes "unit") ≡ Some 1
+the_second_model = refl
+
+no_third_model : model_at nothing_yet 2 ≡ None
+no_third_model = refl
 
 no_task_zero : row_at 0 (first ∷ []) ≡ None
 no_task_zero = refl
@@ -133,11 +167,11 @@ counted = refl
 
 -- ---- roles
 
-anna_in_it : roles_in office changed 0 ≡ record { initiator = false; stakeholder = false; potential_owner = false; actual_owner = false; administrator = false; operator = false }
+anna_in_it : roles_in nothing_yet changed 0 ≡ record { initiator = false; stakeholder = false; potential_owner = false; actual_owner = false; administrator = false; operator = false }
 anna_in_it = refl
 
-dan_in_it : roles_in office changed 3 ≡ record { initiator = true; stakeholder = false; potential_owner = false; actual_owner = false; administrator = false; operator = false }
+dan_in_it : roles_in nothing_yet changed 3 ≡ record { initiator = true; stakeholder = false; potential_owner = false; actual_owner = false; administrator = false; operator = false }
 dan_in_it = refl
 
-root_in_it : roles_in office (record changed { owner = Some 4; stakeholders = 4 ∷ [] }) 4 ≡ record { initiator = false; stakeholder = true; potential_owner = false; actual_owner = true; administrator = false; operator = true }
+root_in_it : roles_in nothing_yet (record changed { owner = Some 4; stakeholders = 4 ∷ [] }) 4 ≡ record { initiator = false; stakeholder = true; potential_owner = false; actual_owner = true; administrator = false; operator = true }
 root_in_it = refl

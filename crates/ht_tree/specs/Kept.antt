@@ -3,7 +3,6 @@ use Rattle.std.specs.Prelude.{◌≡◌, ◌-◌, ◌≤◌, [], length, take, v
 use Rattle.ht_tree.specs.declared.plan.Plan.TheInside.{Inside as PlanInside}
 use Rattle.ht_tree.specs.declared.tables.Tables.TheInside.{Inside}
 use Rattle.ht_tree.specs.Plans.{PlanOf, changes_of}
-use Rattle.ht_tree.specs.Puts.{AreSmall}
 use Rattle.ht_tree.specs.Sizes.{total_size}
 use Rattle.ht_tree.specs.Soundness.{IsSound}
 use Rattle.ht_tree.specs.Tables.{RoomyTables, TablesOf}
@@ -15,7 +14,6 @@ abbrev pub roomy : Inside → RoomyTables
 roomy t = record { tables = tables_in t; room = vec_capacity t.rows - vec_len t.rows }
 
 pub record IsKept (t : Inside) : Type 0 where
-  pub small : AreSmall t.models
   pub sound : IsSound (tables_in t)
   pub counted : t.size ≡ total_size t.models t.rows.items
 

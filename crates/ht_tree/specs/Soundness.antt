@@ -1,9 +1,15 @@
--- What always holds of the tables.
-use Rattle.std.specs.Prelude.{◌≡◌, ℕ, ◌<◌, ◌≤◌, Bool, true, false, List, length, Some, is_some, IsTrue, IfSome}
+-- What always holds of the tables: of each row, in groups by the fields that they speak of, and of
+-- all rows together.
+use Rattle.std.specs.Prelude.{◌≡◌, ℕ, ◌<◌, ◌≤◌, Bool, true, false, List, length, Option, Some, is_some, IsTrue, IfSome}
+use Rattle.std.specs.List.{All}
+use Rattle.ht_base.specs.declared.moment.Moment.{Moment}
 use Rattle.ht_base.specs.declared.state.State.{State}
-use Rattle.ht_base.specs.declared.state.State.TheVariants.{Created, Reserved, InProgress, SuspendedReady, SuspendedReserved, SuspendedInProgress}
+use Rattle.ht_base.specs.declared.task_id.TaskId.{TaskId}
 use Rattle.ht_base.specs.Moment.{last_moment}
 use Rattle.ht_base.specs.Persons.{AllBelow, Ascends, has}
+use Rattle.ht_base.specs.State.{contains_state}
+use Rattle.ht_rules.specs.States.{created, owned, suspended}
+use Rattle.ht_tree.specs.declared.comments.Comment.{Comment}
 use Rattle.ht_tree.specs.declared.row.Row.{Row}
 use Rattle.ht_tree.specs.Rows.{row_at}
 use Rattle.ht_tree.specs.Sizes.{most_tasks, total_size}
@@ -13,67 +19,97 @@ use Rattle.ht_tree.specs.Tables.{TablesOf}
 
 -- somebody owns the task
 abbrev pub is_owned : State → Bool
-is_owned Reserved = true
-is_owned InProgress = true
-is_owned SuspendedReserved = true
-is_owned SuspendedInProgress = true
-is_owned _ = false
+is_owned state = contains_state owned state
 
--- the task is suspended
-abbrev pub is_held : State → Bool
-is_held SuspendedReady = true
-is_held SuspendedReserved = true
-is_held SuspendedInProgress = true
-is_held _ = false
+abbrev pub is_suspended : State → Bool
+is_suspended state = contains_state suspended state
 
 abbrev pub is_created : State → Bool
-is_created Created = true
-is_created _ = false
+is_created state = contains_state created state
 
--- ---- a row fits: what it names is there
+-- ---- where a task is filed
 
--- of as many models and persons
-pub record FitsIn (models persons : ℕ) (row : Row) : Type 0 where
-  pub model : row.model < models
+-- of as many models
+pub record IsFiled (models : ℕ) (task : TaskId) (above : Option (TaskId × ℕ)) (place : ℕ) : Type 0 where
+  pub model : place < models
   -- the parent is a task of a lower number
-  pub parent : IfSome row.parent (λ p. (1 ≤ p.0.0) × (p.0.0 < row.task.0))
-  pub owner : IfSome row.owner (λ p. p < persons)
-  pub last_owner : IfSome row.last_owner (λ p. p < persons)
-  pub initiator : row.initiator < persons
-  pub potential_owners : AllBelow persons row.potential_owners
-  pub excluded_owners : AllBelow persons row.excluded_owners
-  pub administrators : AllBelow persons row.administrators
-  pub stakeholders : AllBelow persons row.stakeholders
-  pub waits : IsTrue (is_some row.waits) → IsTrue (is_created row.state)
-  pub until : IsTrue (is_some row.until) → IsTrue (is_held row.state)
+  pub parent : IfSome above (λ p. (1 ≤ p.0.0) × (p.0.0 < task.0))
 
-abbrev pub Fits : TablesOf → Row → Type 0
-Fits t row = FitsIn (length t.models) (length t.people.persons) row
+-- ---- who has to do with it
 
--- ---- a row is sound
+-- each of them is one of as many persons
+pub record AreKnown (persons first : ℕ) (last : Option ℕ) (owners others admins holders : List ℕ) : Type 0 where
+  pub initiator : first < persons
+  pub last_owner : IfSome last (λ p. p < persons)
+  pub potential_owners : AllBelow persons owners
+  pub excluded_owners : AllBelow persons others
+  pub administrators : AllBelow persons admins
+  pub stakeholders : AllBelow persons holders
 
--- nobody of the second is in the first
+-- nobody of the first is in the second
 abbrev pub AreApart : List ℕ → List ℕ → Type 0
 AreApart ps qs = (p : ℕ) → has p ps ≡ true → has p qs ≡ false
 
-pub record IsSoundIn (models persons : ℕ) (row : Row) : Type 0 where
-  pub fits : FitsIn models persons row
+pub record ArePeople (persons first : ℕ) (last : Option ℕ) (owners others admins holders : List ℕ) : Type 0 where
+  pub known : AreKnown persons first last owners others admins holders
+  -- an excluded owner is never potential owner (WS-HumanTask 1.1, 3.1)
+  pub apart : AreApart owners others
+  pub potential_ascend : Ascends owners
+  pub excluded_ascend : Ascends others
+  pub administrators_ascend : Ascends admins
+  pub stakeholders_ascend : Ascends holders
+
+-- ---- whose it is
+
+pub record IsWhose (persons : ℕ) (others : List ℕ) (state : State) (owner : Option ℕ) : Type 0 where
   -- there is an actual owner exactly in the owned states (WS-HumanTask 1.1, 4.10)
-  pub owned : is_some row.owner ≡ is_owned row.state
-  -- an excluded owner is never owner, and never potential owner (WS-HumanTask 1.1, 3.1)
-  pub owner_allowed : IfSome row.owner (λ p. has p row.excluded_owners ≡ false)
-  pub owners_allowed : AreApart row.potential_owners row.excluded_owners
-  pub potential_ascend : Ascends row.potential_owners
-  pub excluded_ascend : Ascends row.excluded_owners
-  pub administrators_ascend : Ascends row.administrators
-  pub stakeholders_ascend : Ascends row.stakeholders
-  pub created_within : row.created.0 ≤ last_moment
-  pub waits_within : IfSome row.waits (λ m. m.0 ≤ last_moment)
-  pub until_within : IfSome row.until (λ m. m.0 ≤ last_moment)
-  pub priority_within : row.priority ≤ 10
+  pub owned : is_some owner ≡ is_owned state
+  pub known : IfSome owner (λ p. p < persons)
+  -- an excluded owner is never owner (WS-HumanTask 1.1, 3.1)
+  pub allowed : IfSome owner (λ p. has p others ≡ false)
+
+-- ---- when it was created, for when it waits, and until when it is suspended
+
+pub record IsTimed (state : State) (made : Moment) (start end : Option Moment) : Type 0 where
+  pub waits : IsTrue (is_some start) → IsTrue (is_created state)
+  pub until : IsTrue (is_some end) → IsTrue (is_suspended state)
+  pub created_within : made.0 ≤ last_moment
+  pub waits_within : IfSome start (λ m. m.0 ≤ last_moment)
+  pub until_within : IfSome end (λ m. m.0 ≤ last_moment)
+
+-- ---- how it is noted
+
+pub record IsNoted (persons level : ℕ) (comments : List Comment) : Type 0 where
+  pub priority_within : level ≤ 10
+  pub few : length comments ≤ 32
+  pub known : All (λ c. c.person < persons) comments
+  pub moments_within : All (λ c. c.moment.0 ≤ last_moment) comments
+  pub texts_within : All (λ c. (1 ≤ length c.text) × (length c.text ≤ 512)) comments
+
+-- ---- a row is sound
+
+pub record IsSoundIn (models persons : ℕ) (row : Row) : Type 0 where
+  pub filed : IsFiled models row.task row.parent row.model
+  pub who : ArePeople persons row.initiator row.last_owner row.potential_owners row.excluded_owners row.administrators row.stakeholders
+  pub whose : IsWhose persons row.excluded_owners row.state row.owner
+  pub when : IsTimed row.state row.created row.waits row.until
+  pub how : IsNoted persons row.priority row.comments
 
 abbrev pub IsSoundRow : TablesOf → Row → Type 0
 IsSoundRow t row = IsSoundIn (length t.models) (length t.people.persons) row
+
+-- ---- a row fits: what it names is there
+
+pub record FitsIn (models persons : ℕ) (row : Row) : Type 0 where
+  pub filed : IsFiled models row.task row.parent row.model
+  pub who : AreKnown persons row.initiator row.last_owner row.potential_owners row.excluded_owners row.administrators row.stakeholders
+  pub owner : IfSome row.owner (λ p. p < persons)
+  pub commenters : All (λ c. c.person < persons) row.comments
+  pub waits : IsTrue (is_some row.waits) → IsTrue (is_created row.state)
+  pub until : IsTrue (is_some row.until) → IsTrue (is_suspended row.state)
+
+abbrev pub Fits : TablesOf → Row → Type 0
+Fits t row = FitsIn (length t.models) (length t.people.persons) row
 
 -- ---- tables are sound
 
@@ -86,3 +122,8 @@ pub record IsSound (t : TablesOf) : Type 0 where
   pub tasks_counted : length t.rows ≤ total_size t.models t.rows
   -- the trees of the top tasks have at most as many tasks as there may be
   pub tasks_within : total_size t.models t.rows ≤ most_tasks
+
+-- where the first tables are sound, so are the second: said of whole calls, since what a call passes
+-- through on its way needn't be sound
+abbrev pub KeepsSound : TablesOf → TablesOf → Type 0
+KeepsSound old new = IsSound old → IsSound new

@@ -1,11 +1,13 @@
 -- What the tables hold: models and people, the row of each task, the notifications, the replies that
 -- are kept for repeated commands, and the moment of the last accepted command.
-use Rattle.std.specs.Prelude.{ℕ, List, []}
-use Rattle.ht_models.specs.Model.{ModelOf}
+use Rattle.std.specs.Prelude.{ℕ, List, [], Option, slice_get}
+use Rattle.ht_base.specs.Places.{place_in}
+use Rattle.ht_models.specs.Model.{ModelOf, names}
 use Rattle.ht_people.specs.Directory.{DirectoryOf}
 use Rattle.ht_tree.specs.declared.notice.Notice.{Notice}
 use Rattle.ht_tree.specs.declared.row.Row.{Row}
 use Rattle.ht_tree.specs.declared.slot.Slot.{Slot}
+use Rattle.ht_tree.specs.Rows.{put_in, row_at}
 
 pub record TablesOf : Type 0 where
   pub models : List ModelOf
@@ -23,3 +25,47 @@ pub record RoomyTables : Type 0 where
 -- no tasks yet
 abbrev pub empty_tables : List ModelOf → DirectoryOf → TablesOf
 empty_tables models people = record { models = models; people = people; rows = []; notices = []; slots = []; last = 0 }
+
+-- ---- what is asked of them
+
+-- the persons and groups
+abbrev pub directory : TablesOf → DirectoryOf
+directory t = t.people
+
+-- the row of a task, by its number
+abbrev pub task_row : TablesOf → ℕ → Option Row
+task_row t task = row_at task t.rows
+
+-- the model at a place, of which new tasks are made
+abbrev pub model_at : TablesOf → ℕ → Option ModelOf
+model_at t place = slice_get t.models place
+
+-- the place of the model with a name
+abbrev pub model_named : TablesOf → List ℕ → Option ℕ
+model_named t name = place_in name (names t.models)
+
+-- the model of a task
+abbrev pub model_of : TablesOf → Row → Option ModelOf
+model_of t row = slice_get t.models row.model
+
+abbrev pub potential_owners_of : TablesOf → Row → List ℕ
+potential_owners_of t row = row.potential_owners
+
+abbrev pub excluded_owners_of : TablesOf → Row → List ℕ
+excluded_owners_of t row = row.excluded_owners
+
+abbrev pub administrators_of : TablesOf → Row → List ℕ
+administrators_of t row = row.administrators
+
+abbrev pub stakeholders_of : TablesOf → Row → List ℕ
+stakeholders_of t row = row.stakeholders
+
+-- ---- what is changed of them
+
+-- with this row in its task's place, or behind the others where the task is new
+abbrev pub with_row : TablesOf → Row → TablesOf
+with_row t row = record t { rows = put_in t.rows row }
+
+-- at a later moment
+abbrev pub at_moment : TablesOf → ℕ → TablesOf
+at_moment t moment = record t { last = moment }

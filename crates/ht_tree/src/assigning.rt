@@ -5,6 +5,7 @@ ghost use Rattle.ht_people.specs.Membership as membership;
 ghost use Rattle.ht_tree.specs.Assigning.{resolved};
 ghost use Rattle.ht_tree.specs.Plans.{IsPlanOf};
 ghost use Rattle.ht_tree.specs.Soundness.{Fits};
+ghost use Rattle.ht_tree.specs.Tables.{directory};
 
 use crate::{Plan, Row, Tables};
 use ht_base::{Memory, Name, Person, Persons};
@@ -12,14 +13,12 @@ use ht_expr::{Assign, Env};
 use ht_people::{Directory, except, intersect, union};
 use std::alloc::Global;
 
-/// The environment of a row.
-pub fn env(_alloc: Global, tables: &Tables, plan: &Plan, row: &Row) -> Result<Env, Memory>
-    requires plan { IsPlanOf tables.now.tables plan.now }
-    requires row { Fits tables.now.tables row.now }
+/// The environment of a row, which expressions and assignments see.
+pub fn env(_alloc: Global, _tables: &Tables, _plan: &Plan, row: &Row) -> Result<Env, Memory>
+    requires plan { IsPlanOf _tables.now.tables _plan.now }
+    requires row { Fits _tables.now.tables row.now }
     ensures { IfOk result (λ e. e.initiator ≡ row.now.initiator) }
 {
-    let _ = tables.rows();
-    let _ = plan.rows(tables);
     Ok(Env {
         initiator: row.initiator,
     })
@@ -35,7 +34,7 @@ pub fn resolve(
 ) -> Result<Persons, Memory>
     requires plan { IsPlanOf tables.now.tables plan.now }
     requires row { Fits tables.now.tables row.now }
-    ensures { IfOk result (λ persons. persons ≡ resolved tables.now.tables.people row.now.initiator (shown assign.now)) }
+    ensures { IfOk result (λ persons. persons ≡ resolved (directory tables.now.tables) row.now.initiator (shown assign.now)) }
 {
     let env = env(alloc, tables, plan, row)?;
     found(alloc, tables.people(), &env, assign)

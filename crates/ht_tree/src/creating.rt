@@ -1,14 +1,16 @@
-ghost use Rattle.std.specs.Prelude.{◌≡◌, ◌<◌, ◌≤◌, ◌+◌, ◌^◌, [], IfOk, IfSome, OnErr, OnOk, None, Err, length, option_map, slice_get};
+ghost use Rattle.std.specs.Prelude.{◌≡◌, ◌<◌, ◌≤◌, ◌+◌, ◌^◌, [], IfOk, IfSome, OnErr, OnOk, None, Some, Err, length, option_map};
 ghost use Rattle.std.specs.Option.{option_map_or};
 ghost use Rattle.ht_base.specs.Moment.{last_moment};
 ghost use Rattle.ht_expr.specs.Shown.{shown};
+ghost use Rattle.ht_models.specs.Model.{ModelOf};
 ghost use Rattle.ht_tree.specs.Assigning.{potential_owners, resolved};
 ghost use Rattle.ht_tree.specs.Creating as spec;
 ghost use Rattle.ht_tree.specs.Creating.{IsFull, role_or};
-ghost use Rattle.ht_tree.specs.Plans.{IsPlanOf, KeepsSound, planned_rows, with_row};
+ghost use Rattle.ht_tree.specs.Plans.{Goes, IsPlanOf, planned};
+ghost use Rattle.ht_tree.specs.Soundness.{KeepsSound};
+ghost use Rattle.ht_tree.specs.Tables.{model_at, with_row};
 
-use crate::assigning::found;
-use crate::sizes::top_size;
+use crate::assigning::{env, found};
 use crate::{Comments, Plan, Row, Tables, Taken};
 use ht_base::{Memory, Moment, Person, Persons, State, TaskId, Values};
 use ht_expr::{Assign, Env};
@@ -18,7 +20,7 @@ use std::alloc::Global;
 use thiserror::Error;
 
 /// The most tasks that there may be, each tree counted whole from its creation on.
-const MOST_TASKS: u64 = 50_000;
+const MOST_TASKS: u128 = 50_000;
 
 /// The priority of a task whose model gives none.
 const MIDDLE_PRIORITY: u8 = 5;
@@ -61,19 +63,18 @@ pub fn create(
     at: Moment,
 ) -> Result<TaskId, CreateRefusal>
     requires plan { IsPlanOf tables.now.tables plan.old }
-    requires number { length (planned_rows tables.now.tables plan.old) + 1 < 2 ^ 32 }
+    requires number { length (planned tables.now.tables plan.old).rows + 1 < 2 ^ 32 }
     requires model { model < length tables.now.tables.models }
-    requires parent { IfSome parent (λ p. (1 ≤ p.0.0) × (p.0.0 ≤ length (planned_rows tables.now.tables plan.old))) }
+    requires parent { IfSome parent (λ p. (1 ≤ p.0.0) × (p.0.0 ≤ length (planned tables.now.tables plan.old).rows)) }
     requires initiator { initiator < length tables.now.tables.people.persons }
-    ensures id { IfOk result (λ id. id.0 ≡ length (planned_rows tables.now.tables plan.old) + 1) }
-    ensures ok { OnOk result (IfSome (slice_get tables.now.tables.models model) (λ m. plan.new ≡ with_row plan.old (spec.new_row tables.now.tables (planned_rows tables.now.tables plan.old) m model parent initiator input waits at))) }
-    ensures fits { OnOk result (IsPlanOf tables.now.tables plan.new) }
-    ensures sound { OnOk result (parent ≡ None → at.0 ≤ last_moment → IfSome waits (λ m. m.0 ≤ last_moment) → KeepsSound tables.now.tables plan.old plan.new) }
-    ensures room { OnOk result (parent ≡ None → IsFull tables.now.tables plan.old model → ⊥) }
-    ensures full { result ≡ Err CreateRefusal.TaskLimit → (parent ≡ None) × IsFull tables.now.tables plan.old model }
+    ensures id { IfOk result (λ id. id.0 ≡ length (planned tables.now.tables plan.old).rows + 1) }
+    ensures goes { OnOk result ((m : ModelOf) × (model_at tables.now.tables model ≡ Some m) × Goes tables.now.tables plan.old plan.new (planned tables.now.tables plan.old) (with_row (planned tables.now.tables plan.old) (spec.new_row (planned tables.now.tables plan.old) m model parent initiator input waits at))) }
+    ensures sound { OnOk result (parent ≡ None → at.0 ≤ last_moment → IfSome waits (λ m. m.0 ≤ last_moment) → KeepsSound (planned tables.now.tables plan.old) (planned tables.now.tables plan.new)) }
+    ensures room { OnOk result (parent ≡ None → IsFull (planned tables.now.tables plan.old) model → ⊥) }
+    ensures full { result ≡ Err CreateRefusal.TaskLimit → (parent ≡ None) × IsFull (planned tables.now.tables plan.old) model }
     ensures err { OnErr result (plan.new ≡ plan.old) }
 {
-    let size = u64::from(tables.models().model(model).size);
+    let size = u128::from(tables.models().model(model).size);
     if parent.is_none() && plan.size(tables) + size > MOST_TASKS {
         return Err(CreateRefusal::TaskLimit);
     }
@@ -85,6 +86,7 @@ pub fn create(
     Ok(task)
 }
 
+// The row of a new task, for whose roles expressions and assignments see it before any is set.
 #[allow(clippy::too_many_arguments)]
 fn new_row(
     alloc: Global,
@@ -99,26 +101,45 @@ fn new_row(
     at: Moment,
 ) -> Result<Row, Memory>
     requires plan { IsPlanOf tables.now.tables plan.now }
-    requires task { task.0 ≡ length (planned_rows tables.now.tables plan.now) + 1 }
+    requires task { task.0 ≡ length (planned tables.now.tables plan.now).rows + 1 }
     requires model { model < length tables.now.tables.models }
+    requires parent { IfSome parent (λ p. (1 ≤ p.0.0) × (p.0.0 ≤ length (planned tables.now.tables plan.now).rows)) }
     requires initiator { initiator < length tables.now.tables.people.persons }
-    ensures { IfOk result (λ row. IfSome (slice_get tables.now.tables.models model) (λ m. row ≡ spec.new_row tables.now.tables (planned_rows tables.now.tables plan.now) m model parent initiator input waits at)) }
+    ensures { IfOk result (λ row. IfSome (model_at tables.now.tables model) (λ m. row ≡ spec.new_row (planned tables.now.tables plan.now) m model parent initiator input waits at)) }
 {
     let people = tables.people();
     let m = tables.models().model(model);
-    let env = Env { initiator };
+    let mut row = bare_row(alloc, task, model, parent, initiator, input, waits, at);
+    let env = env(alloc, tables, plan, &row)?;
     let above = parent_row(tables, plan, parent);
-    let excluded_owners = found(alloc, people, &env, &m.excluded_owners)?;
-    let potential_owners = owners(alloc, people, &env, m, &excluded_owners)?;
-    let administrators = role(
+    row.excluded_owners = found(alloc, people, &env, &m.excluded_owners)?;
+    row.potential_owners = owners(alloc, people, &env, m, &row.excluded_owners)?;
+    row.administrators = role(
         alloc,
         people,
         &env,
         &m.administrators,
         administrators_of(above),
     )?;
-    let stakeholders = role(alloc, people, &env, &m.stakeholders, stakeholders_of(above))?;
-    Ok(Row {
+    row.stakeholders = role(alloc, people, &env, &m.stakeholders, stakeholders_of(above))?;
+    row.by_group = !m.potential_owners.individual();
+    Ok(row)
+}
+
+#[allow(clippy::too_many_arguments)]
+fn bare_row(
+    alloc: Global,
+    task: TaskId,
+    model: u32,
+    parent: Option<(TaskId, u32)>,
+    initiator: Person,
+    input: Values,
+    waits: Option<Moment>,
+    at: Moment,
+) -> Row
+    ensures { result ≡ spec.bare_row task model parent initiator input waits at }
+{
+    Row {
         task,
         parent,
         model,
@@ -126,11 +147,11 @@ fn new_row(
         owner: None,
         last_owner: None,
         initiator,
-        potential_owners,
-        excluded_owners,
-        administrators,
-        stakeholders,
-        by_group: !m.potential_owners.individual(),
+        potential_owners: Persons::new(alloc),
+        excluded_owners: Persons::new(alloc),
+        administrators: Persons::new(alloc),
+        stakeholders: Persons::new(alloc),
+        by_group: false,
         started: false,
         priority: MIDDLE_PRIORITY,
         input,
@@ -141,7 +162,7 @@ fn new_row(
         fault: None,
         taken: Taken::new(alloc),
         comments: Comments::new(alloc),
-    })
+    }
 }
 
 // The row of the parent, of a sub task.
@@ -151,7 +172,7 @@ fn parent_row<'a>(
     parent: Option<(TaskId, u32)>,
 ) -> Option<&'a Row>
     requires { IsPlanOf tables.now.tables plan.now }
-    ensures { option_map (λ r. r.now) result ≡ spec.parent_row (planned_rows tables.now.tables plan.now) parent }
+    ensures { option_map (λ r. r.now) result ≡ spec.parent_row (planned tables.now.tables plan.now) parent }
 {
     match parent {
         Some((id, _)) => plan.row(tables, id),

@@ -1,14 +1,15 @@
-ghost use Rattle.std.specs.Prelude.{◌≡◌, ◌<◌, ◌^◌, IfOk, IfSome, IsSome, OnOk, OnErr, fold, length, max, option_map};
-ghost use Rattle.ht_tree.specs.Plans.{Follow, IsNext, IsPlanOf, KeepsSound, Replaces, last_of, new_rows, no_plan, planned_rows, with_row};
+ghost use Rattle.std.specs.Prelude.{◌≡◌, ◌<◌, ◌^◌, IfOk, IfSome, IsSome, MatchOption, Some, OnOk, OnErr, fold, length, max, option_map};
+ghost use Rattle.ht_tree.specs.Plans.{Follow, Goes, IsNext, IsPlanOf, Lends, last_of, new_rows, no_plan, planned};
+ghost use Rattle.ht_tree.specs.Puts.{put_more};
 ghost use Rattle.ht_tree.specs.Roles as spec;
 ghost use Rattle.ht_tree.specs.Rows.{put_in, row_at};
 ghost use Rattle.ht_tree.specs.Sizes.{total_size};
-ghost use Rattle.ht_tree.specs.Soundness.{Fits, IsSoundRow};
+ghost use Rattle.ht_tree.specs.Soundness.{Fits};
+ghost use Rattle.ht_tree.specs.Tables.{task_row, with_row};
 
 use crate::sizes::resized;
 use crate::{Row, Tables};
 use ht_base::{Memory, Person, Roles, TaskId};
-use ht_people::Directory;
 use std::alloc::Global;
 use std::marker::Model;
 
@@ -46,7 +47,7 @@ impl Plan {
     /// The row of a task as it would be after the plan.
     pub fn row<'a>(&'a self, tables: &'a Tables, id: TaskId) -> Option<&'a Row>
         requires { IsPlanOf tables.now.tables self.now }
-        ensures value { option_map (λ r. r.now) result ≡ row_at id.0 (planned_rows tables.now.tables self.now) }
+        ensures value { option_map (λ r. r.now) result ≡ task_row (planned tables.now.tables self.now) id.0 }
         ensures fits { IfSome result (λ r. Fits tables.now.tables r.now) }
     {
         row_after(tables, &self.rows, id)
@@ -55,25 +56,53 @@ impl Plan {
     /// How many tasks there would be after the plan.
     pub fn rows(&self, tables: &Tables) -> u32
         requires { IsPlanOf tables.now.tables self.now }
-        ensures { result ≡ length (planned_rows tables.now.tables self.now) }
+        ensures { result ≡ length (planned tables.now.tables self.now).rows }
     {
         highest(tables.rows(), &self.rows)
     }
 
     /// Puts a row: of a task that there would be after the plan, or of the next.
-    pub fn put(&mut self, tables: &Tables, row: Row) -> Result<(), Memory>
-        requires plan { IsPlanOf tables.now.tables self.old }
-        requires next { IsNext (planned_rows tables.now.tables self.old) row }
-        requires fits { Fits tables.now.tables row }
-        ensures ok { OnOk result (self.new ≡ with_row self.old row) }
-        ensures fits { OnOk result (IsPlanOf tables.now.tables self.new) }
-        ensures after { OnOk result (planned_rows tables.now.tables self.new ≡ put_in (planned_rows tables.now.tables self.old) row) }
-        ensures sound { OnOk result (IsSoundRow tables.now.tables row → Replaces (planned_rows tables.now.tables self.old) row → KeepsSound tables.now.tables self.old self.new) }
+    pub fn put(&mut self, _tables: &Tables, row: Row) -> Result<(), Memory>
+        requires plan { IsPlanOf _tables.now.tables self.old }
+        requires next { IsNext (planned _tables.now.tables self.old).rows row }
+        requires fits { Fits _tables.now.tables row }
+        ensures goes { OnOk result (Goes _tables.now.tables self.old self.new (planned _tables.now.tables self.old) (with_row (planned _tables.now.tables self.old) row)) }
         ensures err { OnErr result (self.new ≡ self.old) }
     {
-        let _ = tables;
         self.rows.push(row)?;
         Ok(())
+    }
+
+    /// Takes the row of a task as it would be after the plan, to be changed and put again: moved, where
+    /// it was put last and behind the mark, and else copied.
+    pub fn take(&mut self, alloc: Global, tables: &Tables, id: TaskId) -> Result<Row, Memory>
+        requires plan { IsPlanOf tables.now.tables self.old }
+        requires there { IsSome (task_row (planned tables.now.tables self.old) id.0) }
+        ensures row { IfOk result (λ row. task_row (planned tables.now.tables self.old) id.0 ≡ Some row) }
+        ensures fits { IfOk result (λ row. Fits tables.now.tables row) }
+        ensures lends { OnOk result (Lends tables.now.tables self.old self.new id.0) }
+        ensures err { OnErr result (self.new ≡ self.old) }
+    {
+        if let Some(row) = self.pop_of(id) {
+            return Ok(row);
+        }
+        match self.row(tables, id) {
+            Some(row) => Ok(row.copy(alloc)?),
+            None => unreachable!(),
+        }
+    }
+
+    // The row that was put last, where it is this task's and stands behind the mark.
+    fn pop_of(&mut self, id: TaskId) -> Option<Row>
+        ensures { MatchOption result (self.new ≡ self.old) (λ row. (row.task.0 ≡ id.0) × (self.old ≡ put_more self.new row)) }
+    {
+        if self.rows.len() <= self.mark {
+            return None;
+        }
+        match self.rows.last() {
+            Some(row) if row.task == id => self.rows.pop(),
+            _ => None,
+        }
     }
 
     /// Marks the plan as it is, to go back to.
@@ -93,22 +122,21 @@ impl Plan {
     /// The roles of a person in a task as it would be after the plan.
     pub fn roles_of(&self, tables: &Tables, id: TaskId, person: Person) -> Roles
         requires plan { IsPlanOf tables.now.tables self.now }
-        requires row { IsSome (row_at id.0 (planned_rows tables.now.tables self.now)) }
+        requires row { IsSome (task_row (planned tables.now.tables self.now) id.0) }
         requires person { person < length tables.now.tables.people.persons }
-        ensures { IfSome (row_at id.0 (planned_rows tables.now.tables self.now)) (λ row. result ≡ spec.roles_in tables.now.tables.people row person) }
+        ensures { IfSome (task_row (planned tables.now.tables self.now) id.0) (λ row. result ≡ spec.roles_in (planned tables.now.tables self.now) row person) }
     {
         match self.row(tables, id) {
-            Some(row) => roles_in(tables.people(), row, person),
+            Some(row) => roles_in(tables, row, person),
             None => unreachable!(),
         }
     }
 
     /// The tasks of the trees of all top tasks that there would be after the plan.
-    pub(crate) fn size(&self, tables: &Tables) -> u64
-        requires plan { IsPlanOf tables.now.tables self.now }
-        requires few { length (planned_rows tables.now.tables self.now) < 2 ^ 32 }
-        ensures value { result ≡ total_size tables.now.tables.models (planned_rows tables.now.tables self.now) }
-        ensures small { result < 2 ^ 63 }
+    pub(crate) fn size(&self, tables: &Tables) -> u128
+        requires { IsPlanOf tables.now.tables self.now }
+        ensures value { result ≡ total_size tables.now.tables.models (planned tables.now.tables self.now).rows }
+        ensures small { result < 2 ^ 100 }
     {
         size_after(tables, &self.rows)
     }
@@ -130,9 +158,9 @@ impl Plan {
     }
 }
 
-fn roles_in(people: &Directory, row: &Row, person: Person) -> Roles
-    requires { person < length people.now.persons }
-    ensures { result ≡ spec.roles_in people.now row.now person }
+fn roles_in(tables: &Tables, row: &Row, person: Person) -> Roles
+    requires { person < length tables.now.tables.people.persons }
+    ensures { result ≡ spec.roles_in tables.now.tables row.now person }
 {
     Roles {
         initiator: row.initiator == person,
@@ -140,18 +168,17 @@ fn roles_in(people: &Directory, row: &Row, person: Person) -> Roles
         potential_owner: row.potential_owners.contains(person),
         actual_owner: row.owner == Some(person),
         administrator: row.administrators.contains(person),
-        operator: people.operator(person),
+        operator: tables.people().operator(person),
     }
 }
 
 // The tasks of all trees after these rows were put.
-fn size_after(tables: &Tables, puts: &[Row]) -> u64
-    requires puts { Follow tables.now.tables tables.now.tables.rows puts.now }
-    requires few { length (fold put_in tables.now.tables.rows puts.now) < 2 ^ 32 }
+fn size_after(tables: &Tables, puts: &[Row]) -> u128
+    requires { Follow tables.now.tables tables.now.tables.rows puts.now }
     ensures value { result ≡ total_size tables.now.tables.models (fold put_in tables.now.tables.rows puts.now) }
-    ensures small { result < 2 ^ 63 }
+    ensures small { result < 2 ^ 100 }
 {
-    let mut size = tables.size();
+    let mut size = u128::from(tables.size());
     for (i, row) in puts.iter().enumerate() {
         let before = row_after(tables, &puts[..i], row.task);
         size = resized(tables.models(), size, before, row);

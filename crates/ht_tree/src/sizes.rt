@@ -17,18 +17,20 @@ pub(crate) fn top_size(models: &Models, row: &Row) -> u64
     }
 }
 
-/// The tasks of all trees, of which one row is changed or new.
-pub(crate) fn resized(models: &Models, total: u64, before: Option<&Row>, row: &Row) -> u64
+/// The tasks of all trees, of which one row is changed or new. They are counted wide, since plans pass
+/// through more tasks than the tables ever hold.
+pub(crate) fn resized(models: &Models, total: u128, before: Option<&Row>, row: &Row) -> u128
     requires row { row.now.model < length models.now }
     requires before { IfSome before (λ r. (r.now.model < length models.now) × (spec.top_size models.now r.now ≤ total)) }
-    requires total { total < 2 ^ 63 }
+    requires total { total < 2 ^ 100 }
     ensures new { IfNone before.entry (result ≡ total + spec.top_size models.now row.now) }
     ensures resized { IsResized models.now total row.now (option_map (λ r. r.now) before.entry) result }
     ensures changed { IfSome before.entry (λ r. result + spec.top_size models.now r.now ≡ total + spec.top_size models.now row.now) }
+    ensures grown { result ≤ total + 2 ^ 32 }
 {
     let rest = match before {
-        Some(before) => total - top_size(models, before),
+        Some(before) => total - u128::from(top_size(models, before)),
         None => total,
     };
-    rest + top_size(models, row)
+    rest + u128::from(top_size(models, row))
 }

@@ -1,11 +1,11 @@
-ghost use Rattle.std.specs.Prelude.{◌≡◌, ◌≤◌, ◌<◌, ◌^◌, ℕ, IfOk, IfSome, fold, OnOk, Some, length, max, option_map, slice_get, vec_capacity, vec_len};
+ghost use Rattle.std.specs.Prelude.{◌≡◌, ◌≤◌, ◌<◌, ◌+◌, ◌^◌, ℕ, IfOk, IfSome, fold, OnOk, Some, length, max, option_map, slice_get, vec_capacity, vec_len};
 ghost use Rattle.ht_tree.specs.declared.row.Row.{Row};
-ghost use Rattle.ht_tree.specs.Puts.{AreSmall, CanPut, HaveModels};
-ghost use Rattle.ht_tree.specs.Plans.{IsNext, IsPlanOf, new_rows, planned};
+ghost use Rattle.ht_tree.specs.Puts.{CanPut, HaveModels};
+ghost use Rattle.ht_tree.specs.Plans.{IsNext, IsPlanOf, IsPrepared, committed};
 ghost use Rattle.ht_tree.specs.Rows.{put_in, row_at};
 ghost use Rattle.ht_tree.specs.Sizes.{total_size};
 ghost use Rattle.ht_tree.specs.Soundness.{IsSound, IsSoundRow};
-ghost use Rattle.ht_tree.specs.Tables.{empty_tables};
+ghost use Rattle.ht_tree.specs.Tables.{directory, empty_tables, task_row};
 
 use crate::sizes::resized;
 use crate::{Plan, Row};
@@ -48,8 +48,6 @@ impl Tables {
     pub fn new(alloc: Global, models: Models, people: Directory) -> Result<Tables, Memory>
         ensures { IfOk result (λ t. t.tables ≡ empty_tables models people) }
     {
-        // Its contract says how large the tree of a model may be.
-        let _ = models.count();
         Ok(Tables {
             models,
             people,
@@ -61,7 +59,7 @@ impl Tables {
 
     /// The row of a task, if there is such a task.
     pub fn row(&self, id: TaskId) -> Option<&Row>
-        ensures value { option_map (λ r. r.now) result ≡ row_at id.0 self.now.tables.rows }
+        ensures value { option_map (λ r. r.now) result ≡ task_row self.now.tables id.0 }
         ensures sound { IfSome result (λ r. IsSoundRow self.now.tables r.now) }
     {
         row_in(&self.rows, id)
@@ -91,7 +89,7 @@ impl Tables {
     }
 
     pub fn people(&self) -> &Directory
-        ensures { result.now ≡ self.now.tables.people }
+        ensures { result.now ≡ directory self.now.tables }
     {
         &self.people
     }
@@ -99,7 +97,6 @@ impl Tables {
     /// The tasks of the trees of all top tasks.
     pub(crate) fn size(&self) -> u64
         ensures value { result ≡ total_size self.now.tables.models self.now.tables.rows }
-        ensures small { AreSmall self.now.tables.models }
         ensures sound { IsSound self.now.tables }
     {
         self.size
@@ -109,7 +106,7 @@ impl Tables {
     pub fn prepare(&mut self, plan: &Plan) -> Result<(), Memory>
         requires { IsPlanOf self.old.tables plan.now }
         ensures tables { self.new.tables ≡ self.old.tables }
-        ensures prepared { OnOk result (new_rows self.old.tables plan.now ≤ self.new.room) }
+        ensures prepared { OnOk result (IsPrepared self.new plan.now) }
     {
         let more = plan.new_rows(self);
         self.rows.reserve(more)?;
@@ -119,18 +116,15 @@ impl Tables {
     /// Makes the planned change. It can't be refused, and takes no memory.
     pub fn commit(&mut self, plan: Plan, at: Moment)
         requires fits { IsPlanOf self.old.tables plan }
-        requires prepared { new_rows self.old.tables plan ≤ self.old.room }
-        requires sound { IsSound (planned self.old.tables plan at.0) }
+        requires prepared { IsPrepared self.old plan }
+        requires sound { IsSound (committed self.old.tables plan at.0) }
         requires later { self.old.tables.last ≤ at.0 }
-        ensures { self.new.tables ≡ planned self.old.tables plan at.0 }
+        ensures { self.new.tables ≡ committed self.old.tables plan at.0 }
     {
         self.last = at;
-        put_all(
-            &self.models,
-            &mut self.rows,
-            &mut self.size,
-            plan.into_rows(),
-        );
+        let size = u128::from(self.size);
+        let size = put_all(&self.models, &mut self.rows, size, plan.into_rows());
+        self.size = size as u64;
     }
 }
 
@@ -143,41 +137,45 @@ fn row_in(rows: &[Row], id: TaskId) -> Option<&Row>
     rows.get(id.0 as usize - 1)
 }
 
-// Puts rows one after another.
-fn put_all(models: &Models, rows: &mut Vec<Row>, size: &mut u64, puts: Vec<Row>)
+// Puts rows one after another. It gives the tasks of all trees, of which there were so many before.
+fn put_all(models: &Models, rows: &mut Vec<Row>, size: u128, puts: Vec<Row>) -> u128
     requires puts { CanPut (length models.now) rows.old.items puts.items }
     requires models { HaveModels (length models.now) rows.old.items }
-    requires small { AreSmall models.now }
-    requires counted { size.old ≡ total_size models.now rows.old.items }
-    requires few { length (fold put_in rows.old.items puts.items) < 2 ^ 32 }
+    requires counted { size ≡ total_size models.now rows.old.items }
+    requires small { size < 2 ^ 64 }
     requires room { length (fold put_in rows.old.items puts.items) ≤ vec_capacity rows.old }
     ensures rows { rows.new.items ≡ fold put_in rows.old.items puts.items }
-    ensures counted { size.new ≡ total_size models.now rows.new.items }
+    ensures counted { result ≡ total_size models.now rows.new.items }
 {
+    let mut size = size;
     for row in puts {
-        put_row(models, rows, size, row);
+        size = put_row(models, rows, size, row);
     }
+    size
 }
 
 // Puts a row in its task's place, or behind the others.
-fn put_row(models: &Models, rows: &mut Vec<Row>, size: &mut u64, row: Row)
+fn put_row(models: &Models, rows: &mut Vec<Row>, size: u128, row: Row) -> u128
     requires next { IsNext rows.old.items row }
     requires model { row.model < length models.now }
     requires models { HaveModels (length models.now) rows.old.items }
-    requires counted { size.old ≡ total_size models.now rows.old.items }
-    requires small { size.old < 2 ^ 63 }
+    requires counted { size ≡ total_size models.now rows.old.items }
+    requires small { size < 2 ^ 100 }
     requires room { length rows.old.items < row.task.0 → vec_len rows.old < vec_capacity rows.old }
     ensures rows { rows.new.items ≡ put_in rows.old.items row }
-    ensures counted { size.new ≡ total_size models.now rows.new.items }
+    ensures counted { result ≡ total_size models.now rows.new.items }
+    ensures grown { result ≤ size + 2 ^ 32 }
     ensures capacity { vec_capacity rows.new ≡ vec_capacity rows.old }
     ensures len { vec_len rows.new ≡ max (vec_len rows.old) row.task.0 }
 {
     let place = row.task.0 as usize - 1;
     if place < rows.len() {
-        *size = resized(models, *size, Some(&rows[place]), &row);
+        let size = resized(models, size, Some(&rows[place]), &row);
         rows[place] = row;
+        size
     } else {
-        *size = resized(models, *size, None, &row);
+        let size = resized(models, size, None, &row);
         rows.push_reserved(row);
+        size
     }
 }

@@ -1,6 +1,6 @@
 ghost use Rattle.std.specs.Prelude.{◌≡◌, None, OnOk};
-ghost use Rattle.ht_tree.specs.Plans.{IsPlanOf, no_plan, planned};
-ghost use Rattle.ht_tree.specs.Soundness.{IsSound};
+ghost use Rattle.ht_tree.specs.Plans.{IsPlanOf, planned};
+ghost use Rattle.ht_tree.specs.Soundness.{KeepsSound};
 
 use crate::{Comment, CreateRefusal, Plan, Tables, create, resolve};
 use ht_base::{LAST, Moment, Person, Persons, Role, Roles, State, TaskId, Txt, Values};
@@ -42,7 +42,7 @@ fn planned(
 ) -> Result<TaskId, CreateRefusal>
     requires { IsPlanOf tables.now.tables plan.old }
     ensures fits { OnOk result (IsPlanOf tables.now.tables plan.new) }
-    ensures sound { OnOk result (parent ≡ None → plan.old ≡ no_plan → IsSound (planned tables.now.tables plan.new tables.now.tables.last)) }
+    ensures sound { OnOk result (parent ≡ None → KeepsSound (planned tables.now.tables plan.old) (planned tables.now.tables plan.new)) }
 {
     assert!(rt; model < tables.models().count());
     assert!(rt; DAN.0 < tables.people().persons());
@@ -243,5 +243,17 @@ fn assignments_find_persons(rt: HostRuntime) -> Result<(), Fail> {
         let found = found(rt.alloc(), &tables, text)?;
         assert_eq!(rt; found.as_slice(), persons, "{text}");
     }
+    Ok(())
+}
+
+#[test]
+fn a_row_is_taken(rt: HostRuntime) -> Result<(), Fail> {
+    let mut tables = tables(rt.alloc())?;
+    let task = created(&rt, rt.alloc(), &mut tables, UNIT)?;
+    let mut plan = Plan::begin(rt.alloc())?;
+    assert!(rt; plan.row(&tables, task).is_some());
+    let row = plan.take(rt.alloc(), &tables, task)?;
+    assert_eq!(rt; (row.task, row.state), (task, State::Created));
+    assert_eq!(rt; row.potential_owners.as_slice().len(), 2);
     Ok(())
 }

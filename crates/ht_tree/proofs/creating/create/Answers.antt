@@ -1,19 +1,19 @@
 use Rattle.std.proofs.Common.{true, is_some, ◌∷◌, [], ◌++◌, length, ◌≡◌, ℕ, ◌+◌, ◌≤◌, List, Option, Some, None, ap, sym, ◌∙◌, subst, arith}
 use Rattle.std.specs.Option.{option_map_or}
-use Rattle.ht_base.specs.declared.task_id.TaskId.{TaskId}
-use Rattle.ht_tree.specs.Sizes.{most_tasks, top_size, total_size}
-use Rattle.ht_tree.proofs.creating.create.Goals.{else-is_none-via-then-is_none+else-size-gt-MOST_TASKS, else-is_none-via-else-is_none}
 use Rattle.std.specs.Prelude.{slice_get}
+use Rattle.ht_base.specs.declared.task_id.TaskId.{TaskId}
 use Rattle.ht_models.specs.Model.{ModelOf}
 use Rattle.ht_models.specs.Shown.{model_of}
 use Rattle.ht_tree.specs.declared.row.Row.{Row}
 use Rattle.ht_tree.specs.Creating.{new_row}
-use Rattle.ht_tree.specs.Plans.{planned_rows}
-use Rattle.ht_tree.specs.Plans.{planned}
+use Rattle.ht_tree.specs.Plans.{Goes, planned}
+use Rattle.ht_tree.specs.Sizes.{most_tasks, top_size, total_size}
 use Rattle.ht_tree.specs.Soundness.{Fits, IsSound, IsSoundRow}
+use Rattle.ht_tree.specs.Tables.{TablesOf, model_at, with_row}
+use Rattle.ht_tree.proofs.Fitting.{new_row_fits, new_row_sound, parent_fits}
 use Rattle.ht_tree.proofs.Putting.{put_new}
 use Rattle.ht_tree.proofs.Sounding.{push_sound}
-use Rattle.ht_tree.proofs.Fitting.{new_row_fits, new_row_sound, parent_fits}
+use Rattle.ht_tree.proofs.creating.create.Goals.{else-is_none-via-then-is_none+else-size-gt-MOST_TASKS, else-is_none-via-else-is_none}
 use Rattle.ht_tree.proofs.creating.create.Goals as goal
 
 not_both : {A : Type 0} (o : Option A) → o ≡ None → is_some o ≡ true → ⊥
@@ -23,24 +23,34 @@ not_both (Some x) e h = cc
 pub put-requires-clause-fits : goal.put-requires-clause-fits
 put-requires-clause-fits c =
     let t = c.args.tables.now.tables in
-    let rows = planned_rows t c.args.plan.now in
+    let u = planned t c.args.plan.now in
     let m : ModelOf = model_of c.model.result.now in
-    let at : slice_get t.models c.args.model ≡ Some m = ap (λ (ms : List ModelOf). slice_get ms c.args.model) (sym c.models.ensures.value) ∙ c.model.ensures.value in
-    let is : c.in_ok-row.row ≡ new_row t rows m c.args.model c.args.parent c.args.initiator c.args.input c.args.waits c.args.at = rw at at c.in_ok-row.ensures in
+    let at : model_at t c.args.model ≡ Some m = ap (λ (ms : List ModelOf). slice_get ms c.args.model) (sym c.models.ensures.value) ∙ c.model.ensures.value in
+    let is : c.in_ok-row.row ≡ new_row u m c.args.model c.args.parent c.args.initiator c.args.input c.args.waits c.args.at = rw at at c.in_ok-row.ensures in
     let P : Row → Type 0 = λ r. Fits t r in
-    subst P (sym is) (new_row_fits t rows m c.args.model c.args.parent c.args.initiator c.args.input c.args.waits c.args.at c.requires.model c.requires.initiator c.requires.parent (parent_fits t ((c.args.plan.now).changes).rows c.args.parent c.models.ensures.sound c.requires.plan.changes_fit))
+    subst P (sym is) (new_row_fits u m c.args.model c.args.parent c.args.initiator c.args.input c.args.waits c.args.at c.requires.model c.requires.initiator c.requires.parent (parent_fits t c.args.plan.now c.args.parent c.models.ensures.sound c.requires.plan))
+
+pub returns-clause-goes : goal.returns-clause-goes
+returns-clause-goes c =
+    let t = c.args.tables.now.tables in
+    let u = planned t c.args.plan.now in
+    let m : ModelOf = model_of c.model.result.now in
+    let at : model_at t c.args.model ≡ Some m = ap (λ (ms : List ModelOf). slice_get ms c.args.model) (sym c.models.ensures.value) ∙ c.model.ensures.value in
+    let is : c.in_ok-row.row ≡ new_row u m c.args.model c.args.parent c.args.initiator c.args.input c.args.waits c.args.at = rw at at c.in_ok-row.ensures in
+    let P : Row → Type 0 = λ r. Goes t c.args.plan.now c.put.new.self u (with_row u r) in
+    (m, at, subst P is c.in_ok-put.ensures.goes)
 
 pub returns-clause-sound : goal.returns-clause-sound
-returns-clause-sound c = λ none early soon at sound.
+returns-clause-sound c = λ none early soon sound.
     let t = c.args.tables.now.tables in
-    let rows = planned_rows t c.args.plan.now in
+    let u = planned t c.args.plan.now in
     let row = c.in_ok-row.row in
     let m : ModelOf = model_of c.model.result.now in
-    let known : slice_get t.models c.args.model ≡ Some m = ap (λ (ms : List ModelOf). slice_get ms c.args.model) (sym c.models.ensures.value) ∙ c.model.ensures.value in
-    let is : row ≡ new_row t rows m c.args.model c.args.parent c.args.initiator c.args.input c.args.waits c.args.at = rw known at c.in_ok-row.ensures in
-    let top : row ≡ new_row t rows m c.args.model None c.args.initiator c.args.input c.args.waits c.args.at = is ∙ ap (λ (p : Option (TaskId × ℕ)). new_row t rows m c.args.model p c.args.initiator c.args.input c.args.waits c.args.at) none in
+    let known : model_at t c.args.model ≡ Some m = ap (λ (ms : List ModelOf). slice_get ms c.args.model) (sym c.models.ensures.value) ∙ c.model.ensures.value in
+    let is : row ≡ new_row u m c.args.model c.args.parent c.args.initiator c.args.input c.args.waits c.args.at = rw known at c.in_ok-row.ensures in
+    let top : row ≡ new_row u m c.args.model None c.args.initiator c.args.input c.args.waits c.args.at = is ∙ ap (λ (p : Option (TaskId × ℕ)). new_row u m c.args.model p c.args.initiator c.args.input c.args.waits c.args.at) none in
     let size : top_size t.models row ≡ 1 = ap (λ (r : Row). top_size t.models r) top ∙ ap (λ (o : Option ModelOf). option_map_or (λ (x : ModelOf). x.size) o 0) known ∙ c.model.ensures.size in
-    let room : total_size t.models rows + 1 ≤ most_tasks =
+    let room : total_size t.models u.rows + 1 ≤ most_tasks =
     elim c.else-is_none.branch [
       | else-is_none-via-then-is_none+else-size-gt-MOST_TASKS w ↦
           let value = w.size.ensures.value in
@@ -50,10 +60,10 @@ returns-clause-sound c = λ none early soon at sound.
           omega arith
       | else-is_none-via-else-is_none w ↦ absurd (not_both c.args.parent none w.if-is_none.ensures)
     ] in
-    let number : row.task.0 ≡ length rows + 1 = ap (λ (r : Row). r.task.0) top in
-    let fine : IsSoundRow t row =
+    let number : row.task.0 ≡ length u.rows + 1 = ap (λ (r : Row). r.task.0) top in
     let P : Row → Type 0 = λ r. IsSoundRow t r in
-    subst P (sym top) (new_row_sound t rows m c.args.model c.args.initiator c.args.input c.args.waits c.args.at c.requires.model c.requires.initiator early soon) in
-    let put : planned_rows t c.put.new.self ≡ rows ++ row ∷ [] = c.in_ok-put.ensures.after ∙ put_new rows row (omega arith) in
-    let Q : List Row → Type 0 = λ rs. IsSound (record t { rows = rs; last = at }) in
-    subst Q (sym put) (push_sound (planned t c.args.plan.now at) row sound number fine (omega arith) (omega arith))
+    let fine : IsSoundRow t row = subst P (sym top) (new_row_sound u m c.args.model c.args.initiator c.args.input c.args.waits c.args.at c.requires.model c.requires.initiator early soon) in
+    let behind : planned t c.put.new.self ≡ record u { rows = u.rows ++ row ∷ [] } =
+    c.in_ok-put.ensures.goes.to ∙ ap (λ (l : List Row). record u { rows = l }) (put_new u.rows row (omega arith)) in
+    let Q : TablesOf → Type 0 = λ v. IsSound v in
+    subst Q (sym behind) (push_sound u row sound number fine (omega arith) (omega arith))

@@ -1,4 +1,4 @@
-use Rattle.std.proofs.Common.{◌≡◌, fold, length, vec_capacity}
+use Rattle.std.proofs.Common.{◌≡◌, ◌+◌, ◌*◌, ◌^◌, ◌≤◌, fold, length, vec_capacity}
 use Rattle.std.specs.Vec.Iter.{into_iter_items}
 use Rattle.ht_tree.specs.Puts.{CanPut, HaveModels}
 use Rattle.ht_tree.specs.Rows.{put_in}
@@ -12,6 +12,7 @@ invariant-loop-row l = record {
   puts : CanPut (length l.models) l.rows.items (into_iter_items l.row-iterator);
   models : HaveModels (length l.models) l.rows.items;
   counted : l.size ≡ total_size l.models l.rows.items;
+  small : l.size + 2 ^ 32 * length (into_iter_items l.row-iterator) ≤ 2 ^ 64 + 2 ^ 32 * length l.fn.puts.items;
   rows : fold put_in l.rows.items (into_iter_items l.row-iterator) ≡ fold put_in l.fn.rows.items l.fn.puts.items;
   capacity : vec_capacity l.rows ≡ vec_capacity l.fn.rows;
 }

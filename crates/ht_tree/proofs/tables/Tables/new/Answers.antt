@@ -1,11 +1,9 @@
 use Rattle.std.proofs.Common.{refl}
-use Rattle.ht_tree.proofs.Counting.{ones_small}
 use Rattle.ht_tree.proofs.Sounding.{empty_sound}
 use Rattle.ht_tree.proofs.tables.Tables.new.Goals as goal
 
 pub invariant_of-result : goal.invariant_of-result
 invariant_of-result c = record {
-  small = ones_small c.args.models c.count.ensures.sizes;
   sound = rw c.new.ensures.items (empty_sound c.args.models c.args.people);
   counted = rw c.new.ensures.items refl;
 }
