@@ -1,5 +1,6 @@
-mod Allowed
-mod Authorising
-mod Leaving
-mod Owning
+mod Activated
+mod Asking
+mod Commanded
+mod Created
+mod OneOutcome
 mod Rows

@@ -1,73 +1,66 @@
--- What comes of each command (WS-HumanTask 1.1, 4.10 and 7.1.1).
-use Rattle.std.specs.Prelude.{ℕ, ◌+◌, nat_le, List, [], Option, Some, None, slice_get, if◌then◌else◌}
+-- What comes of a command of a person (WS-HumanTask 1.1, 4.10 and 7.1.1).
+use Rattle.std.specs.Prelude.{◌≡◌, ℕ, ◌+◌, List, [], length, Option, Some, None}
 use Rattle.ht_base.specs.declared.event.Command.{Command}
 use Rattle.ht_base.specs.declared.event.Command.TheVariants as command
-use Rattle.ht_base.specs.declared.operation.Op.TheVariants as op
 use Rattle.ht_base.specs.declared.reply.Limit.TheVariants.{Tasks}
 use Rattle.ht_base.specs.declared.reply.Refusal.{Refusal}
 use Rattle.ht_base.specs.declared.reply.Refusal.TheVariants as refusal
 use Rattle.ht_base.specs.declared.reply.Unknown.TheVariants as unknown
-use Rattle.ht_base.specs.declared.state.State.TheVariants.{Reserved}
-use Rattle.ht_base.specs.declared.task_id.TaskId.{TaskId}
-use Rattle.ht_base.specs.Places.{place_in}
-use Rattle.ht_models.specs.Model.{ModelOf, names}
-use Rattle.ht_tree.specs.declared.row.Row.{Row}
-use Rattle.ht_tree.specs.Creating.{new_row}
-use Rattle.ht_tree.specs.Roles.{roles_in}
-use Rattle.ht_tree.specs.Rows.{put_in, row_at}
-use Rattle.ht_tree.specs.Sizes.{most_tasks, total_size}
-use Rattle.ht_tree.specs.Tables.{TablesOf}
-use Rattle.ht_machine.specs.Activating.{activated}
-use Rattle.ht_machine.specs.Authorisation.{why_not}
+use Rattle.ht_base.specs.Events.{op_of}
+use Rattle.ht_models.specs.Model.{ModelOf}
+use Rattle.ht_owner.specs.declared.follow.Follow.{Follow}
+use Rattle.ht_owner.specs.declared.follow.Follow.TheVariants as follow
+use Rattle.ht_owner.specs.Effects.{Effect, does, effect, refuses}
+use Rattle.ht_tree.specs.Creating.{IsFull, new_row}
+use Rattle.ht_tree.specs.Tables.{TablesOf, model_at, model_named, with_row}
+use Rattle.ht_machine.specs.Activating.{Activates}
+use Rattle.ht_machine.specs.Gate.{Gate, gate, opens, shuts}
 
--- It is accepted: the rows after it, and the one that is answered. Or it is refused.
-pub data Attempt : Type 0 where
-  accepted : List Row → Row → Attempt
-  refused : Refusal → Attempt
-
--- a row is put, and answered
-abbrev pub put : TablesOf → Row → Attempt
-put t row = accepted (put_in t.rows row) row
+-- It is accepted: the tables after it, and the task that it is about. Or it is refused.
+pub data Outcome : Type 0 where
+  accepted : TablesOf → ℕ → Outcome
+  refused : Refusal → Outcome
 
 -- ---- create
 
--- a new top task of a model, activated at once, where its tree doesn't make too many tasks
-abbrev pub create_of : TablesOf → ℕ → ℕ → ℕ → ModelOf → Attempt
-create_of t caller moment place m =
-    if nat_le (total_size t.models t.rows + m.size) most_tasks
-    then put t (activated (new_row t t.rows m place None caller [] None (record { 0 = moment })))
-    else refused (refusal.Limit Tasks)
+-- a new top task of a model at its place, activated at once, where its tree doesn't make too many tasks
+abbrev pub CreatesOf : TablesOf → ℕ → ℕ → ℕ → ModelOf → Outcome → Type 0
+CreatesOf u caller moment place m (accepted v task) =
+    (IsFull u place → ⊥) × (task ≡ length u.rows + 1) × Activates (with_row u (new_row u m place None caller [] None (record { 0 = moment }))) task v
+CreatesOf u caller moment place m (refused why) = IsFull u place × (why ≡ refusal.Limit Tasks)
 
--- the model at a place. There is one at each place that a create finds
-abbrev pub create_at : TablesOf → ℕ → ℕ → ℕ → Option ModelOf → Attempt
-create_at t caller moment place None = refused (refusal.Limit Tasks)
-create_at t caller moment place (Some m) = create_of t caller moment place m
+abbrev pub CreatesAt : TablesOf → ℕ → ℕ → ℕ → Outcome → Type 0
+CreatesAt u caller moment place o = (m : ModelOf) × (model_at u place ≡ Some m) × CreatesOf u caller moment place m o
 
-abbrev pub create_named : TablesOf → ℕ → ℕ → List ℕ → Option ℕ → Attempt
-create_named t caller moment name None = refused (refusal.Unknown (unknown.Model name))
-create_named t caller moment name (Some place) = create_at t caller moment place (slice_get t.models place)
+abbrev pub CreatesNamed : TablesOf → ℕ → ℕ → List ℕ → Option ℕ → Outcome → Type 0
+CreatesNamed u caller moment name None o = o ≡ refused (refusal.Unknown (unknown.Model name))
+CreatesNamed u caller moment name (Some place) o = CreatesAt u caller moment place o
 
 -- of the model that is named, or else of the first
-abbrev pub create : TablesOf → ℕ → ℕ → Option (List ℕ) → Attempt
-create t caller moment None = create_at t caller moment 0 (slice_get t.models 0)
-create t caller moment (Some name) = create_named t caller moment name (place_in name (names t.models))
+abbrev pub Creates : TablesOf → ℕ → ℕ → Option (List ℕ) → Outcome → Type 0
+Creates u caller moment None o = CreatesAt u caller moment 0 o
+Creates u caller moment (Some name) o = CreatesNamed u caller moment name (model_named u name) o
 
--- ---- claim
+-- ---- the other commands
 
--- the task is reserved for who claims it, who is its actual owner from then on
-abbrev pub claimed : ℕ → Row → Row
-claimed caller row = record row { state = Reserved; owner = Some caller }
+-- what follows on other tasks, from the tables after the effect on
+abbrev pub Spreads : Follow → TablesOf → TablesOf → Type 0
+Spreads follow.Nothing u v = v ≡ u
 
-abbrev pub unless : Option Refusal → Attempt → Attempt
-unless None attempt = attempt
-unless (Some why) attempt = refused why
+abbrev pub AfterEffect : TablesOf → ℕ → Effect → Outcome → Type 0
+AfterEffect u task (does row follow) (accepted v number) = Spreads follow (with_row u row) v × (number ≡ task)
+AfterEffect u task (does row follow) (refused why) = ⊥
+AfterEffect u task (refuses why) o = o ≡ refused why
 
-abbrev pub claim : TablesOf → ℕ → ℕ → Option Row → Attempt
-claim t caller task None = refused (refusal.Task (record { 0 = task }))
-claim t caller task (Some row) = unless (why_not op.Claim (roles_in t.people row caller) row.state) (put t (claimed caller row))
+abbrev pub BehindGate : TablesOf → ℕ → ℕ → Command → Gate → Outcome → Type 0
+BehindGate u caller task command (opens row) o = AfterEffect u task (effect caller command row) o
+BehindGate u caller task command (shuts why) o = o ≡ refused why
+
+abbrev pub ActsOn : TablesOf → ℕ → ℕ → Command → Outcome → Type 0
+ActsOn u caller task command o = BehindGate u caller task command (gate u (op_of command) caller task) o
 
 -- ---- all commands
 
-abbrev pub attempt : TablesOf → ℕ → ℕ → TaskId → Command → Attempt
-attempt t caller moment task (command.Create model) = create t caller moment model
-attempt t caller moment task command.Claim = claim t caller task.0 (row_at task.0 t.rows)
+abbrev pub Comes : TablesOf → ℕ → ℕ → ℕ → Command → Outcome → Type 0
+Comes u caller moment task (command.Create model) o = Creates u caller moment model o
+Comes u caller moment task command o = ActsOn u caller task command o

@@ -1,5 +1,7 @@
--- Worked examples of the definitions. A wrong reading of one fails the check.
+-- Worked examples of the definitions, by computation and by derivation. A wrong reading of one fails
+-- the check.
 use Rattle.std.specs.Prelude.{◌≡◌, refl, true, false, ℕ, List, ◌∷◌, [], Option, Some, None, codes}
+use Rattle.std.proofs.Common.{arith}
 use Rattle.ht_base.specs.declared.event.Command.{Command}
 use Rattle.ht_base.specs.declared.event.Command.TheVariants.{Create, Claim}
 use Rattle.ht_base.specs.declared.event.Event.{Event}
@@ -8,23 +10,25 @@ use Rattle.ht_base.specs.declared.event.Query.TheVariants as query
 use Rattle.ht_base.specs.declared.operation.Op.TheVariants as op
 use Rattle.ht_base.specs.declared.record.Record.{Record}
 use Rattle.ht_base.specs.declared.record.Record.TheVariants.{Asked}
-use Rattle.ht_base.specs.declared.reply.Answer.{Answer}
 use Rattle.ht_base.specs.declared.reply.Answer.TheVariants.{Done, Refused}
 use Rattle.ht_base.specs.declared.reply.Refusal.TheVariants.{Person, Task, Role, State, Unknown}
 use Rattle.ht_base.specs.declared.reply.Unknown.TheVariants.{Model}
 use Rattle.ht_base.specs.declared.role.Role.TheVariants.{PotentialOwner}
-use Rattle.ht_base.specs.declared.state.State.TheVariants.{Created, Ready, Reserved}
-use Rattle.ht_base.specs.Role.{no_roles, with_role}
-use Rattle.ht_base.specs.State.{no_states, with_state}
+use Rattle.ht_base.specs.declared.state.State.TheVariants.{Ready, Reserved}
 use Rattle.ht_expr.specs.Assignments.{nobody, user, group}
+use Rattle.ht_machine.specs.Activating.{activated}
+use Rattle.ht_machine.specs.Commands.{accepted, refused}
+use Rattle.ht_machine.specs.Deciding.{Decides, reply_of}
+use Rattle.ht_machine.specs.Gate.{gate, shuts}
+use Rattle.ht_machine.specs.Sheets.{sheet_of}
 use Rattle.ht_models.specs.Model.{ModelOf}
 use Rattle.ht_people.specs.declared.entries.PersonEntry.{PersonEntry}
 use Rattle.ht_people.specs.Directory.{DirectoryOf}
+use Rattle.ht_rules.specs.Judging.{needed}
+use Rattle.ht_rules.specs.Sets.{roles_of, states_of}
+use Rattle.ht_tree.specs.declared.row.Row.{Row}
 use Rattle.ht_tree.specs.Creating.{new_row}
 use Rattle.ht_tree.specs.Tables.{TablesOf, empty_tables}
-use Rattle.ht_machine.specs.Authorisation.{needed, states_allowed}
-use Rattle.ht_machine.specs.Deciding.{DecisionOf, decide, reply}
-use Rattle.ht_machine.specs.Sheets.{sheet_of}
 
 -- ---- an office
 
@@ -63,78 +67,85 @@ asks caller moment task command = Ask (record { 0 = moment }) caller (record { 0
 abbrev kept : List ℕ → ℕ → ℕ → Command → Option Record
 kept caller moment task command = Some (Asked (record { 0 = moment }) caller (record { 0 = task }) command)
 
-abbrev refuses : TablesOf → Answer → DecisionOf
-refuses t answer = record { after = t; left = None; reply = reply answer }
+-- a task of dan's, of a model at its place
+abbrev task_of : ModelOf → ℕ → Row
+task_of m place = new_row nothing_yet m place None 3 [] None (record { 0 = 1000 })
 
--- ---- who may do what
+-- ---- activation
 
-who_claims : needed op.Claim ≡ with_role no_roles PotentialOwner
-who_claims = refl
+several_owners : activated (task_of unit 0) ≡ record (task_of unit 0) { state = Ready }
+several_owners = refl
 
--- an operator may not see a task
-who_sees : needed op.Get ≡ record { initiator = true; stakeholder = true; potential_owner = true; actual_owner = true; administrator = true; operator = false }
-who_sees = refl
+one_owner : activated (task_of solo 1) ≡ record (task_of solo 1) { state = Reserved; owner = Some 0 }
+one_owner = refl
 
-when_claimed : states_allowed op.Claim (with_role no_roles PotentialOwner) ≡ with_state no_states Ready
-when_claimed = refl
+-- its only potential owner is excluded
+no_owner : activated (task_of shut 2) ≡ task_of shut 2
+no_owner = refl
 
 -- ---- a create
 
 abbrev one_task : TablesOf
-one_task = record nothing_yet { rows = record (new_row nothing_yet [] unit 0 None 3 [] None (record { 0 = 1000 })) { state = Ready } ∷ []; last = 1000 }
+one_task = record nothing_yet { rows = record (task_of unit 0) { state = Ready } ∷ []; last = 1000 }
 
--- dan creates a task of the first model: it has two potential owners
-a_create : decide nothing_yet (asks (codes "dan") 1000 0 (Create None)) ≡ record { after = one_task; left = kept (codes "dan") 1000 0 (Create None); reply = reply (Done (record { 0 = 1 }) Ready None) }
-a_create = refl
+-- dan creates a task of the first model
+a_create : Decides nothing_yet (asks (codes "dan") 1000 0 (Create None)) (kept (codes "dan") 1000 0 (Create None)) (reply_of (Done (record { 0 = 1 }) Ready None)) one_task
+a_create = (
+  refl,
+  record {
+    outcome = accepted (record nothing_yet { rows = record (task_of unit 0) { state = Ready } ∷ [] }) 1;
+    attempts = (unit, refl, ((λ full. absurd (omega arith)), refl, (task_of unit 0, refl, refl)));
+    settles = (refl, refl, (record (task_of unit 0) { state = Ready }, refl, refl));
+  },
+)
 
--- of a model with one potential owner, who then owns it
-an_owner : (decide one_task (asks (codes "dan") 2000 0 (Create (Some (codes "solo"))))).reply ≡ reply (Done (record { 0 = 2 }) Reserved (Some (codes "anna")))
-an_owner = refl
-
--- and of one whose only potential owner is excluded
-no_owner : (decide one_task (asks (codes "dan") 2000 0 (Create (Some (codes "shut"))))).reply ≡ reply (Done (record { 0 = 2 }) Created None)
-no_owner = refl
-
-no_such_model : decide one_task (asks (codes "dan") 2000 0 (Create (Some (codes "sole")))) ≡ refuses one_task (Refused (Unknown (Model (codes "sole"))))
-no_such_model = refl
+no_such_model : Decides one_task (asks (codes "dan") 2000 0 (Create (Some (codes "sole")))) None (reply_of (Refused (Unknown (Model (codes "sole"))))) one_task
+no_such_model = (refl, record { outcome = refused (Unknown (Model (codes "sole"))); attempts = refl; settles = (refl, refl, refl) })
 
 -- a stranger changes nothing, not even the last moment
-a_stranger : decide one_task (asks (codes "eve") 5000 0 (Create None)) ≡ refuses one_task (Refused Person)
-a_stranger = refl
+a_stranger : Decides one_task (asks (codes "eve") 5000 0 (Create None)) None (reply_of (Refused Person)) one_task
+a_stranger = (refl, record { outcome = refused Person; attempts = refl; settles = (refl, refl, refl) })
 
 -- ---- a claim
 
-abbrev claimed_task : TablesOf
-claimed_task = record nothing_yet { rows = record (new_row nothing_yet [] unit 0 None 3 [] None (record { 0 = 1000 })) { state = Reserved; owner = Some 0 } ∷ []; last = 2000 }
+abbrev claimed : Row
+claimed = record (task_of unit 0) { state = Reserved; owner = Some 0 }
 
-a_claim : decide one_task (asks (codes "anna") 2000 1 Claim) ≡ record { after = claimed_task; left = kept (codes "anna") 2000 1 Claim; reply = reply (Done (record { 0 = 1 }) Reserved (Some (codes "anna"))) }
-a_claim = refl
+abbrev claimed_at : ℕ → TablesOf
+claimed_at moment = record nothing_yet { rows = claimed ∷ []; last = moment }
+
+a_claim : Decides one_task (asks (codes "anna") 2000 1 Claim) (kept (codes "anna") 2000 1 Claim) (reply_of (Done (record { 0 = 1 }) Reserved (Some (codes "anna")))) (claimed_at 2000)
+a_claim = (refl, record { outcome = accepted (claimed_at 1000) 1; attempts = (refl, refl); settles = (refl, refl, (claimed, refl, refl)) })
 
 -- an event acts never before the last accepted command, and is kept as of then
-an_earlier_moment : (decide one_task (asks (codes "anna") 10 1 Claim)).left ≡ kept (codes "anna") 1000 1 Claim
-an_earlier_moment = refl
+an_earlier_moment : Decides one_task (asks (codes "anna") 10 1 Claim) (kept (codes "anna") 1000 1 Claim) (reply_of (Done (record { 0 = 1 }) Reserved (Some (codes "anna")))) (claimed_at 1000)
+an_earlier_moment = (refl, record { outcome = accepted (claimed_at 1000) 1; attempts = (refl, refl); settles = (refl, refl, (claimed, refl, refl)) })
 
-a_second_claim : decide claimed_task (asks (codes "ben") 3000 1 Claim) ≡ refuses claimed_task (Refused (State (with_state no_states Ready) Reserved))
+a_second_claim : gate (claimed_at 2000) op.Claim 1 1 ≡ shuts (State (states_of (Ready ∷ [])) Reserved)
 a_second_claim = refl
 
 -- the role is tested before the state: dan created it, and root operates the server
-the_initiator_claims : decide claimed_task (asks (codes "dan") 3000 1 Claim) ≡ refuses claimed_task (Refused (Role (with_role no_roles PotentialOwner)))
+the_initiator_claims : gate (claimed_at 2000) op.Claim 3 1 ≡ shuts (Role (roles_of (PotentialOwner ∷ [])))
 the_initiator_claims = refl
 
-the_operator_claims : decide claimed_task (asks (codes "root") 3000 1 Claim) ≡ refuses claimed_task (Refused (Role (with_role no_roles PotentialOwner)))
+the_operator_claims : gate (claimed_at 2000) op.Claim 4 1 ≡ shuts (Role (roles_of (PotentialOwner ∷ [])))
 the_operator_claims = refl
 
--- and the person before the task
-neither : decide one_task (asks (codes "eve") 2000 2 Claim) ≡ refuses one_task (Refused Person)
-neither = refl
-
-no_such_task : decide one_task (asks (codes "anna") 2000 2 Claim) ≡ refuses one_task (Refused (Task (record { 0 = 2 })))
+-- and the task before both
+no_such_task : gate one_task op.Claim 4 2 ≡ shuts (Task (record { 0 = 2 }))
 no_such_task = refl
+
+-- and the person before the task
+neither : Decides one_task (asks (codes "eve") 2000 2 Claim) None (reply_of (Refused Person)) one_task
+neither = (refl, record { outcome = refused Person; attempts = refl; settles = (refl, refl, refl) })
 
 -- ---- a sheet
 
-shown : (sheet_of claimed_task (record (new_row nothing_yet [] unit 0 None 3 [] None (record { 0 = 1000 })) { state = Reserved; owner = Some 0 })).potential_owners ≡ codes "anna" ∷ codes "ben" ∷ []
+shown : (sheet_of (claimed_at 2000) claimed).potential_owners ≡ codes "anna" ∷ codes "ben" ∷ []
 shown = refl
 
-not_shown : decide claimed_task (Read (codes "root") (query.Sheet (record { 0 = 1 }))) ≡ refuses claimed_task (Refused (Role (needed op.Get)))
-not_shown = refl
+its_model : (sheet_of (claimed_at 2000) claimed).model ≡ codes "unit"
+its_model = refl
+
+not_shown : Decides (claimed_at 2000) (Read (codes "root") (query.Sheet (record { 0 = 1 }))) None (reply_of (Refused (Role (needed op.Get)))) (claimed_at 2000)
+not_shown = (refl, (refl, refl, refl))

@@ -1,22 +1,25 @@
 -- Histories of the task machine.
-use Rattle.std.specs.Prelude.{◌≡◌, List, [], ◌∷◌}
+use Rattle.std.specs.Prelude.{◌≡◌, ◌⊎◌, List, Option}
 use Rattle.ht_base.specs.declared.event.Event.{Event}
+use Rattle.ht_base.specs.declared.record.Record.{Record}
+use Rattle.ht_base.specs.declared.reply.Answer.TheVariants.{Refused}
+use Rattle.ht_base.specs.declared.reply.Refusal.TheVariants as refusal
 use Rattle.ht_base.specs.declared.reply.Reply.{Reply}
-use Rattle.ht_machine.specs.Deciding.{decide}
+use Rattle.ht_base.specs.History.{Entry, IsLegal}
+use Rattle.ht_machine.specs.Deciding.{Decides, reply_of}
 use Rattle.ht_tree.specs.Tables.{TablesOf}
 
--- one event, its reply, and the tables after it
-pub record Entry : Type 0 where
-  pub event : Event
-  pub reply : Reply
-  pub after : TablesOf
+-- there is not enough memory
+abbrev pub memory_reply : Reply
+memory_reply = reply_of (Refused refusal.Memory)
 
--- each entry is what the machine decides on the tables that the one before it left
-abbrev pub IsLegal : TablesOf → List Entry → Type 0
-IsLegal old [] = Unit {0}
-IsLegal old (e ∷ es) = ((decide old e.event).after ≡ e.after) × ((decide old e.event).reply ≡ e.reply) × IsLegal e.after es
+-- One step of the machine: what it decides of an event, or, for want of memory, nothing.
+abbrev pub IsStep : TablesOf → Event → Reply → TablesOf → Type 0
+IsStep old event reply new =
+    ((left : Option Record) × Decides old event left reply new) ⊎ ((reply ≡ memory_reply) × (new ≡ old))
 
--- the tables at the end of a history
-abbrev pub end_of : TablesOf → List Entry → TablesOf
-end_of old [] = old
-end_of old (e ∷ es) = end_of e.after es
+abbrev pub History : Type 0
+History = List (Entry TablesOf Event Reply)
+
+abbrev pub IsHistory : TablesOf → History → Type 0
+IsHistory old history = IsLegal IsStep old history

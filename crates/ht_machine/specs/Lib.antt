@@ -1,10 +1,9 @@
 pub mod Activating
-pub mod Authorisation
 pub mod Commands
 pub mod Deciding
 pub mod Examples
+pub mod Gate
 pub mod History
 pub mod Naming
 pub mod Planning
 pub mod Sheets
-pub mod Stopping

@@ -1,69 +1,89 @@
 -- That a plan makes what is decided.
 use Rattle.std.specs.Prelude.{◌≡◌, ◌≤◌, ℕ, List, Option, Some, None, Result, Ok, Err}
+use Rattle.ht_base.specs.declared.event.Command.{Command}
 use Rattle.ht_base.specs.declared.event.Event.{Event}
 use Rattle.ht_base.specs.declared.record.Record.{Record}
+use Rattle.ht_base.specs.declared.record.Record.TheVariants.{Asked}
 use Rattle.ht_base.specs.declared.reply.Answer.{Answer}
-use Rattle.ht_base.specs.declared.reply.Reply.{Reply}
+use Rattle.ht_base.specs.declared.reply.Limit.TheVariants.{Tasks}
 use Rattle.ht_base.specs.declared.reply.Refusal.TheVariants as refusal
 use Rattle.ht_base.specs.declared.reply.Unknown.TheVariants as unknown
-use Rattle.ht_base.specs.Places.{place_in}
-use Rattle.ht_models.specs.Model.{ModelOf, names}
+use Rattle.ht_base.specs.declared.task_id.TaskId.{TaskId}
+use Rattle.ht_owner.specs.declared.refusal.ActRefusal.{ActRefusal}
+use Rattle.ht_owner.specs.declared.refusal.ActRefusal.TheVariants as why
+use Rattle.ht_tree.specs.declared.creating.CreateRefusal.{CreateRefusal}
+use Rattle.ht_tree.specs.declared.creating.CreateRefusal.TheVariants as create
 use Rattle.ht_tree.specs.declared.row.Row.{Row}
-use Rattle.ht_tree.specs.Plans.{IsPlanOf, KeepsSound, PlanOf, new_rows, planned, planned_rows}
-use Rattle.ht_tree.specs.Rows.{put_in}
-use Rattle.ht_tree.specs.Soundness.{IsSound, IsSoundRow}
-use Rattle.ht_tree.specs.Tables.{RoomyTables, TablesOf}
+use Rattle.ht_tree.specs.Plans.{Goes, IsPlanOf, IsPrepared, PlanOf, committed, planned}
+use Rattle.ht_tree.specs.Soundness.{IsSound, KeepsSound}
+use Rattle.ht_tree.specs.Tables.{RoomyTables, TablesOf, model_named, task_row}
 use Rattle.ht_machine.specs.declared.deciding.Decision.{Decision}
-use Rattle.ht_machine.specs.declared.stop.Stop.{Stop}
-use Rattle.ht_machine.specs.declared.stop.Stop.TheVariants.{Refused, Memory}
-use Rattle.ht_machine.specs.Activating.{activated}
-use Rattle.ht_machine.specs.Commands.{Attempt, accepted, refused}
-use Rattle.ht_machine.specs.Deciding.{DecisionOf, decide, done, last_after}
+use Rattle.ht_machine.specs.Commands.{Outcome, accepted, refused}
+use Rattle.ht_machine.specs.Deciding.{Asks, Decides, Leads}
 
--- after the plan the rows would be sound
-abbrev pub LeavesSound : TablesOf → PlanOf → Type 0
-LeavesSound t p = IsSound (planned t p 0)
+-- ---- commands
 
--- the plan makes the rows of what is accepted, and keeps the tables sound
-pub record Makes (t : TablesOf) (old new : PlanOf) (a : Attempt) (answer : Answer) : Type 0 where
+-- the plan goes on to tables that may come of a command, with the task that it is about
+pub record Does (t : TablesOf) (old new : PlanOf) (May : Outcome → Type 0) (task : TaskId) : Type 0 where
+  pub after : TablesOf
+  pub comes : May (accepted after task.0)
+  pub goes : Goes t old new (planned t old) after
+  pub sound : KeepsSound (planned t old) after
   pub row : Row
-  pub accepts : a ≡ accepted (planned_rows t new) row
-  pub answers : answer ≡ done t.people row
-  pub fits : IsPlanOf t new
-  pub sound : KeepsSound t old new
+  pub there : task_row after task.0 ≡ Some row
 
--- an attempt on planned tables: it is made, or refused without a change of the plan
-abbrev pub Tries : TablesOf → PlanOf → PlanOf → Attempt → Result Answer Stop → Type 0
-Tries t old new a (Ok answer) = Makes t old new a answer
-Tries t old new a (Err (Refused why)) = (a ≡ refused why) × (new ≡ old)
-Tries t old new a (Err Memory) = Unit {0}
+-- or it is refused, without a change of the plan
+abbrev pub Tries : TablesOf → PlanOf → PlanOf → (Outcome → Type 0) → Result TaskId ActRefusal → Type 0
+Tries t old new May (Ok task) = Does t old new May task
+Tries t old new May (Err (why.Refused other)) = May (refused other) × (new ≡ old)
+Tries t old new May (Err why.Memory) = Unit {0}
 
 -- the place of the model that a create names, or of the first
-abbrev pub Finds : List ModelOf → Option (List ℕ) → Result ℕ Stop → Type 0
-Finds models None (Ok place) = place ≡ 0
-Finds models None (Err why) = ⊥
-Finds models (Some name) (Ok place) = place_in name (names models) ≡ Some place
-Finds models (Some name) (Err (Refused why)) = (place_in name (names models) ≡ None) × (why ≡ refusal.Unknown (unknown.Model name))
-Finds models (Some name) (Err Memory) = ⊥
+abbrev pub Finds : TablesOf → Option (List ℕ) → Result ℕ ActRefusal → Type 0
+Finds t None (Ok place) = place ≡ 0
+Finds t None (Err other) = ⊥
+Finds t (Some name) (Ok place) = model_named t name ≡ Some place
+Finds t (Some name) (Err (why.Refused other)) = (model_named t name ≡ None) × (other ≡ refusal.Unknown (unknown.Model name))
+Finds t (Some name) (Err why.Memory) = ⊥
 
--- the row is activated in the plan
-pub record Activates (t : TablesOf) (old new : PlanOf) (row : Row) (answer : Answer) : Type 0 where
-  pub put : planned_rows t new ≡ put_in (planned_rows t old) (activated row)
-  pub answers : answer ≡ done t.people (activated row)
-  pub fits : IsPlanOf t new
-  pub sound : IsSoundRow t row → KeepsSound t old new
+-- why no task is created, as a refusal of the command
+abbrev pub refusal_of : CreateRefusal → ActRefusal
+refusal_of create.Memory = why.Memory
+refusal_of create.TaskLimit = why.Refused (refusal.Limit Tasks)
 
--- The plan makes the tables of a decision, which are sound; the record and the reply are its own.
-pub record Leaves (t : TablesOf) (p : PlanOf) (left : Option Record) (reply : Reply) (d : DecisionOf) : Type 0 where
+-- ---- decisions
+
+-- the moment of a record
+abbrev pub moment_of : Record → ℕ
+moment_of (Asked at caller task command) = at.0
+
+-- the last moment rises exactly where a record is kept
+abbrev pub last_after : TablesOf → Option Record → ℕ
+last_after t None = t.last
+last_after t (Some kept) = moment_of kept
+
+-- the plan makes the tables after what leaves this record; they are sound, and no earlier
+pub record Leaves (t : TablesOf) (p : PlanOf) (left : Option Record) (after : TablesOf) : Type 0 where
   pub fits : IsPlanOf t p
-  pub after : planned t p (d.after).last ≡ d.after
-  pub kept : left ≡ d.left
-  pub replies : reply ≡ d.reply
-  pub sound : IsSound d.after
-  pub later : t.last ≤ (d.after).last
-  pub last : (d.after).last ≡ last_after t d.left
+  pub makes : committed t p (last_after t left) ≡ after
+  pub sound : IsSound after
+  pub later : t.last ≤ last_after t left
+
+-- so it does of an event
+pub record Plans (t : TablesOf) (p : PlanOf) (e : Event) (left : Option Record) (answer : Answer) : Type 0 where
+  pub after : TablesOf
+  pub leads : Leads t e left answer after
+  pub leaves : Leaves t p left after
+
+-- and of a command at a moment
+pub record PlansAsk (t : TablesOf) (p : PlanOf) (moment : ℕ) (caller : List ℕ) (task : TaskId) (command : Command) (left : Option Record) (answer : Answer) : Type 0 where
+  pub after : TablesOf
+  pub asks : Asks t moment caller task command left answer after
+  pub leaves : Leaves t p left after
 
 -- what is decided of an event, on tables that are prepared for its plan
-pub record Decides (t : RoomyTables) (e : Event) (d : Decision) : Type 0 where
-  pub leaves : Leaves t.tables d.plan d.left d.reply (decide t.tables e)
-  pub prepared : new_rows t.tables d.plan ≤ t.room
+pub record IsDecided (t : RoomyTables) (e : Event) (d : Decision) : Type 0 where
+  pub after : TablesOf
+  pub decides : Decides t.tables e d.left d.reply after
+  pub leaves : Leaves t.tables d.plan d.left after
+  pub prepared : IsPrepared t d.plan

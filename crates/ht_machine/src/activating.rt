@@ -1,61 +1,40 @@
-ghost use Rattle.std.specs.Prelude.{◌≡◌, ◌<◌, IfOk, IfSome, IsSome, length};
+ghost use Rattle.std.specs.Prelude.{◌≡◌, OnOk};
 ghost use Rattle.ht_machine.specs.Activating as spec;
-ghost use Rattle.ht_machine.specs.Deciding as deciding;
-ghost use Rattle.ht_machine.specs.Planning.{Activates};
-ghost use Rattle.ht_tree.specs.Plans.{IsPlanOf, planned_rows};
-ghost use Rattle.ht_tree.specs.Rows.{row_at};
-ghost use Rattle.ht_tree.specs.declared.row.Row.{Row};
+ghost use Rattle.ht_machine.specs.Activating.{Becomes, IsCreated};
+ghost use Rattle.ht_tree.specs.Plans.{IsPlanOf, planned};
 
-use crate::naming::name_or_none;
-use ht_base::{Answer, Memory, State, TaskId};
-use ht_people::Directory;
+use ht_base::{Memory, State, TaskId};
 use ht_tree::{Plan, Row, Tables};
 use std::alloc::Global;
 
-/// Plans the activation of a created task, and tells what the task is then.
+/// Plans the activation of a created task (WS-HumanTask 1.1, 4.10.1).
 pub(crate) fn activate(
     alloc: Global,
     tables: &Tables,
     plan: &mut Plan,
     task: TaskId,
-) -> Result<Answer, Memory>
+) -> Result<(), Memory>
     requires plan { IsPlanOf tables.now.tables plan.old }
-    requires created { (row : Row) × (row_at task.0 (planned_rows tables.now.tables plan.old) ≡ Some row) × (row.state ≡ State.Created) × (row.task.0 ≡ task.0) }
-    ensures { IfOk result (λ answer. IfSome (row_at task.0 (planned_rows tables.now.tables plan.old)) (λ row. Activates tables.now.tables plan.old plan.new row answer)) }
+    requires created { IsCreated (planned tables.now.tables plan.old) task.0 }
+    ensures { OnOk result (Becomes tables.now.tables plan.old plan.new task.0) }
 {
-    let Some(row) = plan.row(tables, task) else {
-        unreachable!()
-    };
-    let row = activated(row.copy(alloc)?);
-    let answer = done(tables.people(), &row);
+    let row = plan.take(alloc, tables, task)?;
+    let row = activated(row);
     plan.put(tables, row)?;
-    Ok(answer)
+    Ok(())
 }
 
 fn activated(row: Row) -> Row
     ensures { result ≡ spec.activated row }
 {
     let mut row = row;
+    let (state, owner) = match row.potential_owners.as_slice() {
+        [] => (row.state, None),
+        [owner] => (State::Reserved, Some(*owner)),
+        _ => (State::Ready, None),
+    };
+    row.state = state;
+    row.owner = owner;
     row.waits = None;
-    match row.potential_owners.as_slice() {
-        [] => {}
-        [owner] => {
-            row.owner = Some(*owner);
-            row.state = State::Reserved;
-        }
-        _ => row.state = State::Ready,
-    }
     row
-}
-
-/// What is answered of a task: its state and its owner.
-pub(crate) fn done(people: &Directory, row: &Row) -> Answer
-    requires { IfSome row.now.owner (λ p. p < length people.now.persons) }
-    ensures { result ≡ deciding.done people.now row.now }
-{
-    Answer::Done {
-        task: row.task,
-        state: row.state,
-        owner: name_or_none(people, row.owner),
-    }
 }

@@ -1,17 +1,18 @@
-ghost use Rattle.std.specs.Prelude.{◌<◌, ◌≤◌, IfOk, length};
+ghost use Rattle.std.specs.Prelude.{◌≡◌, ◌<◌, ◌≤◌, IfOk, length};
 ghost use Rattle.ht_base.specs.Moment.{last_moment};
-ghost use Rattle.ht_machine.specs.Commands as spec;
-ghost use Rattle.ht_machine.specs.Planning.{Finds, LeavesSound, Tries};
+ghost use Rattle.ht_machine.specs.Commands.{Creates};
+ghost use Rattle.ht_machine.specs.Planning as spec;
+ghost use Rattle.ht_machine.specs.Planning.{Finds, Tries};
 ghost use Rattle.ht_tree.specs.Plans.{IsPlanOf, planned};
+ghost use Rattle.ht_tree.specs.Soundness.{IsSound};
 
 use crate::activating::activate;
-use crate::stop::Stop;
-use ht_base::{Answer, Moment, Name, Person, Refusal, Unknown, Values};
-use ht_models::Models;
-use ht_tree::{Plan, Tables};
+use ht_base::{Limit, Moment, Name, Person, Refusal, TaskId, Unknown, Values};
+use ht_owner::ActRefusal;
+use ht_tree::{CreateRefusal, Plan, Tables};
 use std::alloc::Global;
 
-/// Plans a new task of the model with this name, or else of the first.
+/// Plans a new task of the model with this name, or else of the first, and its activation.
 pub(crate) fn create(
     alloc: Global,
     tables: &Tables,
@@ -19,30 +20,47 @@ pub(crate) fn create(
     caller: Person,
     at: Moment,
     model: Option<Name>,
-) -> Result<Answer, Stop>
+) -> Result<TaskId, ActRefusal>
     requires plan { IsPlanOf tables.now.tables plan.old }
-    requires sound { LeavesSound tables.now.tables plan.old }
+    requires sound { IsSound (planned tables.now.tables plan.old) }
     requires caller { caller < length tables.now.tables.people.persons }
     requires at { at.0 ≤ last_moment }
-    ensures { Tries tables.now.tables plan.old plan.new (spec.create (planned tables.now.tables plan.old at.0) caller at.0 model) result }
+    ensures { Tries tables.now.tables plan.old plan.new (Creates (planned tables.now.tables plan.old) caller at.0 model) result }
 {
-    let place = place_of(tables.models(), model)?;
+    let place = place_of(tables, model)?;
     let input = Values::new(alloc);
-    let task = ht_tree::create(alloc, tables, plan, place, None, caller, input, None, at)?;
-    Ok(activate(alloc, tables, plan, task)?)
+    let created = ht_tree::create(alloc, tables, plan, place, None, caller, input, None, at);
+    match created {
+        Ok(task) => {
+            activate(alloc, tables, plan, task)?;
+            Ok(task)
+        }
+        Err(refusal) => Err(refusal_of(refusal)),
+    }
 }
 
 // The place of the model with this name, or else of the first.
-fn place_of(models: &Models, name: Option<Name>) -> Result<u32, Stop>
-    ensures finds { Finds models.now name result }
-    ensures within { IfOk result (λ place. place < length models.now) }
+fn place_of(tables: &Tables, name: Option<Name>) -> Result<u32, ActRefusal>
+    ensures finds { Finds tables.now.tables name result }
+    ensures within { IfOk result (λ place. place < length tables.now.tables.models) }
 {
+    let models = tables.models();
     let Some(name) = name else {
-        let _ = models.count();
+        let has_first = models.count() > 0;
+        prove!(has_first);
         return Ok(0);
     };
     match models.find(name) {
         Some(place) => Ok(place),
-        None => Err(Stop::Refused(Refusal::Unknown(Unknown::Model(name)))),
+        None => Err(ActRefusal::Refused(Refusal::Unknown(Unknown::Model(name)))),
+    }
+}
+
+fn refusal_of(refusal: CreateRefusal) -> ActRefusal
+    ensures { result ≡ spec.refusal_of refusal }
+{
+    match refusal {
+        CreateRefusal::Memory => ActRefusal::Memory,
+        CreateRefusal::TaskLimit => ActRefusal::Refused(Refusal::Limit(Limit::Tasks)),
     }
 }

@@ -1,21 +1,17 @@
-ghost use Rattle.std.specs.Prelude.{◌≡◌, ◌≤◌, ◌<◌, IfOk, OnErr, length};
+ghost use Rattle.std.specs.Prelude.{◌≡◌, ◌≤◌, IfOk, MatchResult, OnErr};
+ghost use Rattle.ht_base.specs.Events.{IsValid};
 ghost use Rattle.ht_base.specs.Moment.{last_moment};
-ghost use Rattle.ht_machine.specs.Commands as commands;
-ghost use Rattle.ht_machine.specs.Deciding as spec;
-ghost use Rattle.ht_machine.specs.Deciding.{IsValid};
-ghost use Rattle.ht_machine.specs.Planning.{Decides, Leaves, Tries};
+ghost use Rattle.ht_machine.specs.History.{IsStep, memory_reply};
+ghost use Rattle.ht_machine.specs.Planning as spec;
+ghost use Rattle.ht_machine.specs.Planning.{IsDecided, PlansAsk, Plans};
 ghost use Rattle.ht_tree.specs.Plans.{no_plan};
-ghost use Rattle.ht_tree.specs.Rows.{row_at};
 ghost use Rattle.ht_tree.specs.Soundness.{IsSound};
 
-use crate::authorisation::why_no_sheet;
-use crate::claiming::claim;
-use crate::creating::create;
-use crate::sheets::sheet;
-use crate::stop::Stop;
-use ht_base::{
-    Answer, Command, Event, Memory, Moment, Name, Person, Query, Record, Refusal, Reply, TaskId,
-};
+use crate::answering::done;
+use crate::commanding::command;
+use crate::reading::read;
+use ht_base::{Answer, Command, Event, Memory, Moment, Name, Record, Refusal, Reply, TaskId};
+use ht_owner::ActRefusal;
 use ht_tree::{Plan, Tables};
 use std::alloc::Global;
 
@@ -32,10 +28,10 @@ pub struct Decision {
 pub fn decide(alloc: Global, tables: &mut Tables, event: &Event) -> Result<Decision, Memory>
     requires { IsValid event.now }
     ensures tables { tables.new.tables ≡ tables.old.tables }
-    ensures decides { IfOk result (Decides tables.new event.now) }
+    ensures decides { IfOk result (IsDecided tables.new event.now) }
 {
     let mut plan = Plan::begin(alloc)?;
-    let (left, answer) = planned(alloc, tables, &mut plan, event)?;
+    let (left, answer) = plan_event(alloc, tables, &mut plan, event)?;
     tables.prepare(&plan)?;
     let reply = Reply { taken: 0, answer };
     Ok(Decision { plan, left, reply })
@@ -44,8 +40,7 @@ pub fn decide(alloc: Global, tables: &mut Tables, event: &Event) -> Result<Decis
 /// Decides an event, and leaves the tables as it decides. After `Memory` they are as before.
 pub fn run_one(alloc: Global, tables: &mut Tables, event: &Event) -> Result<Reply, Memory>
     requires { IsValid event.now }
-    ensures after { IfOk result (λ _. tables.new.tables ≡ (spec.decide tables.old.tables event.now).after) }
-    ensures reply { IfOk result (λ reply. reply ≡ (spec.decide tables.old.tables event.now).reply) }
+    ensures step { MatchResult result (λ reply. IsStep tables.old.tables event.now reply tables.new.tables) (λ _. IsStep tables.old.tables event.now memory_reply tables.new.tables) }
     ensures err { OnErr result (tables.new.tables ≡ tables.old.tables) }
 {
     let Decision { plan, left, reply } = decide(alloc, tables, event)?;
@@ -65,7 +60,7 @@ fn last_after(tables: &Tables, left: &Option<Record>) -> Moment
 }
 
 // Plans an event, and tells the record that it leaves and its answer.
-fn planned(
+fn plan_event(
     alloc: Global,
     tables: &Tables,
     plan: &mut Plan,
@@ -73,7 +68,7 @@ fn planned(
 ) -> Result<(Option<Record>, Answer), Memory>
     requires valid { IsValid event.now }
     requires plan { plan.old ≡ no_plan }
-    ensures { IfOk result (λ r. Leaves tables.now.tables plan.new r.0 (spec.reply r.1) (spec.decide tables.now.tables event.now)) }
+    ensures { IfOk result (λ r. Plans tables.now.tables plan.new event.now r.0 r.1) }
 {
     let last = tables.last();
     match event {
@@ -87,7 +82,7 @@ fn planned(
             ask(alloc, tables, plan, moment, *caller, *task, command)
         }
         Event::Read { caller, query } => {
-            let answer = read(alloc, tables, plan, *caller, query)?;
+            let answer = read(alloc, tables, *caller, query)?;
             Ok((None, answer))
         }
     }
@@ -101,91 +96,29 @@ fn ask(
     at: Moment,
     caller: Name,
     task: TaskId,
-    command: &Command,
+    asked: &Command,
 ) -> Result<(Option<Record>, Answer), Memory>
     requires sound { IsSound tables.now.tables }
     requires within { at.0 ≤ last_moment }
     requires later { tables.now.tables.last ≤ at.0 }
     requires plan { plan.old ≡ no_plan }
-    ensures { IfOk result (λ r. Leaves tables.now.tables plan.new r.0 (spec.reply r.1) (spec.asked tables.now.tables at.0 caller task command.now)) }
+    ensures { IfOk result (λ r. PlansAsk tables.now.tables plan.new at.0 caller task asked.now r.0 r.1) }
 {
     let Some(person) = tables.people().find(caller) else {
         return Ok((None, Answer::Refused(Refusal::Person)));
     };
-    match attempt(alloc, tables, plan, person, at, task, command) {
-        Ok(answer) => {
-            let command = *command;
+    match command(alloc, tables, plan, person, at, task, asked) {
+        Ok(about) => {
+            let command = asked.copy(alloc)?;
             let left = Record::Asked {
                 at,
                 caller,
                 task,
                 command,
             };
-            Ok((Some(left), answer))
+            Ok((Some(left), done(tables, plan, about)))
         }
-        Err(Stop::Refused(refusal)) => Ok((None, Answer::Refused(refusal))),
-        Err(Stop::Memory) => Err(Memory),
-    }
-}
-
-fn attempt(
-    alloc: Global,
-    tables: &Tables,
-    plan: &mut Plan,
-    caller: Person,
-    at: Moment,
-    task: TaskId,
-    command: &Command,
-) -> Result<Answer, Stop>
-    requires plan { plan.old ≡ no_plan }
-    requires sound { IsSound tables.now.tables }
-    requires caller { caller < length tables.now.tables.people.persons }
-    requires at { at.0 ≤ last_moment }
-    ensures { Tries tables.now.tables plan.old plan.new (commands.attempt tables.now.tables caller at.0 task command.now) result }
-{
-    match command {
-        Command::Create { model } => create(alloc, tables, plan, caller, at, *model),
-        Command::Claim => claim(alloc, tables, plan, caller, task),
-    }
-}
-
-// What a caller, who must be a person, asks of the tables.
-fn read(
-    alloc: Global,
-    tables: &Tables,
-    plan: &Plan,
-    caller: Name,
-    query: &Query,
-) -> Result<Answer, Memory>
-    requires { plan.now ≡ no_plan }
-    ensures { IfOk result (λ answer. spec.decide tables.now.tables (Event.Read caller query.now) ≡ spec.stays tables.now.tables answer) }
-{
-    let Some(person) = tables.people().find(caller) else {
-        return Ok(Answer::Refused(Refusal::Person));
-    };
-    match query {
-        Query::Sheet(task) => show(alloc, tables, plan, person, *task),
-    }
-}
-
-// The sheet of a task, where the caller may see it.
-fn show(
-    alloc: Global,
-    tables: &Tables,
-    plan: &Plan,
-    caller: Person,
-    task: TaskId,
-) -> Result<Answer, Memory>
-    requires plan { plan.now ≡ no_plan }
-    requires caller { caller < length tables.now.tables.people.persons }
-    ensures { IfOk result (λ answer. answer ≡ spec.sheet tables.now.tables caller task.0 (row_at task.0 tables.now.tables.rows)) }
-{
-    let Some(row) = tables.row(task) else {
-        return Ok(Answer::Refused(Refusal::Task(task)));
-    };
-    let roles = plan.roles_of(tables, task, caller);
-    match why_no_sheet(&roles) {
-        Some(refusal) => Ok(Answer::Refused(refusal)),
-        None => Ok(Answer::Sheet(sheet(alloc, tables, row)?)),
+        Err(ActRefusal::Refused(refusal)) => Ok((None, Answer::Refused(refusal))),
+        Err(ActRefusal::Memory) => Err(Memory),
     }
 }

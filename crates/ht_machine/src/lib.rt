@@ -3,14 +3,17 @@
 #![tactic(auto)]
 
 mod activating;
-mod authorisation;
-mod claiming;
+mod answering;
+mod commanding;
 mod creating;
 mod deciding;
+mod gating;
+mod laws;
 mod naming;
+mod reading;
 mod sheets;
-mod stop;
 #[cfg(test)]
 mod tests;
 
 pub use deciding::{Decision, decide, run_one};
+pub use laws::one_outcome;

@@ -1,5 +1,5 @@
 ghost use Rattle.std.specs.Prelude.{IfSome};
-ghost use Rattle.ht_machine.specs.Deciding.{IsValid};
+ghost use Rattle.ht_base.specs.Events.{IsValid};
 
 use crate::{decide, run_one};
 use ht_base::{

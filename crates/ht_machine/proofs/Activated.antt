@@ -1,0 +1,79 @@
+-- That an activated row is sound, and where it is found.
+use Rattle.std.proofs.Common.{List, [], ◌∷◌, ◌<◌, IfSome, ◌≡◌, ℕ, Bool, false, if◌then◌else◌, length, Some, is_some, IsTrue, refl, ap, subst, ◌∙◌, eq-eqb, arith}
+use Rattle.ht_base.specs.declared.state.State.{State}
+use Rattle.ht_base.specs.declared.state.State.TheVariants.{Created}
+use Rattle.ht_base.specs.Persons.{AllBelow}
+use Rattle.ht_machine.specs.Activating.{IsCreated, activated}
+use Rattle.ht_machine.proofs.Rows.{one}
+use Rattle.ht_owner.specs.Moving.{owner_by}
+use Rattle.ht_owner.proofs.PublicLaws.{by_people}
+use Rattle.ht_tree.specs.declared.row.Row.{Row}
+use Rattle.ht_tree.specs.Plans.{IsNext, Replaces}
+use Rattle.ht_tree.specs.Rows.{row_at}
+use Rattle.ht_tree.specs.Soundness.{Fits, IsSoundRow, KeepsSound, is_owned, is_suspended}
+use Rattle.ht_tree.specs.Tables.{TablesOf, task_row, with_row}
+use Rattle.ht_tree.proofs.PublicLaws.{put_sound, row_at-put_in, within}
+
+-- a created task isn't suspended
+not_suspended : (row : Row) → row.state ≡ Created → (IsTrue (is_some row.until) → IsTrue (is_suspended row.state)) → IsTrue (is_some row.until) → IsTrue false
+not_suspended row created until h = let P : State → Type 0 = λ s. IsTrue (is_suspended s) in subst P created (until h)
+
+activated_sound : (u : TablesOf) (row : Row) → row.state ≡ Created → IsSoundRow u row → IsSoundRow u (activated row)
+activated_sound u row created sound = record {
+  filed = sound.filed;
+  who = sound.who;
+  whose = by_people (length u.people.persons) row.excluded_owners row.state row.potential_owners ((sound.who).known).potential_owners (sound.who).apart (ap is_owned created);
+  when = record {
+    waits = λ h. absurd cc;
+    until = λ h. absurd (let no = not_suspended row created (sound.when).until h in cc);
+    created_within = (sound.when).created_within;
+    waits_within = tt;
+    until_within = (sound.when).until_within;
+  };
+  how = sound.how;
+}
+
+activated_row_fits : (u : TablesOf) (row : Row) → row.state ≡ Created → Fits u row → Fits u (activated row)
+activated_row_fits u row created fits = record {
+  filed = fits.filed;
+  who = fits.who;
+  owner = owner_below (length u.people.persons) row.potential_owners (fits.who).potential_owners;
+  commenters = fits.commenters;
+  waits = λ h. absurd cc;
+  until = λ h. absurd (let no = not_suspended row created fits.until h in cc);
+}
+  where
+    owner_below : (n : ℕ) (ps : List ℕ) → AllBelow n ps → IfSome (owner_by ps) (λ p. p < n)
+    owner_below n [] all = tt
+    owner_below n (p ∷ []) all = all.0
+    owner_below n (p ∷ q ∷ ps) all = tt
+
+-- it is the created task that was found
+created_is : (u : TablesOf) (task : ℕ) (row : Row) → task_row u task ≡ Some row → IsCreated u task → (row.task.0 ≡ task) × (row.state ≡ Created)
+created_is u task row there created =
+    let P : Row → Type 0 = λ r. (r.task.0 ≡ task) × (r.state ≡ Created) in
+    subst P (one (task_row u task) created.row row created.there there) (created.number, created.created)
+
+pub activated_fits : (u : TablesOf) (task : ℕ) (row : Row) → task_row u task ≡ Some row → IsCreated u task → Fits u row → Fits u (activated row)
+activated_fits u task row there created = activated_row_fits u row (created_is u task row there created).1
+
+-- the activated row in its task's place
+pub record IsActivated (u : TablesOf) (task : ℕ) (row : Row) : Type 0 where
+  pub number : row.task.0 ≡ task
+  pub next : IsNext u.rows (activated row)
+  pub keeps : KeepsSound u (with_row u (activated row))
+  pub found : task_row (with_row u (activated row)) task ≡ Some (activated row)
+
+pub activates : (u : TablesOf) (task : ℕ) (row : Row) → task_row u task ≡ Some row → IsCreated u task → IsActivated u task row
+activates u task row there created =
+    let is = created_is u task row there created in
+    let number = is.0 in
+    let w = within u.rows row task there in
+    let next : IsNext u.rows (activated row) = (let low = w.0 in omega arith, let high = w.1 in omega arith) in
+    let place : Replaces u.rows (activated row) = record { before = row; there = ap (λ (n : ℕ). row_at n u.rows) number ∙ there; parent = refl; model = refl } in
+    record {
+      number = number;
+      next = next;
+      keeps = λ sound. put_sound u (activated row) sound (activated_sound u row is.1 (sound.rows_sound task row there)) place;
+      found = row_at-put_in u.rows (activated row) task next ∙ ap (λ (b : Bool). if b then Some (activated row) else row_at task u.rows) (eq-eqb row.task.0 task number);
+    }

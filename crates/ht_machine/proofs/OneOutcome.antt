@@ -1,0 +1,109 @@
+-- An event has one outcome on given tables.
+use Rattle.std.proofs.Common.{◌≡◌, ℕ, List, Option, None, Some, ap, sym, subst, ◌∙◌}
+use Rattle.ht_base.specs.declared.event.Command.{Command}
+use Rattle.ht_base.specs.declared.event.Command.TheVariants as command
+use Rattle.ht_base.specs.declared.event.Event.{Event}
+use Rattle.ht_base.specs.declared.event.Event.TheVariants.{Ask, Read}
+use Rattle.ht_base.specs.declared.record.Record.{Record}
+use Rattle.ht_base.specs.declared.record.Record.TheVariants.{Asked}
+use Rattle.ht_base.specs.declared.reply.Answer.{Answer}
+use Rattle.ht_base.specs.declared.reply.Reply.{Reply}
+use Rattle.ht_base.specs.declared.task_id.TaskId.{TaskId}
+use Rattle.ht_base.specs.Events.{op_of}
+use Rattle.ht_machine.specs.Activating.{Activates, activated}
+use Rattle.ht_machine.specs.Commands.{ActsOn, AfterEffect, BehindGate, Comes, Creates, CreatesAt, CreatesNamed, CreatesOf, Outcome, accepted, refused}
+use Rattle.ht_machine.specs.Deciding.{Attempts, Leads, Settles, Shows, done, effective}
+use Rattle.ht_machine.specs.Gate.{Gate, gate, opens, shuts}
+use Rattle.ht_machine.proofs.Created.{new_task}
+use Rattle.ht_machine.proofs.Rows.{one}
+use Rattle.ht_models.specs.Model.{ModelOf}
+use Rattle.ht_owner.specs.declared.follow.Follow.TheVariants.{Nothing}
+use Rattle.ht_owner.specs.Effects.{Effect, does, effect, refuses}
+use Rattle.ht_people.specs.Directory.{find}
+use Rattle.ht_tree.specs.declared.row.Row.{Row}
+use Rattle.ht_tree.specs.Tables.{TablesOf, directory, model_at, model_named, task_row, with_row}
+
+both : (u v : TablesOf) (m n : ℕ) → u ≡ v → m ≡ n → accepted u m ≡ accepted v n
+both u v m n e f = ap (λ x. accepted x m) e ∙ ap (λ k. accepted v k) f
+
+-- ---- creates
+
+same_activation : (u : TablesOf) (task : ℕ) (v w : TablesOf) → Activates u task v → Activates u task w → v ≡ w
+same_activation u task v w a b = a.2 ∙ ap (λ (r : Row). with_row u (activated r)) (one (task_row u task) a.0 b.0 a.1 b.1) ∙ sym b.2
+
+same_new : (u : TablesOf) (caller moment place : ℕ) (m : ModelOf) (o p : Outcome) → CreatesOf u caller moment place m o → CreatesOf u caller moment place m p → o ≡ p
+same_new u caller moment place m (accepted v j) (accepted w k) a b =
+    let task : j ≡ k = a.1 ∙ sym b.1 in
+    let u1 = with_row u (new_task u caller moment place m) in
+    let A : ℕ → Type 0 = λ n. Activates u1 n v in
+    both v w j k (same_activation u1 k v w (subst A task a.2) b.2) task
+same_new u caller moment place m (accepted v j) (refused why) a b = absurd (a.0 b.0)
+same_new u caller moment place m (refused why) (accepted w k) a b = absurd (b.0 a.0)
+same_new u caller moment place m (refused why) (refused other) a b = ap refused (a.1 ∙ sym b.1)
+
+same_at : (u : TablesOf) (caller moment place : ℕ) (o p : Outcome) → CreatesAt u caller moment place o → CreatesAt u caller moment place p → o ≡ p
+same_at u caller moment place o p a b =
+    let P : ModelOf → Type 0 = λ m. CreatesOf u caller moment place m o in
+    same_new u caller moment place b.0 o p (subst P (one (model_at u place) a.0 b.0 a.1 b.1) a.2) b.2
+
+same_create : (u : TablesOf) (caller moment : ℕ) (named : Option (List ℕ)) (o p : Outcome) → Creates u caller moment named o → Creates u caller moment named p → o ≡ p
+same_create u caller moment None o p a b = same_at u caller moment 0 o p a b
+same_create u caller moment (Some name) o p a b = at (model_named u name) a b
+  where
+    at : (k : Option ℕ) → CreatesNamed u caller moment name k o → CreatesNamed u caller moment name k p → o ≡ p
+    at None a b = a ∙ sym b
+    at (Some place) a b = same_at u caller moment place o p a b
+
+-- ---- the other commands
+
+same_effect : (u : TablesOf) (task : ℕ) (e : Effect) (o p : Outcome) → AfterEffect u task e o → AfterEffect u task e p → o ≡ p
+same_effect u task (does row Nothing) (accepted v j) (accepted w k) a b = both v w j k (a.0 ∙ sym b.0) (a.1 ∙ sym b.1)
+same_effect u task (does row Nothing) (accepted v j) (refused why) a b = absurd b
+same_effect u task (does row Nothing) (refused why) p a b = absurd a
+same_effect u task (refuses why) o p a b = a ∙ sym b
+
+same_act : (u : TablesOf) (caller task : ℕ) (c : Command) (o p : Outcome) → ActsOn u caller task c o → ActsOn u caller task c p → o ≡ p
+same_act u caller task c o p = at (gate u (op_of c) caller task)
+  where
+    at : (g : Gate) → BehindGate u caller task c g o → BehindGate u caller task c g p → o ≡ p
+    at (opens row) a b = same_effect u task (effect caller c row) o p a b
+    at (shuts why) a b = a ∙ sym b
+
+same_outcome : (t : TablesOf) (person moment task : ℕ) (c : Command) (o p : Outcome) → Comes t person moment task c o → Comes t person moment task c p → o ≡ p
+same_outcome t person moment task (command.Create model) o p a b = same_create t person moment model o p a b
+same_outcome t person moment task command.Claim o p a b = same_act t person task command.Claim o p a b
+
+same_attempt : (t : TablesOf) (moment : ℕ) (task : TaskId) (c : Command) (person : Option ℕ) (o p : Outcome) → Attempts t moment task c person o → Attempts t moment task c person p → o ≡ p
+same_attempt t moment task c None o p a b = a ∙ sym b
+same_attempt t moment task c (Some person) o p a b = same_outcome t person moment task.0 c o p a b
+
+-- ---- what is left and answered
+
+same_answer : (u : TablesOf) (task : ℕ) (a b : Answer) → Shows u task a → Shows u task b → a ≡ b
+same_answer u task a b s t = s.2 ∙ ap (λ (r : Row). done (directory u) r) (one (task_row u task) s.0 t.0 s.1 t.1) ∙ sym t.2
+
+-- the record left, the answer and the tables after are the same
+pub record AreSame (k l : Option Record) (a b : Answer) (u v : TablesOf) : Type 0 where
+  pub left : k ≡ l
+  pub answer : a ≡ b
+  pub after : u ≡ v
+
+same_settled : (t : TablesOf) (moment : ℕ) (kept : Record) (o : Outcome) (k l : Option Record) (a b : Answer) (u v : TablesOf) → Settles t moment kept o k a u → Settles t moment kept o l b v → AreSame k l a b u v
+same_settled t moment kept (accepted w task) k l a b u v s r =
+    let after : u ≡ v = s.1 ∙ sym r.1 in
+    let P : TablesOf → Type 0 = λ x. Shows x task a in
+    record { left = s.0 ∙ sym r.0; answer = same_answer v task a b (subst P after s.2) r.2; after = after }
+same_settled t moment kept (refused why) k l a b u v s r = record { left = s.0 ∙ sym r.0; answer = s.2 ∙ sym r.2; after = s.1 ∙ sym r.1 }
+
+pub same : (t : TablesOf) (e : Event) (k l : Option Record) (a b : Answer) (u v : TablesOf) → Leads t e k a u → Leads t e l b v → AreSame k l a b u v
+same t (Ask at caller task c) k l a b u v s r =
+    let moment = effective t at.0 in
+    let kept = Asked (record { 0 = moment }) caller task c in
+    let P : Outcome → Type 0 = λ o. Settles t moment kept o k a u in
+    let one_only = same_attempt t moment task c (find caller (directory t)) s.outcome r.outcome s.attempts r.attempts in
+    same_settled t moment kept r.outcome k l a b u v (subst P one_only s.settles) r.settles
+same t (Read caller what) k l a b u v s r = record { left = s.0 ∙ sym r.0; answer = s.2 ∙ sym r.2; after = s.1 ∙ sym r.1 }
+
+-- replies in which as much was taken, and which answer the same
+pub same_reply : (r s : Reply) → r.taken ≡ 0 → s.taken ≡ 0 → r.answer ≡ s.answer → r ≡ s
+same_reply r s none zero answer = λ i. record { taken = (none ∙ sym zero) i; answer = answer i }

@@ -1,0 +1,43 @@
+ghost use Rattle.std.specs.Prelude.{◌≡◌, ◌<◌, IfOk, length};
+ghost use Rattle.ht_people.specs.Directory.{find};
+ghost use Rattle.ht_machine.specs.Deciding as spec;
+ghost use Rattle.ht_machine.specs.Gate as gates;
+ghost use Rattle.ht_tree.specs.Tables.{directory};
+
+use crate::gating::refusal_at_gate;
+use crate::sheets::sheet;
+use ht_base::{Answer, Memory, Name, Op, Person, Query, Refusal, TaskId};
+use ht_tree::{Plan, Tables};
+use std::alloc::Global;
+
+/// What a caller, who must be a person, asks of the tables as they stand.
+pub(crate) fn read(
+    alloc: Global,
+    tables: &Tables,
+    caller: Name,
+    query: &Query,
+) -> Result<Answer, Memory>
+    ensures { IfOk result (λ answer. answer ≡ spec.shown_to tables.now.tables query.now (find caller (directory tables.now.tables))) }
+{
+    let Some(person) = tables.people().find(caller) else {
+        return Ok(Answer::Refused(Refusal::Person));
+    };
+    match query {
+        Query::Sheet(task) => show(alloc, tables, person, *task),
+    }
+}
+
+// The sheet of a task, where the person may see it.
+fn show(alloc: Global, tables: &Tables, person: Person, task: TaskId) -> Result<Answer, Memory>
+    requires { person < length tables.now.tables.people.persons }
+    ensures { IfOk result (λ answer. answer ≡ spec.sheet_behind tables.now.tables (gates.gate tables.now.tables Op.Get person task.0)) }
+{
+    let nothing = Plan::begin(alloc)?;
+    if let Some(refusal) = refusal_at_gate(tables, &nothing, person, task, Op::Get) {
+        return Ok(Answer::Refused(refusal));
+    }
+    match tables.row(task) {
+        Some(row) => Ok(Answer::Sheet(sheet(alloc, tables, row)?)),
+        None => unreachable!(),
+    }
+}

@@ -1,0 +1,4 @@
+mod Acted
+mod EffectsSound
+mod Moved
+pub mod PublicLaws

@@ -1,0 +1,4 @@
+pub mod Acting
+pub mod Effects
+pub mod Examples
+pub mod Moving

@@ -1,0 +1,41 @@
+ghost use Rattle.std.specs.Prelude.{◌<◌, ◌≤◌, length};
+ghost use Rattle.ht_base.specs.Events.{op_of};
+ghost use Rattle.ht_base.specs.Moment.{last_moment};
+ghost use Rattle.ht_owner.specs.Acting.{Acts, IsAllowed};
+ghost use Rattle.ht_tree.specs.Plans.{IsPlanOf, planned};
+ghost use Rattle.ht_tree.specs.Soundness.{IsSound};
+
+use crate::effects::effect;
+use crate::{ActRefusal, Follow};
+use ht_base::{Command, Moment, Person, TaskId};
+use ht_tree::{Plan, Tables};
+use std::alloc::Global;
+
+/// Plans a caller's command on one task, which the table of who may do what allows, and tells what
+/// follows on others (WS-HumanTask 1.1, 7.1.1 "Participant operations").
+///
+/// `at` is the moment at which it acts, at most the last there is. A refusal leaves the plan as it
+/// was; after want of memory it may hold less or more, and the caller goes back to its mark.
+pub fn act(
+    alloc: Global,
+    tables: &Tables,
+    plan: &mut Plan,
+    id: TaskId,
+    caller: Person,
+    command: &Command,
+    _at: Moment,
+) -> Result<Follow, ActRefusal>
+    requires plan { IsPlanOf tables.now.tables plan.old }
+    requires sound { IsSound (planned tables.now.tables plan.old) }
+    requires caller { caller < length tables.now.tables.people.persons }
+    requires allowed { IsAllowed (planned tables.now.tables plan.old) (op_of command.now) caller id.0 }
+    requires at { _at.0 ≤ last_moment }
+    ensures { Acts tables.now.tables plan.old plan.new id.0 caller command.now result }
+{
+    let Some(row) = plan.row(tables, id) else {
+        unreachable!()
+    };
+    let (row, follow) = effect(caller, command, row.copy(alloc)?)?;
+    plan.put(tables, row)?;
+    Ok(follow)
+}
