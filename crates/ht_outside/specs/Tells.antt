@@ -2,10 +2,22 @@
 -- and no call makes one begin or cease to tell.
 use Rattle.std.specs.Prelude.{◌≡◌, ℕ, ◌<◌, ◌≤◌, List, [], ◌++◌, length, take, Option, Some, None, Result, MatchResult, ⊤}
 
--- the bytes that a source has left, and those that were taken from it
+-- the bytes that a source has left, those that were taken from it, and those that had been taken
+-- before the last read was made
 pub record Flow : Type 0 where
   pub left : List ℕ
   pub taken : List ℕ
+  pub before : List ℕ
+
+-- what a source tells: its bytes, if it tells them, and how many reads failed
+pub record SourceState : Type 0 where
+  pub flow : Option Flow
+  pub faults : ℕ
+
+-- what a sink tells: the bytes written, if it tells them, and how many writes failed
+pub record SinkState : Type 0 where
+  pub written : Option (List ℕ)
+  pub faults : ℕ
 
 -- the first bytes of those left were taken, and no others
 pub record Moves (old new : Flow) (bytes : List ℕ) : Type 0 where
@@ -17,6 +29,13 @@ Takes None None bytes = ⊤
 Takes None (Some new) bytes = ⊥
 Takes (Some old) None bytes = ⊥
 Takes (Some old) (Some new) bytes = Moves old new bytes
+
+-- a read was made where these bytes had been taken
+abbrev pub IsLastRead : Option Flow → Option Flow → Type 0
+IsLastRead None None = ⊤
+IsLastRead None (Some new) = ⊥
+IsLastRead (Some old) None = ⊥
+IsLastRead (Some old) (Some new) = new.before ≡ old.taken
 
 -- nothing is left, as far as the source tells
 abbrev pub IsAtEnd : Option Flow → Type 0

@@ -1,9 +1,16 @@
--- What a read of a text by its name answers.
-use Rattle.std.specs.Prelude.{ℕ, ◌<◌, ◌≤◌, ◌≡◌, List, length, Bool, true, false, IsTrue, Result, Ok, Err, MatchResult, ⊤}
+-- What is told of texts that are read by their names, and what a read answers.
+use Rattle.std.specs.Prelude.{ℕ, ◌<◌, ◌≤◌, ◌≡◌, ◌⊎◌, List, [], ◌∷◌, ◌++◌, length, Bool, true, false, IsTrue, Option, Result, Ok, Err, MatchResult, ⊤}
 use Rattle.ht_base.specs.Bytes.{BytesOf}
 use Rattle.ht_outside.specs.Causes.{Rose}
+use Rattle.ht_outside.specs.declared.asked.Asked.{Asked}
 use Rattle.ht_outside.specs.declared.text_fault.TextFault.{TextFault}
 use Rattle.ht_outside.specs.declared.text_fault.TextFault.TheVariants.{Failed, TooLong, Memory}
+
+-- the bytes of each name, if they are told, how many reads failed, and the reads so far, in order
+pub record TextsState : Type 0 where
+  pub texts : Option (List ℕ → List ℕ)
+  pub faults : ℕ
+  pub asked : List Asked
 
 -- TooLong says that the text has more bytes than the limit, the other faults say nothing of it
 abbrev pub SaysOf : ℕ → List ℕ → TextFault → Type 0
@@ -26,3 +33,9 @@ is_failed (Err Memory) = false
 pub record HasTextCause (before now : ℕ) (result : Result BytesOf TextFault) : Type 0 where
   pub later : before ≤ now
   pub failed : IsTrue (is_failed result) → Rose before now
+
+-- this read stands behind the others, unless there was no memory to note it
+abbrev pub IsNoted : TextsState → TextsState → List ℕ → Result BytesOf TextFault → Type 0
+IsNoted old new name result =
+    (new.asked ≡ old.asked ++ record { name = name; before = old.faults } ∷ [])
+    ⊎ ((result ≡ Err Memory) × (new.asked ≡ old.asked))

@@ -1,7 +1,8 @@
-ghost use Rattle.std.specs.Prelude.{◌≡◌, ◌<◌, ◌≤◌, length, None, IfOk, IfSome};
+ghost use Rattle.std.specs.Prelude.{◌≡◌, ◌<◌, ◌≤◌, [], length, None, IfOk, IfSome};
 ghost use Rattle.ht_outside.specs.Texts.{ReadsWhole};
 
-use crate::{TextFault, Texts};
+use crate::asked::note;
+use crate::{Asked, TextFault, Texts};
 use ht_base::Bytes;
 use std::alloc::Global;
 use std::fs::File;
@@ -11,29 +12,34 @@ use std::rt::Files;
 // How many bytes are asked of a file at once.
 const PIECE: usize = 65_536;
 
-/// Texts that are files, each named by its path. It tells no bytes. A file that is missing or
+/// Texts that are files, each named by its path. It tells no bytes, but which names were asked for. A file that is missing or
 /// can't be read is Failed.
 #[derive(Drop)]
 pub struct FileTexts<R: Files + Drop> {
     files: R,
     faults: u64,
+    asked: Vec<Asked>,
 }
 
 impl<R: Files + Drop> FileTexts<R> {
     /// The files of this runtime, of which a reference, as `&rt`, is one too.
-    pub fn new(files: R) -> FileTexts<R>
-        ensures { result.faults ≡ 0 }
+    pub fn new(alloc: Global, files: R) -> FileTexts<R>
+        ensures faults { result.faults ≡ 0 }
+        ensures asked { result.asked.items ≡ [] }
     {
-        FileTexts { files, faults: 0 }
+        FileTexts {
+            files,
+            faults: 0,
+            asked: Vec::new(alloc),
+        }
     }
 }
 
 impl<R: Files + Drop> Texts for FileTexts<R> {
-    ghost texts = { λ _. None };
-
-    ghost text_faults = { λ t. t.faults };
+    ghost texts_state = { λ t. record { texts = None; faults = t.faults; asked = t.asked.items } };
 
     fn read(&mut self, alloc: Global, name: &str, limit: u32) -> Result<Bytes, TextFault> {
+        note(alloc, &mut self.asked, name, self.faults)?;
         let result = match File::open(&self.files, name) {
             Ok(mut file) => read_whole(alloc, &mut file, limit),
             Err(_) => Err(TextFault::Failed),

@@ -3,6 +3,7 @@
 //! Beside each trait stand a form in memory for tests and an adapter to the real thing.
 #![tactic(auto)]
 
+mod asked;
 mod failed;
 mod file_texts;
 mod link;
@@ -18,6 +19,7 @@ mod tests;
 mod text_fault;
 mod texts;
 
+pub use asked::Asked;
 pub use failed::Failed;
 pub use file_texts::FileTexts;
 pub use link::{Link, Pair};

@@ -5,9 +5,9 @@ use crate::{Failed, Sink, Source};
 /// A connection: a source and a sink in one object. Reading leaves what was written, and writing
 /// leaves what is to be read.
 pub trait Link: Source + Sink {
-    ghost reads_alone: { (x : Self) → Self.beside_source x ≡ (Self.written x, Self.write_faults x) };
+    ghost reads_alone: { (x : Self) → Self.beside_source x ≡ Self.sink_state x };
 
-    ghost writes_alone: { (x : Self) → Self.beside_sink x ≡ (Self.flow x, Self.read_faults x) };
+    ghost writes_alone: { (x : Self) → Self.beside_sink x ≡ Self.source_state x };
 }
 
 /// A link of a source and a sink.
@@ -18,11 +18,9 @@ pub struct Pair<S: Source, K: Sink> {
 }
 
 impl<S: Source, K: Sink> Source for Pair<S, K> {
-    ghost flow = { λ p. S.flow p.input };
+    ghost source_state = { λ p. S.source_state p.input };
 
-    ghost read_faults = { λ p. S.read_faults p.input };
-
-    ghost beside_source = { λ p. (K.written p.output, K.write_faults p.output) };
+    ghost beside_source = { λ p. K.sink_state p.output };
 
     fn read(&mut self, into: &mut [u8]) -> Result<usize, Failed> {
         self.input.read(into)
@@ -30,11 +28,9 @@ impl<S: Source, K: Sink> Source for Pair<S, K> {
 }
 
 impl<S: Source, K: Sink> Sink for Pair<S, K> {
-    ghost written = { λ p. K.written p.output };
+    ghost sink_state = { λ p. K.sink_state p.output };
 
-    ghost write_faults = { λ p. K.write_faults p.output };
-
-    ghost beside_sink = { λ p. (S.flow p.input, S.read_faults p.input) };
+    ghost beside_sink = { λ p. S.source_state p.input };
 
     fn write(&mut self, piece: &[u8]) -> Result<(), Failed> {
         self.output.write(piece)

@@ -49,9 +49,7 @@ impl MemorySink {
 }
 
 impl Sink for MemorySink {
-    ghost written = { λ s. Some s.written };
-
-    ghost write_faults = { λ s. s.faults };
+    ghost sink_state = { λ s. record { written = Some s.written; faults = s.faults } };
 
     fn write(&mut self, piece: &[u8]) -> Result<(), Failed>
         ensures bytes { WriteGrows (Some self.old.written) (Some self.new.written) result piece.now }

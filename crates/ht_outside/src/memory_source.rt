@@ -13,6 +13,8 @@ use std::marker::Model;
 pub struct MemorySource {
     bytes: Bytes,
     at: usize,
+    // Where the last read began.
+    last: usize,
     failing: Vec<u32>,
     calls: u64,
     faults: u64,
@@ -24,7 +26,7 @@ impl Model for MemorySource {
 
     ghost Value = { ScriptedSource };
 
-    ghost view = { λ s. record { flow = flow_at s.at s.bytes.items; failing = s.failing.items; calls = s.calls; faults = s.faults } };
+    ghost view = { λ s. record { flow = flow_at s.at s.last s.bytes.items; failing = s.failing.items; calls = s.calls; faults = s.faults } };
 
     ghost invariant = { λ s. s.at ≤ length s.bytes.items };
 }
@@ -32,11 +34,12 @@ impl Model for MemorySource {
 impl MemorySource {
     /// A source of these bytes. `failing` has the numbers, counted from 1, of the reads that fail.
     pub fn make(_alloc: Global, bytes: Bytes, failing: Vec<u32>) -> Result<MemorySource, Memory>
-        ensures { IfOk result (λ s. s ≡ record { flow = record { left = bytes.items; taken = [] }; failing = failing.items; calls = 0; faults = 0 }) }
+        ensures { IfOk result (λ s. s ≡ record { flow = record { left = bytes.items; taken = []; before = [] }; failing = failing.items; calls = 0; faults = 0 }) }
     {
         Ok(MemorySource {
             bytes,
             at: 0,
+            last: 0,
             failing,
             calls: 0,
             faults: 0,
@@ -52,17 +55,17 @@ impl MemorySource {
 }
 
 impl Source for MemorySource {
-    ghost flow = { λ s. Some s.flow };
-
-    ghost read_faults = { λ s. s.faults };
+    ghost source_state = { λ s. record { flow = Some s.flow; faults = s.faults } };
 
     fn read(&mut self, into: &mut [u8]) -> Result<usize, Failed>
         ensures bytes { ReadTakes (Some self.old.flow) (Some self.new.flow) result into.new }
+        ensures last { self.new.flow.before ≡ self.old.flow.taken }
         ensures cause { HasCause self.old.faults self.new.faults result }
         ensures fails { is_err result ≡ list_any (λ n. n == next_count self.old.calls) self.old.failing }
         ensures counted { self.new.calls ≡ next_count self.old.calls }
     {
         self.calls = self.calls.saturating_add(1);
+        self.last = self.at;
         if is_among(self.calls, &self.failing) {
             self.faults = self.faults.saturating_add(1);
             return Err(Failed);

@@ -1,11 +1,12 @@
-ghost use Rattle.std.specs.Prelude.{◌≡◌, ◌==◌, ◌≤◌, length, Some, IfOk, if◌then◌else◌};
+ghost use Rattle.std.specs.Prelude.{◌≡◌, ◌≢◌, ◌==◌, ◌≤◌, [], true, length, Some, IfOk, IsTrue, IsErr};
 ghost use Rattle.std.specs.List.{list_any};
 ghost use Rattle.ht_outside.specs.Causes.{next_count};
-ghost use Rattle.ht_outside.specs.Scripted.{bytes_named};
-ghost use Rattle.ht_outside.specs.Texts.{HasTextCause, ReadsWhole, is_failed};
+ghost use Rattle.ht_outside.specs.Scripted.{bytes_named, told_by};
+ghost use Rattle.ht_outside.specs.Texts.{HasTextCause, IsNoted, ReadsWhole, is_failed};
 
+use crate::asked::note;
 use crate::memory_source::is_among;
-use crate::{TextFault, Texts};
+use crate::{Asked, TextFault, Texts};
 use ht_base::{Bytes, Memory, Txt};
 use std::alloc::Global;
 use std::marker::Model;
@@ -14,6 +15,7 @@ use std::marker::Model;
 #[derive(Drop)]
 pub struct MemoryTexts {
     texts: Vec<(Txt, Bytes)>,
+    asked: Vec<Asked>,
     failing: Vec<u32>,
     calls: u64,
     faults: u64,
@@ -24,7 +26,7 @@ impl Model for MemoryTexts {
 
     ghost Value = { ScriptedTexts };
 
-    ghost view = { λ t. record { texts = t.texts.items; failing = t.failing.items; calls = t.calls; faults = t.faults } };
+    ghost view = { λ t. record { texts = t.texts.items; asked = t.asked.items; failing = t.failing.items; calls = t.calls; faults = t.faults } };
 }
 
 impl MemoryTexts {
@@ -32,34 +34,44 @@ impl MemoryTexts {
     /// that doesn't stand here has no bytes. `failing` has the numbers, counted from 1, of the
     /// reads that fail.
     pub fn make(
-        _alloc: Global,
+        alloc: Global,
         texts: Vec<(Txt, Bytes)>,
         failing: Vec<u32>,
     ) -> Result<MemoryTexts, Memory>
-        ensures { IfOk result (λ t. t ≡ record { texts = texts.items; failing = failing.items; calls = 0; faults = 0 }) }
+        ensures { IfOk result (λ t. t ≡ record { texts = texts.items; asked = []; failing = failing.items; calls = 0; faults = 0 }) }
     {
         Ok(MemoryTexts {
             texts,
+            asked: Vec::new(alloc),
             failing,
             calls: 0,
             faults: 0,
         })
     }
+
+    /// The reads so far, in order.
+    pub fn asked(&self) -> &[Asked]
+        ensures { result.now ≡ self.now.asked }
+    {
+        self.asked.as_slice()
+    }
 }
 
 impl Texts for MemoryTexts {
-    ghost texts = { λ t. Some (bytes_named t.texts) };
-
-    ghost text_faults = { λ t. t.faults };
+    ghost texts_state = { told_by };
 
     fn read(&mut self, alloc: Global, name: &str, limit: u32) -> Result<Bytes, TextFault>
         ensures text { ReadsWhole limit (bytes_named self.old.texts name.now) result }
         ensures limit { IfOk result (λ bytes. length bytes.items ≤ limit) }
+        ensures kept { (self.new.texts ≡ self.old.texts) × (self.new.failing ≡ self.old.failing) }
+        ensures noted { IsNoted (told_by self.old) (told_by self.new) name.now result }
         ensures cause { HasTextCause self.old.faults self.new.faults result }
-        ensures fails { is_failed result ≡ list_any (λ n. n == next_count self.old.calls) self.old.failing }
-        ensures next { self.new ≡ record self.old { calls = next_count self.old.calls; faults = (if is_failed result then next_count self.old.faults else self.old.faults) } }
+        ensures asked { IsTrue (is_failed result) → list_any (λ n. n == next_count self.old.calls) self.old.failing ≡ true }
+        ensures fails { result ≢ Err TextFault.Memory → is_failed result ≡ list_any (λ n. n == next_count self.old.calls) self.old.failing }
+        ensures counted { self.new.calls ≡ next_count self.old.calls }
     {
         self.calls = self.calls.saturating_add(1);
+        note(alloc, &mut self.asked, name, self.faults)?;
         if is_among(self.calls, &self.failing) {
             self.faults = self.faults.saturating_add(1);
             return Err(TextFault::Failed);

@@ -19,9 +19,7 @@ impl<W: Write + Drop> StdSink<W> {
 }
 
 impl<W: Write + Drop> Sink for StdSink<W> {
-    ghost written = { λ _. None };
-
-    ghost write_faults = { λ s. s.faults };
+    ghost sink_state = { λ s. record { written = None; faults = s.faults } };
 
     fn write(&mut self, piece: &[u8]) -> Result<(), Failed> {
         if self.writer.write_all(piece).is_ok() && self.writer.flush().is_ok() {

@@ -19,9 +19,7 @@ impl<R: Read + Drop> StdSource<R> {
 }
 
 impl<R: Read + Drop> Source for StdSource<R> {
-    ghost flow = { λ _. None };
-
-    ghost read_faults = { λ s. s.faults };
+    ghost source_state = { λ s. record { flow = None; faults = s.faults } };
 
     fn read(&mut self, into: &mut [u8]) -> Result<usize, Failed> {
         match self.reader.read(into) {

@@ -1,4 +1,4 @@
-ghost use Rattle.std.specs.Prelude.{◌≡◌, [], false};
+ghost use Rattle.std.specs.Prelude.{◌≡◌, [], IsTrue};
 ghost use Rattle.ht_outside.specs.Texts.{is_failed};
 
 use crate::{
@@ -97,7 +97,7 @@ fn is_answer(read: &Result<Bytes, TextFault>, want: Result<&[u8], TextFault>) ->
 // A read where no call is to fail: its clauses are what such a caller knows.
 fn read_unfailing(alloc: Global, texts: &mut MemoryTexts, name: &str) -> Result<Bytes, TextFault>
     requires { texts.old.failing ≡ [] }
-    ensures never { is_failed result ≡ false }
+    ensures never { IsTrue (is_failed result) → ⊥ }
     ensures kept { texts.new.failing ≡ [] }
 {
     texts.read(alloc, name, 8)
@@ -126,6 +126,8 @@ fn texts_in_memory_are_read_by_name(rt: HostRuntime) -> Result<(), Fail> {
             "{name} up to {limit}"
         );
     }
+    let last = texts.asked().last();
+    assert!(rt; last.is_some_and(|asked| asked.name.as_str() == "nobody" && asked.before == 2));
     Ok(())
 }
 
@@ -148,7 +150,7 @@ fn files_are_texts(rt: HostRuntime) -> Result<(), Fail> {
     let mut text = vec![in alloc; b'x'; 70_000]?;
     text.extend_from_slice(b"end")?;
     fs::write(&rt, path.as_path(), text.as_slice())?;
-    let mut texts = FileTexts::new(&rt);
+    let mut texts = FileTexts::new(alloc, &rt);
     let whole = texts.read(alloc, path.as_str(), 70_003);
     let longer = texts.read(alloc, path.as_str(), 70_002);
     fs::remove_file(&rt, path.as_path())?;

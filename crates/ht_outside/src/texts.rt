@@ -1,5 +1,5 @@
-ghost use Rattle.std.specs.Prelude.{◌≡◌, ◌≤◌, ℕ, List, Option, length, IfOk, IfSome};
-ghost use Rattle.ht_outside.specs.Texts.{HasTextCause, ReadsWhole};
+ghost use Rattle.std.specs.Prelude.{◌≡◌, ◌≤◌, length, IfOk, IfSome};
+ghost use Rattle.ht_outside.specs.Texts.{HasTextCause, IsNoted, ReadsWhole, TextsState};
 
 use crate::TextFault;
 use ht_base::Bytes;
@@ -7,17 +7,17 @@ use std::alloc::Global;
 
 /// Where a text is read by its name.
 pub trait Texts {
-    /// The bytes of each name, where the object tells them. No call makes an object begin or
-    /// cease to tell, and what it tells stays.
-    ghost texts: { Self → Option (List ℕ → List ℕ) };
+    /// The bytes of each name, where the object tells them, how many reads failed, and the reads
+    /// so far, in order. No call makes an object begin or cease to tell bytes, and those that it
+    /// tells stay. The count stops at 18446744073709551615.
+    ghost texts_state: { Self → TextsState };
 
-    /// How many reads failed. The count stops at 18446744073709551615.
-    ghost text_faults: { Self → ℕ };
-
-    /// The whole text of this name, of at most `limit` bytes.
+    /// The whole text of this name, of at most `limit` bytes. The read is noted behind the others,
+    /// which takes memory.
     fn read(&mut self, alloc: Global, name: &str, limit: u32) -> Result<Bytes, TextFault>
-        ensures text { IfSome (texts self.old) (λ text. ReadsWhole limit (text name.now) result) }
+        ensures text { IfSome (texts_state self.old).texts (λ text. ReadsWhole limit (text name.now) result) }
         ensures limit { IfOk result (λ bytes. length bytes.items ≤ limit) }
-        ensures kept { texts self.new ≡ texts self.old }
-        ensures cause { HasTextCause (text_faults self.old) (text_faults self.new) result };
+        ensures kept { (texts_state self.new).texts ≡ (texts_state self.old).texts }
+        ensures noted { IsNoted (texts_state self.old) (texts_state self.new) name.now result }
+        ensures cause { HasTextCause (texts_state self.old).faults (texts_state self.new).faults result };
 }

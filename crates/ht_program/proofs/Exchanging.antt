@@ -1,63 +1,47 @@
 -- One exchange, and none.
-use Rattle.std.proofs.Common.{◌≡◌, ◌⊎◌, inl, inr, ⊎_elim, ℕ, ◌+◌, ◌<◌, arith, true, false, List, [], ◌∷◌, ◌++◌, refl, sym, ap, subst, ◌∙◌, append-nil, Option, Some, None, Ok, Err}
+use Rattle.std.proofs.Common.{◌≡◌, inl, inr, ⊎_elim, ℕ, ◌+◌, ◌<◌, arith, true, false, List, [], ◌∷◌, ◌++◌, refl, sym, ap, subst, ◌∙◌, append-nil, Option, Some, None, Ok, Err}
 use Rattle.ht_base.specs.declared.event.Event.{Event}
-use Rattle.ht_outside.specs.Tells.{Flow, Takes, Grows, GrowsPart}
-use Rattle.ht_machine.specs.History.{Entry, IsLegal, end_of}
+use Rattle.ht_outside.specs.Tells.{Flow, SourceState, SinkState, Takes, Grows, GrowsPart}
+use Rattle.ht_base.specs.History.{Entry, end_of}
+use Rattle.ht_base.specs.declared.reply.Reply.{Reply}
+use Rattle.ht_machine.specs.History.{History, IsHistory}
 use Rattle.ht_tree.specs.Tables.{TablesOf}
+use Rattle.ht_wire.specs.declared.reading.Next.{Next}
 use Rattle.ht_wire.specs.declared.reading.Next.TheVariants as next
 use Rattle.ht_wire.specs.declared.request.Request.{Request}
-use Rattle.ht_wire.specs.Reading.{Reads, EndsAt, RefusedAt}
+use Rattle.ht_wire.specs.Heads.{HasNoHead}
+use Rattle.ht_wire.specs.Reading.{Reads, EndsAt, Finds, LastReadWhere, RefusedAt}
 use Rattle.ht_wire.specs.Replies.{IsReplyStatus, reply_bytes}
 use Rattle.ht_outside.proofs.PublicLaws.{Takes-none}
-use Rattle.ht_wire.specs.Requests.{IsReason, IsRefusalCode}
+use Rattle.ht_wire.proofs.PublicLaws.{request_on, request_or_end}
+use Rattle.ht_wire.specs.Requests.{IsReason, IsRefusalCode, IsRequest}
+use Rattle.ht_program.specs.declared.ending.Ending.{Ending}
 use Rattle.ht_program.specs.declared.ending.Ending.TheVariants as ending
 use Rattle.ht_program.specs.declared.routing.ApiRefusal.{ApiRefusal}
-use Rattle.ht_program.specs.Answering.{Answers, Decides, Decided, Withholds, Starves}
-use Rattle.ht_program.specs.Exchanges.{Exchange, unheard, starved, entered, unsaid, entry_of, replies, spelled, status_of}
-use Rattle.ht_program.specs.Inputs.{budget}
+use Rattle.ht_program.specs.Answering.{Answers, Decides}
+use Rattle.ht_program.specs.Exchanges.{Exchange, refused, answered, not_shown, entry_of, replies, spelled, status_of}
 use Rattle.ht_program.specs.Routing.{IsEvent}
-use Rattle.ht_program.specs.Running.{Serves, Goes, Ran, refusal_bytes}
-use Rattle.ht_program.specs.Texts.{api_status, api_text}
-use Rattle.ht_program.specs.Words.{moment_of}
+use Rattle.ht_program.specs.Running.{AreNotWhole, EndsAs, IsMoreAt, Ran, Serves, Streams, refusal_bytes, streams}
+use Rattle.ht_program.specs.Serving.{EndsFrom, Follows, FollowsAs, Goes}
+use Rattle.ht_program.proofs.Continuing.{ran}
+use Rattle.ht_program.specs.Texts.{IsSheet, answer_status, answer_text, api_status, api_text, memory_text}
 
--- what the machine decides is an outcome of the request
-decided : (t u : TablesOf) (r : Request) (m status : ℕ) (text : List ℕ) (e : Event) → IsEvent r m (Ok e) → Decided t u e status text → Answers t u r m status text
-decided t u r m status text e event d = record {
-  outcome = entered (record { event = e; reply = d.reply; after = u });
-  may = event;
-  legal = (d.left, d.replied, tt);
-  ends = refl;
-  status_is = d.status_is;
-  text_is = d.text_is;
-}
-
-withholds : (t u : TablesOf) (r : Request) (m status : ℕ) (text : List ℕ) (e : Event) → IsEvent r m (Ok e) → Withholds t u e status text → Answers t u r m status text
-withholds t u r m status text e event d = record {
-  outcome = unsaid (record { event = e; reply = d.reply; after = u });
-  may = (event, d.is_sheet);
-  legal = (d.left, d.replied, tt);
-  ends = refl;
-  status_is = d.status_is;
-  text_is = d.text_is;
-}
-
-starves : (t u : TablesOf) (r : Request) (m status : ℕ) (text : List ℕ) (e : Event) → IsEvent r m (Ok e) → Starves t u status text → Answers t u r m status text
-starves t u r m status text e event d = record {
-  outcome = starved;
-  may = (e, event);
-  legal = tt;
-  ends = sym d.same;
-  status_is = d.status_is;
-  text_is = d.text_is;
-}
-
+-- what the machine answers is an outcome of the request
 pub answers_event : (t u : TablesOf) (r : Request) (m status : ℕ) (text : List ℕ) (e : Event) → IsEvent r m (Ok e) → Decides t u e status text → Answers t u r m status text
-answers_event t u r m status text e event d =
-    ⊎_elim (decided t u r m status text e event) (λ (w : Withholds t u e status text ⊎ Starves t u status text). ⊎_elim (withholds t u r m status text e event) (starves t u r m status text e event) w) d
+answers_event t u r m status text e event d = ⊎_elim as_answered as_not_shown d.told
+  where
+    entry : Entry TablesOf Event Reply
+    entry = record { pass = 0; event = e; reply = d.reply; after = u }
+
+    as_answered : (status ≡ answer_status e d.reply.answer) × (text ≡ answer_text d.reply.answer) → Answers t u r m status text
+    as_answered told = record { outcome = answered entry; may = (event, refl); legal = (d.step, tt); ends = refl; status_is = told.0; text_is = told.1 }
+
+    as_not_shown : IsSheet d.reply.answer × (status ≡ 500) × (text ≡ memory_text) → Answers t u r m status text
+    as_not_shown told = record { outcome = not_shown entry; may = (event, refl, told.0); legal = (d.step, tt); ends = refl; status_is = told.1; text_is = told.2 }
 
 pub answers_refusal : (t : TablesOf) (r : Request) (m status : ℕ) (text : List ℕ) (why : ApiRefusal) → IsEvent r m (Err why) → status ≡ api_status why → text ≡ api_text why → Answers t t r m status text
 answers_refusal t r m status text why event status_is text_is = record {
-  outcome = unheard why;
+  outcome = refused why;
   may = event;
   legal = tt;
   ends = refl;
@@ -65,111 +49,159 @@ answers_refusal t r m status text why event status_is text_is = record {
   text_is = text_is;
 }
 
+-- where no head stands, no request does
+no_request : (r : Request) (bytes : List ℕ) → HasNoHead bytes → AreNotWhole (r ∷ []) bytes
+no_request r bytes none rest are = none are.1.head are.0 are.1.stands
+
+needed_for : (r : Request) (f g : Option Flow) (old : List ℕ) → LastReadWhere HasNoHead f g old → LastReadWhere (AreNotWhole (r ∷ [])) f g old
+needed_for r None None old needed = tt
+needed_for r None (Some g) old needed = absurd needed
+needed_for r (Some f) None old needed = absurd needed
+needed_for r (Some f) (Some g) old (inl same) = inl same
+needed_for r (Some f) (Some g) old (inr read) = inr (read.0, read.1, no_request r (old ++ read.0) read.2)
+
 -- the exchange of one request
-module _ (from step k : ℕ) (t u : TablesOf) (f g : Option Flow) (p q : List ℕ) (w v : Option (List ℕ)) (r : Request) (m status : ℕ) (text : List ℕ) (reads : Reads f g p q (next.Request r)) (at : m ≡ moment_of from step k) (answers : Answers t u r m status text) where
+module _ (moment : ℕ → ℕ) (most k : ℕ) (t u : TablesOf) (old new : Streams) (p q : List ℕ) (r : Request) (m status : ℕ) (text : List ℕ) (reads : Reads old.input.flow new.input.flow p q (next.Request r)) (at : m ≡ moment k) (answers : Answers t u r m status text) where
   abbrev made : Exchange
   made = record { request = r; moment = m; outcome = answers.outcome }
 
-  abbrev mine : List Entry
+  abbrev mine : History
   mine = entry_of answers.outcome
 
-  serves_one : Serves from step k t u f g p q (made ∷ [])
+  serves_one : Serves moment k t u (p ++ reads.taken) q (made ∷ [])
   serves_one = record {
-    taken = reads.taken;
-    takes = reads.takes;
     stand = (q, reads.finds, (λ last. refl), refl);
     numbered = (at, answers.may, tt);
-    legal = subst (λ (es : List Entry). IsLegal t es) (sym (append-nil mine)) answers.legal;
+    legal = subst (λ (es : History). IsHistory t es) (sym (append-nil mine)) answers.legal;
     ends = ap (end_of t) (append-nil mine) ∙ answers.ends;
   }
+
+  needed_one : LastReadWhere (AreNotWhole (r ∷ [])) old.input.flow new.input.flow p
+  needed_one = needed_for r old.input.flow new.input.flow p reads.needed
 
   bytes_one : reply_bytes status text r.last ≡ replies (made ∷ [])
   bytes_one = ap (λ s. reply_bytes s text r.last) answers.status_is ∙ ap (λ s. reply_bytes (status_of answers.outcome) s r.last) answers.text_is ∙ sym (append-nil (spelled made))
 
-  pub one_more : r.last ≡ false → Grows w v (reply_bytes status text r.last) → Goes from step k (k + 1) t u f g p q w v
+  pub one_more : r.last ≡ false → Grows old.output.written new.output.written (reply_bytes status text r.last) → Goes moment k (k + 1) t u old new p q
   one_more going wrote = record {
     exchanges = made ∷ [];
     counted = refl;
+    taken = reads.taken;
+    takes = reads.takes;
     serves = serves_one;
     open_still = (going, tt);
-    wrote = subst (λ (b : List ℕ). Grows w v b) bytes_one wrote;
+    wrote = subst (λ (b : List ℕ). Grows old.output.written new.output.written b) bytes_one wrote;
+    needed = needed_one;
   }
 
-  pub one_last : k < budget → r.last ≡ true → Grows w v (reply_bytes status text r.last) → Ran from step k t f g p w v ending.Done
-  one_last few last wrote = record {
+  ends_one : (e : Ending) → EndsAs most (k + 1) e old new q (made ∷ []) → EndsFrom moment most k t old new p e
+  ends_one e ends = record {
     exchanges = made ∷ [];
     after = u;
+    taken = reads.taken;
+    takes = reads.takes;
     rest = q;
     serves = serves_one;
-    ends = (inl last, omega (arith, few), subst (λ (b : List ℕ). Grows w v b) bytes_one wrote);
+    ends = ends;
+    closed = λ _. needed_one;
   }
 
-  pub one_broken : GrowsPart w v (reply_bytes status text r.last) → Ran from step k t f g p w v ending.WriteFault
-  one_broken part = record {
-    exchanges = made ∷ [];
-    after = u;
-    rest = q;
-    serves = serves_one;
-    ends = ([], inl refl, subst (λ (b : List ℕ). GrowsPart w v b) (bytes_one ∙ sym (append-nil (replies (made ∷ [])))) part);
-  }
+  pub one_last : k < most → r.last ≡ true → Grows old.output.written new.output.written (reply_bytes status text r.last) → EndsFrom moment most k t old new p ending.Done
+  one_last few last wrote = ends_one ending.Done (inl last, omega (arith, few), subst (λ (b : List ℕ). Grows old.output.written new.output.written b) bytes_one wrote)
+
+  pub one_broken : k < most → GrowsPart old.output.written new.output.written (reply_bytes status text r.last) → EndsFrom moment most k t old new p ending.WriteFault
+  one_broken few part =
+      let P : List ℕ → Type 0 = λ b. GrowsPart old.output.written new.output.written b in
+      ends_one ending.WriteFault (omega (arith, few), ([], inl refl, subst P (bytes_one ∙ sym (append-nil (replies (made ∷ [])))) part))
 
 -- no request came
-module _ (from step k : ℕ) (t : TablesOf) (f g : Option Flow) (p q : List ℕ) (w : Option (List ℕ)) where
-  serves_none : (taken : List ℕ) → Takes f g taken → q ≡ p ++ taken → Serves from step k t t f g p q []
-  serves_none taken takes is = record { taken = taken; takes = takes; stand = sym is; numbered = tt; legal = tt; ends = refl }
-
-  pub none_done : k < budget → Grows w w [] → Reads f g p q next.End → Ran from step k t f g p w w ending.Done
-  none_done few none reads = record {
+module _ (moment : ℕ → ℕ) (most k : ℕ) (t : TablesOf) (input later : SourceState) (output written : SinkState) (p q : List ℕ) where
+  ends_none : (e : Ending) (taken : List ℕ) → Takes input.flow later.flow taken → q ≡ p ++ taken → EndsAs most (k + 0) e (streams input output) (streams later written) q [] → EndsFrom moment most k t (streams input output) (streams later written) p e
+  ends_none e taken takes is ends = record {
     exchanges = [];
     after = t;
+    taken = taken;
+    takes = takes;
     rest = q;
-    serves = serves_none reads.taken reads.takes reads.finds.0;
-    ends = (inr (tt, subst (λ (b : List ℕ). EndsAt g b) (sym reads.finds.0) reads.finds.1), omega (arith, few), none);
+    serves = record { stand = sym is; numbered = tt; legal = tt; ends = refl };
+    ends = ends;
+    closed = λ close. absurd close;
   }
 
-  pub none_fault : Grows w w [] → Reads f g p q next.ReadFault → Ran from step k t f g p w w ending.ReadFault
-  none_fault none reads = record { exchanges = []; after = t; rest = q; serves = serves_none reads.taken reads.takes reads.finds; ends = none }
+  refused_here : (code : ℕ) → Reads input.flow later.flow p q (next.Refused code) → RefusedAt later.flow q code
+  refused_here code reads = subst (λ (b : List ℕ). RefusedAt later.flow b code) (sym reads.finds.0) reads.finds.1
 
-  pub none_memory : Grows w w [] → Reads f g p q next.Memory → Ran from step k t f g p w w ending.Memory
-  none_memory none reads = record { exchanges = []; after = t; rest = q; serves = serves_none reads.taken reads.takes reads.finds; ends = none }
+  pub none_refused : k < most → (code : ℕ) → Reads input.flow later.flow p q (next.Refused code) → Grows output.written written.written (refusal_bytes code) → EndsFrom moment most k t (streams input output) (streams later written) p (ending.Wire code)
+  none_refused few code reads wrote = ends_none (ending.Wire code) reads.taken reads.takes reads.finds.0 (tt, omega (arith, few), refused_here code reads, wrote)
 
-  refused_here : (code : ℕ) → Reads f g p q (next.Refused code) → RefusedAt g q code
-  refused_here code reads = subst (λ (b : List ℕ). RefusedAt g b code) (sym reads.finds.0) reads.finds.1
-
-  pub none_refused : k < budget → (v : Option (List ℕ)) (code : ℕ) → Reads f g p q (next.Refused code) → Grows w v (refusal_bytes code) → Ran from step k t f g p w v (ending.Wire code)
-  none_refused few v code reads wrote = record {
-    exchanges = [];
-    after = t;
-    rest = q;
-    serves = serves_none reads.taken reads.takes reads.finds.0;
-    ends = (tt, omega (arith, few), refused_here code reads, wrote);
-  }
-
-  pub none_broken : (v : Option (List ℕ)) (code : ℕ) → Reads f g p q (next.Refused code) → GrowsPart w v (refusal_bytes code) → Ran from step k t f g p w v ending.WriteFault
-  none_broken v code reads part = record {
-    exchanges = [];
-    after = t;
-    rest = q;
-    serves = serves_none reads.taken reads.takes reads.finds.0;
-    ends = (refusal_bytes code, inr (code, refused_here code reads, refl), part);
-  }
+  pub none_broken : k < most → (code : ℕ) → Reads input.flow later.flow p q (next.Refused code) → GrowsPart output.written written.written (refusal_bytes code) → EndsFrom moment most k t (streams input output) (streams later written) p ending.WriteFault
+  none_broken few code reads part =
+      ends_none ending.WriteFault reads.taken reads.takes reads.finds.0 (omega (arith, few), (refusal_bytes code, inr (tt, omega (arith, few), (code, refused_here code reads, refl)), part))
 
 pub Grows-none : (w : Option (List ℕ)) → Grows w w []
 Grows-none None = tt
 Grows-none (Some w) = sym (append-nil w)
 
--- nothing was read yet
-pub not_begun : (from step : ℕ) (t : TablesOf) (f : Option Flow) (w : Option (List ℕ)) → Ran from step 0 t f f [] w w ending.Memory
-not_begun from step t f w = record { exchanges = []; after = t; rest = []; serves = serves_none from step 0 t f f [] [] w [] (Takes-none f) refl; ends = Grows-none w }
+-- and nothing was written
+module _ (moment : ℕ → ℕ) (most k : ℕ) (t : TablesOf) (input later : SourceState) (output : SinkState) (p q : List ℕ) (few : k < most) where
+  pub none_done : Reads input.flow later.flow p q next.End → EndsFrom moment most k t (streams input output) (streams later output) p ending.Done
+  none_done reads =
+      ends_none moment most k t input later output output p q ending.Done reads.taken reads.takes reads.finds.0 (inr (tt, subst (λ (b : List ℕ). EndsAt later.flow b) (sym reads.finds.0) reads.finds.1), omega (arith, few), Grows-none output.written)
 
-pub begun : (from step : ℕ) (t u : TablesOf) (f : Option Flow) (p : List ℕ) (w : Option (List ℕ)) → u ≡ t → p ≡ [] → Goes from step 0 0 t u f f [] p w w
-begun from step t u f p w tables buffer = record {
+  pub none_fault : Reads input.flow later.flow p q next.ReadFault → EndsFrom moment most k t (streams input output) (streams later output) p ending.ReadFault
+  none_fault reads =
+      ends_none moment most k t input later output output p q ending.ReadFault reads.taken reads.takes reads.finds.0 (tt, omega (arith, few), subst HasNoHead (sym reads.finds.0) reads.finds.1, Grows-none output.written)
+
+  pub none_memory : Reads input.flow later.flow p q next.Memory → EndsFrom moment most k t (streams input output) (streams later output) p ending.Memory
+  none_memory reads = ends_none moment most k t input later output output p q ending.Memory reads.taken reads.takes reads.finds (tt, omega (arith, few), Grows-none output.written)
+
+-- nothing was read yet
+pub not_begun : (moment : ℕ → ℕ) (most : ℕ) (t : TablesOf) (input : SourceState) (output : SinkState) → Ran moment most t (streams input output) (streams input output) ending.Memory
+not_begun moment most t input output = ran moment most t (streams input output) (streams input output) ending.Memory
+    (ends_none moment most 0 t input input output output [] [] ending.Memory [] (Takes-none input.flow) refl (tt, omega arith, Grows-none output.written))
+
+pub begun : (moment : ℕ → ℕ) (t u : TablesOf) (input : SourceState) (output : SinkState) (p : List ℕ) → u ≡ t → p ≡ [] → Goes moment 0 0 t u (streams input output) (streams input output) [] p
+begun moment t u input output p tables buffer = record {
   exchanges = [];
   counted = refl;
-  serves = record { taken = []; takes = Takes-none f; stand = sym buffer; numbered = tt; legal = tt; ends = sym tables };
+  taken = [];
+  takes = Takes-none input.flow;
+  serves = record { stand = sym buffer; numbered = tt; legal = tt; ends = sym tables };
   open_still = tt;
-  wrote = Grows-none w;
+  wrote = Grows-none output.written;
+  needed = unread input.flow;
 }
+  where
+    unread : (f : Option Flow) → LastReadWhere (AreNotWhole []) f f []
+    unread None = tt
+    unread (Some f) = inl refl
+
+-- ---- what stands behind the last request that may be answered
+
+abbrev pub after_last : Next → Ending
+after_last (next.Request r) = ending.Budget
+after_last next.End = ending.Done
+after_last (next.Refused code) = ending.Budget
+after_last next.ReadFault = ending.ReadFault
+after_last next.Memory = ending.Memory
+
+more_request : (g : Option Flow) (bytes : List ℕ) (r : Request) (rest : List ℕ) → IsRequest bytes r rest → IsMoreAt g bytes
+more_request None bytes r rest is = tt
+more_request (Some g) bytes r rest is = λ end. request_or_end (bytes ++ g.left) r (rest ++ g.left) (request_on bytes g.left r rest is) end
+
+more_refused : (g : Option Flow) (bytes : List ℕ) (code : ℕ) → RefusedAt g bytes code → IsMoreAt g bytes
+more_refused None bytes code is = tt
+more_refused (Some g) bytes code is = is.more
+
+pub follows : (f g : Option Flow) (p q : List ℕ) (n : Next) (e : Ending) → Reads f g p q n → e ≡ after_last n → Follows f g p e
+follows f g p q n e reads is = record { taken = reads.taken; takes = reads.takes; follows = subst (λ (x : Ending). FollowsAs x g (p ++ reads.taken)) (sym is) (by_answer n reads.finds) }
+  where
+    by_answer : (n : Next) → Finds (p ++ reads.taken) g q n → FollowsAs (after_last n) g (p ++ reads.taken)
+    by_answer (next.Request r) finds = more_request g (p ++ reads.taken) r q finds
+    by_answer next.End finds = finds.1
+    by_answer (next.Refused code) finds = more_refused g (p ++ reads.taken) code finds.1
+    by_answer next.ReadFault finds = finds.1
+    by_answer next.Memory finds = tt
 
 -- every refused connection gets a status of the replies
 refusal_known : (code : ℕ) → IsRefusalCode code → IsReplyStatus code

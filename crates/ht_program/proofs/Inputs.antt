@@ -1,7 +1,7 @@
 -- An input ends in one way, and the status says in which.
 use Rattle.std.proofs.Common.{◌≡◌, ◌⊎◌, inl, inr, ℕ, ◌<◌, ◌≤◌, true, false, List, [], ◌∷◌, ◌++◌, length, refl, sym, ap, subst, ◌∙◌, arith, append-nil, Option, Some, None}
 use Rattle.std.proofs.lemmas.List.{length-map}
-use Rattle.ht_outside.specs.Tells.{Flow}
+use Rattle.ht_outside.specs.Tells.{Flow, SourceState, SinkState}
 use Rattle.ht_tree.specs.Tables.{TablesOf}
 use Rattle.ht_wire.specs.declared.request.Request.{Request}
 use Rattle.ht_wire.specs.Heads.{IsEnd}
@@ -11,8 +11,8 @@ use Rattle.ht_wire.proofs.PublicLaws.{one_request, request_or_end, request_or_re
 use Rattle.ht_program.specs.declared.ending.Ending.{Ending}
 use Rattle.ht_program.specs.declared.ending.Ending.TheVariants as ending
 use Rattle.ht_program.specs.Exchanges.{Exchange, requests}
-use Rattle.ht_program.specs.Inputs.{budget, GoOn, Close, IsWhole, IsBroken, IsTooMuch, IsStatusOf}
-use Rattle.ht_program.specs.Running.{Ran, ending_status}
+use Rattle.ht_program.specs.Inputs.{GoOn, Close, IsWhole, IsBroken, IsTooMuch, IsStatusOf}
+use Rattle.ht_program.specs.Running.{Ran, ending_status, streams}
 use Rattle.ht_program.proofs.Continuing.{still}
 
 -- ---- one input, read twice
@@ -73,31 +73,35 @@ not_broken n s a b = broken_or_much n s a.asked b.asked a.rest b.rest a.code a.s
 
 -- ---- the status of each
 
-zero : (s : List ℕ) (taken : List ℕ) (status : ℕ) → status ≡ 0 → IsWhole budget s → IsStatusOf (Some (record { left = s; taken = taken })) status
-zero s taken status is whole = (
-  ((λ _. whole), (λ _. is)),
-  ((λ one. absurd (omega (arith, is, one))), (λ broken. absurd (not_both budget s whole broken))),
-  ((λ nine. absurd (omega (arith, is, nine))), (λ much. absurd (not_whole budget s whole much))),
-)
+module _ (most : ℕ) (s taken before : List ℕ) (status : ℕ) where
+  zero : status ≡ 0 → IsWhole most s → IsStatusOf most (Some (record { left = s; taken = taken; before = before })) status
+  zero is whole = (
+    ((λ _. whole), (λ _. is)),
+    ((λ one. absurd (omega (arith, is, one))), (λ broken. absurd (not_both most s whole broken))),
+    ((λ nine. absurd (omega (arith, is, nine))), (λ much. absurd (not_whole most s whole much))),
+  )
 
-one : (s : List ℕ) (taken : List ℕ) (status : ℕ) → status ≡ 1 → IsBroken budget s → IsStatusOf (Some (record { left = s; taken = taken })) status
-one s taken status is broken = (
-  ((λ none. absurd (omega (arith, is, none))), (λ whole. absurd (not_both budget s whole broken))),
-  ((λ _. broken), (λ _. is)),
-  ((λ nine. absurd (omega (arith, is, nine))), (λ much. absurd (not_broken budget s broken much))),
-)
+  one : status ≡ 1 → IsBroken most s → IsStatusOf most (Some (record { left = s; taken = taken; before = before })) status
+  one is broken = (
+    ((λ none. absurd (omega (arith, is, none))), (λ whole. absurd (not_both most s whole broken))),
+    ((λ _. broken), (λ _. is)),
+    ((λ nine. absurd (omega (arith, is, nine))), (λ much. absurd (not_broken most s broken much))),
+  )
 
-nine : (s : List ℕ) (taken : List ℕ) (status : ℕ) → status ≡ 9 → IsTooMuch budget s → IsStatusOf (Some (record { left = s; taken = taken })) status
-nine s taken status is much = (
-  ((λ none. absurd (omega (arith, is, none))), (λ whole. absurd (not_whole budget s whole much))),
-  ((λ once. absurd (omega (arith, is, once))), (λ broken. absurd (not_broken budget s broken much))),
-  ((λ _. much), (λ _. is)),
-)
+  nine : status ≡ 9 → IsTooMuch most s → IsStatusOf most (Some (record { left = s; taken = taken; before = before })) status
+  nine is much = (
+    ((λ none. absurd (omega (arith, is, none))), (λ whole. absurd (not_whole most s whole much))),
+    ((λ once. absurd (omega (arith, is, once))), (λ broken. absurd (not_broken most s broken much))),
+    ((λ _. much), (λ _. is)),
+  )
 
-module _ (from step : ℕ) (t : TablesOf) (f g : Flow) (w v : Option (List ℕ)) where
+module _ (moment : ℕ → ℕ) (most : ℕ) (t : TablesOf) (f g : Flow) (reads later : ℕ) (output written : SinkState) where
+  abbrev Ended : Ending → Type 0
+  Ended e = Ran moment most t (streams (record { flow = Some f; faults = reads }) output) (streams (record { flow = Some g; faults = later }) written) e
+
   -- the whole input: the bytes read, and those that the source has left
-  stands : (e : Ending) (a : Ran from step 0 t (Some f) (Some g) [] w v e) → AreRequests f.left (requests a.exchanges) (a.rest ++ g.left)
-  stands e a = subst (λ (l : List ℕ). AreRequests l (requests a.exchanges) (a.rest ++ g.left)) (sym a.serves.takes.left) (still a.exchanges a.serves.taken g.left a.rest a.serves.stand)
+  stands : (e : Ending) (a : Ended e) → AreRequests f.left (requests a.exchanges) (a.rest ++ g.left)
+  stands e a = subst (λ (l : List ℕ). AreRequests l (requests a.exchanges) (a.rest ++ g.left)) (sym a.takes.left) (still (requests a.exchanges) a.taken g.left a.rest a.serves.stand)
 
   counted : (xs : List Exchange) → length (requests xs) ≡ length xs
   counted xs = length-map xs (λ (x : Exchange). x.request)
@@ -106,7 +110,7 @@ module _ (from step : ℕ) (t : TablesOf) (f g : Flow) (w v : Option (List ℕ))
   whole_end xs rest (inl close) = inl close
   whole_end xs rest (inr both) = inr (both.0, subst IsEnd (sym (append-nil rest) ∙ ap (λ l. rest ++ l) (sym both.1.0)) both.1.1)
 
-  is_whole : Ran from step 0 t (Some f) (Some g) [] w v ending.Done → IsWhole budget f.left
+  is_whole : Ended ending.Done → IsWhole most f.left
   is_whole a = record {
     asked = requests a.exchanges;
     rest = a.rest ++ g.left;
@@ -115,7 +119,7 @@ module _ (from step : ℕ) (t : TablesOf) (f g : Flow) (w v : Option (List ℕ))
     ends = whole_end a.exchanges a.rest a.ends.0;
   }
 
-  is_broken : (code : ℕ) → Ran from step 0 t (Some f) (Some g) [] w v (ending.Wire code) → IsBroken budget f.left
+  is_broken : (code : ℕ) → Ended (ending.Wire code) → IsBroken most f.left
   is_broken code a = record {
     asked = requests a.exchanges;
     rest = a.rest ++ g.left;
@@ -126,7 +130,7 @@ module _ (from step : ℕ) (t : TablesOf) (f g : Flow) (w v : Option (List ℕ))
     refused = a.ends.2;
   }
 
-  is_much : Ran from step 0 t (Some f) (Some g) [] w v ending.Budget → IsTooMuch budget f.left
+  is_much : Ended ending.Budget → IsTooMuch most f.left
   is_much a = record {
     asked = requests a.exchanges;
     rest = a.rest ++ g.left;
@@ -136,15 +140,19 @@ module _ (from step : ℕ) (t : TablesOf) (f g : Flow) (w v : Option (List ℕ))
     more = a.ends.2;
   }
 
-  told : (e : Ending) (status : ℕ) → Ran from step 0 t (Some f) (Some g) [] w v e → status ≡ ending_status e → (status ≡ 7 → ⊥) → (status ≡ 8 → ⊥) → IsStatusOf (Some f) status
-  told ending.Done status a is no_fault enough = zero f.left f.taken status is (is_whole a)
-  told (ending.Wire code) status a is no_fault enough = one f.left f.taken status is (is_broken code a)
-  told ending.Budget status a is no_fault enough = nine f.left f.taken status is (is_much a)
+  told : (e : Ending) (status : ℕ) → Ended e → status ≡ ending_status e → (status ≡ 7 → ⊥) → (status ≡ 8 → ⊥) → IsStatusOf most (Some f) status
+  told ending.Done status a is no_fault enough = zero most f.left f.taken f.before status is (is_whole a)
+  told (ending.Wire code) status a is no_fault enough = one most f.left f.taken f.before status is (is_broken code a)
+  told ending.Budget status a is no_fault enough = nine most f.left f.taken f.before status is (is_much a)
   told ending.ReadFault status a is no_fault enough = absurd (no_fault is)
   told ending.WriteFault status a is no_fault enough = absurd (no_fault is)
   told ending.Memory status a is no_fault enough = absurd (enough is)
 
-pub status_of_input : (from step : ℕ) (t : TablesOf) (f g : Option Flow) (w v : Option (List ℕ)) (e : Ending) (status : ℕ) → Ran from step 0 t f g [] w v e → status ≡ ending_status e → (status ≡ 7 → ⊥) → (status ≡ 8 → ⊥) → IsStatusOf f status
-status_of_input from step t None g w v e status a is no_fault enough = tt
-status_of_input from step t (Some f) None w v e status a is no_fault enough = absurd a.serves.takes
-status_of_input from step t (Some f) (Some g) w v e status a is no_fault enough = told from step t f g w v e status a is no_fault enough
+module _ (moment : ℕ → ℕ) (most : ℕ) (t : TablesOf) (reads later : ℕ) (output written : SinkState) (e : Ending) (status : ℕ) where
+  by_flow : (f g : Option Flow) → Ran moment most t (streams (record { flow = f; faults = reads }) output) (streams (record { flow = g; faults = later }) written) e → status ≡ ending_status e → (status ≡ 7 → ⊥) → (status ≡ 8 → ⊥) → IsStatusOf most f status
+  by_flow None g a is no_fault enough = tt
+  by_flow (Some f) None a is no_fault enough = absurd a.takes
+  by_flow (Some f) (Some g) a is no_fault enough = told moment most t f g reads later output written e status a is no_fault enough
+
+pub status_of_input : (moment : ℕ → ℕ) (most : ℕ) (t : TablesOf) (input later : SourceState) (output written : SinkState) (e : Ending) (status : ℕ) → Ran moment most t (streams input output) (streams later written) e → status ≡ ending_status e → (status ≡ 7 → ⊥) → (status ≡ 8 → ⊥) → IsStatusOf most input.flow status
+status_of_input moment most t input later output written e status a = by_flow moment most t input.faults later.faults output written e status input.flow later.flow a

@@ -1,29 +1,149 @@
--- What two texts that were read give.
-use Rattle.std.proofs.Common.{ℕ, List, Option, Some, None, Result, Ok, Err, IfSome, subst}
+-- What two texts that were read give, and which texts were asked for.
+use Rattle.std.proofs.Common.{◌≡◌, ◌∙◌, inl, inr, ℕ, suc, ◌<◌, ◌≤◌, List, [], ◌∷◌, ◌++◌, length, arith, refl, sym, ap, subst, append_assoc, append-nil, Option, Some, None, Result, Ok, Err, IfSome}
 use Rattle.ht_base.specs.Bytes.{BytesOf}
+use Rattle.ht_outside.specs.Texts.{ReadsWhole, TextsState}
+use Rattle.ht_outside.specs.declared.asked.Asked.{Asked}
+use Rattle.ht_outside.specs.declared.text_fault.TextFault.TheVariants as read
 use Rattle.ht_tree.specs.Tables.{RoomyTables}
 use Rattle.ht_program.specs.declared.opening.TextsFault.{TextsFault}
 use Rattle.ht_program.specs.declared.opening.TextsFault.TheVariants.{Unread, TooLong, Models, People, Memory}
+use Rattle.ht_program.specs.declared.opening.Which.{Which}
 use Rattle.ht_program.specs.declared.opening.Which.TheVariants as which
-use Rattle.ht_program.specs.Opening.{Gives, Judges, Opens, OpensText, OpensUntold, AreShort}
+use Rattle.std.specs.Prelude.{OnOk}
+use Rattle.ht_program.specs.Opening.{Asks, HasTextsCause, IsAsked, IsTextOf, Judges, LastFailed, Opens, ReadsText, name_in, text_limit}
 
-untold : (m p : List ℕ) (result : Result RoomyTables TextsFault) → Judges m p result → OpensUntold result
-untold m p (Ok t) j = (j.0, j.1, j.4)
-untold m p (Err why) j = tt
+-- ---- one text
 
-judged : (m p : List ℕ) (result : Result RoomyTables TextsFault) → AreShort m p → Judges m p result → OpensText m p result
-judged m p (Ok t) short j = (short, j)
-judged m p (Err (Unread which.Models)) short j = absurd j
-judged m p (Err (Unread which.People)) short j = absurd j
-judged m p (Err (TooLong which.Models)) short j = absurd j
-judged m p (Err (TooLong which.People)) short j = absurd j
-judged m p (Err (Models why)) short j = (short, j)
-judged m p (Err (People why)) short j = (short, j)
-judged m p (Err Memory) short j = tt
+some_text : (told : Option (List ℕ → List ℕ)) (name : List ℕ) → (text : List ℕ) × IsTextOf told name text
+some_text None name = ([], tt)
+some_text (Some told) name = (told name, refl)
 
-pub opened : (told : Option (List ℕ → List ℕ)) (names : List ℕ × List ℕ) (m p : BytesOf) (result : Result RoomyTables TextsFault) → IfSome told (λ text. Gives which.Models (text names.0) (Ok m)) → IfSome told (λ text. Gives which.People (text names.1) (Ok p)) → Judges m.items p.items result → Opens told (Some names) result
-opened None names m p result a b j = untold m.items p.items result j
-opened (Some text) names m p result a b j =
-    let P : List ℕ → Type 0 = λ l. Judges l (text names.1) result in
-    let Q : List ℕ → Type 0 = λ l. Judges m.items l result in
-    judged (text names.0) (text names.1) result (a.1, b.1) (subst P a.0 (subst Q b.0 j))
+long_text : (n : ℕ) → (text : List ℕ) × (n < length text)
+long_text Prim.Native.Nat.zero = (0 ∷ [], omega arith)
+long_text (suc n) = let shorter = long_text n in (0 ∷ shorter.0, (let longer = shorter.1 in omega arith))
+
+module _ (w : Which) (told : Option (List ℕ → List ℕ)) (name : List ℕ) where
+  pub read_failed : ReadsText w told name (Err (Unread w))
+  read_failed = let text = some_text told name in (text.0, text.1, refl)
+
+  pub no_memory : ReadsText w told name (Err Memory)
+  no_memory = let text = some_text told name in (text.0, text.1, tt)
+
+pub read_long : (w : Which) (told : Option (List ℕ → List ℕ)) (name : List ℕ) → IfSome told (λ text. ReadsWhole text_limit (text name) (Err read.TooLong)) → ReadsText w told name (Err (TooLong w))
+read_long w None name reads = let text = long_text text_limit in (text.0, tt, (refl, text.1))
+read_long w (Some told) name reads = (told name, refl, (refl, reads))
+
+-- ---- what both texts give
+
+module _ (told : Option (List ℕ → List ℕ)) (names : List ℕ × List ℕ) where
+  pub first_failed : (why : TextsFault) → ReadsText which.Models told names.0 (Err why) → Opens (Some names) told (Err why)
+  first_failed why a = let p = some_text told names.1 in (a.0, p.0, a.1, p.1, inl a.2)
+
+  pub second_failed : (models : BytesOf) (why : TextsFault) → ReadsText which.Models told names.0 (Ok models) → ReadsText which.People told names.1 (Err why) → Opens (Some names) told (Err why)
+  second_failed models why a b = (a.0, b.0, a.1, b.1, inr (a.2.1, inl b.2))
+
+  pub opened : (models people : BytesOf) (result : Result RoomyTables TextsFault) → ReadsText which.Models told names.0 (Ok models) → ReadsText which.People told names.1 (Ok people) → Judges models.items people.items result → Opens (Some names) told result
+  opened models people result a b j =
+      let P : List ℕ → Type 0 = λ l. Judges l b.0 result in
+      let Q : List ℕ → Type 0 = λ l. Judges models.items l result in
+      (a.0, b.0, a.1, b.1, inr (a.2.1, inr (b.2.1, subst P a.2.0 (subst Q b.2.0 j))))
+
+-- ---- which texts were asked for
+
+abbrev noted : List ℕ → TextsState → Asked
+noted name state = record { name = name; before = state.faults }
+
+fault_is : {T : Type 0} → (why other : TextsFault) → ◌≡◌ {A = Result T TextsFault} (Err why) (Err other) → why ≡ other
+fault_is why other e = cc
+
+no_fault : {T : Type 0} → (x : T) (why : TextsFault) → ◌≡◌ {A = Result T TextsFault} (Ok x) (Err why) → ⊥
+no_fault x why e = cc
+
+-- a read that gave a text was noted
+was_noted : (bytes : BytesOf) (name : List ℕ) (old new : TextsState) → IsAsked {T = BytesOf} name old new (Ok bytes) → new.asked ≡ old.asked ++ noted name old ∷ []
+was_noted bytes name old new (inl first) = first
+was_noted bytes name old new (inr none) = absurd (no_fault bytes Memory none.0)
+
+-- want of memory is no unread text
+not_unread : (why : TextsFault) (w : Which) → ◌≡◌ {A = Result BytesOf TextsFault} (Err why) (Err Memory) → ◌≡◌ {A = Result RoomyTables TextsFault} (Err why) (Err (Unread w)) → ⊥
+not_unread why w e f = two why w (fault_is why Memory e) (fault_is why (Unread w) f)
+  where
+    two : (why : TextsFault) (w : Which) → why ≡ Memory → why ≡ Unread w → ⊥
+    two why w e f = cc
+
+-- the fault of a read is of the text that was asked for
+which_is : (told : Option (List ℕ → List ℕ)) (name : List ℕ) (v w : Which) (why : TextsFault) → ReadsText v told name (Err why) → why ≡ Unread w → v ≡ w
+which_is told name v w (Unread x) a is = let same : x ≡ w = cc in sym a.2 ∙ same
+which_is told name v w (TooLong x) a is = absurd (cc)
+which_is told name v w (Models x) a is = absurd (cc)
+which_is told name v w (People x) a is = absurd (cc)
+which_is told name v w Memory a is = absurd (cc)
+
+module _ (names : List ℕ × List ℕ) (old mid new : TextsState) (told : Option (List ℕ → List ℕ)) where
+  -- the last read is of this text
+  last_failed : (v w : Which) (earlier : List Asked) (state : TextsState) (why : TextsFault) → ReadsText v told (name_in v names) (Err why) → HasTextsCause {T = BytesOf} state.faults new.faults (Err why) → old.faults ≤ state.faults
+      → ◌≡◌ {A = Result RoomyTables TextsFault} (Err why) (Err (Unread w)) → LastFailed (earlier ++ noted (name_in v names) state ∷ []) (name_in w names) old.faults new.faults
+  last_failed v w earlier state why reads cause later is =
+      let e : why ≡ Unread w = fault_is why (Unread w) is in
+      record {
+        earlier = earlier;
+        last = noted (name_in v names) state;
+        reads_are = refl;
+        named = ap (λ (x : Which). name_in x names) (which_is told (name_in v names) v w why reads e);
+        later = later;
+        failed = cause.unread w (ap Err e);
+      }
+
+  pub asks_first : (why : TextsFault) → IsAsked {T = BytesOf} names.0 old new (Err why) → ReadsText which.Models told names.0 (Err why) → HasTextsCause {T = BytesOf} old.faults new.faults (Err why) → Asks names old new (Err why)
+  asks_first why (inl first) reads cause = record {
+    reads = noted names.0 old ∷ [];
+    grown = first;
+    unasked = names.1 ∷ [];
+    begins = refl;
+    both = tt;
+    unread = λ w is. last_failed which.Models w [] old why reads cause (omega arith) is;
+  }
+  asks_first why (inr none) reads cause = record {
+    reads = [];
+    grown = none.1 ∙ sym (append-nil old.asked);
+    unasked = names.0 ∷ names.1 ∷ [];
+    begins = refl;
+    both = tt;
+    unread = λ w is. absurd (not_unread why w none.0 is);
+  }
+
+  both_noted : mid.asked ≡ old.asked ++ noted names.0 old ∷ [] → new.asked ≡ mid.asked ++ noted names.1 mid ∷ [] → new.asked ≡ old.asked ++ (noted names.0 old ∷ noted names.1 mid ∷ [])
+  both_noted first second = second ∙ ap (λ (l : List Asked). l ++ noted names.1 mid ∷ []) first ∙ append_assoc old.asked (noted names.0 old ∷ []) (noted names.1 mid ∷ [])
+
+  pub asks_second : (models : BytesOf) (why : TextsFault) → IsAsked {T = BytesOf} names.0 old mid (Ok models) → old.faults ≤ mid.faults → IsAsked {T = BytesOf} names.1 mid new (Err why)
+      → ReadsText which.People told names.1 (Err why) → HasTextsCause {T = BytesOf} mid.faults new.faults (Err why) → Asks names old new (Err why)
+  asks_second models why first later (inl second) reads cause = record {
+    reads = noted names.0 old ∷ noted names.1 mid ∷ [];
+    grown = both_noted (was_noted models names.0 old mid first) second;
+    unasked = [];
+    begins = refl;
+    both = tt;
+    unread = λ w is. last_failed which.People w (noted names.0 old ∷ []) mid why reads cause later is;
+  }
+  asks_second models why first later (inr none) reads cause = record {
+    reads = noted names.0 old ∷ [];
+    grown = none.1 ∙ was_noted models names.0 old mid first;
+    unasked = names.1 ∷ [];
+    begins = refl;
+    both = tt;
+    unread = λ w is. absurd (not_unread why w none.0 is);
+  }
+
+  pub asks_both : (models people : BytesOf) (result : Result RoomyTables TextsFault) → IsAsked {T = BytesOf} names.0 old mid (Ok models) → IsAsked {T = BytesOf} names.1 mid new (Ok people) → Judges models.items people.items result → Asks names old new result
+  asks_both models people result first second j = record {
+    reads = noted names.0 old ∷ noted names.1 mid ∷ [];
+    grown = both_noted (was_noted models names.0 old mid first) (was_noted people names.1 mid new second);
+    unasked = [];
+    begins = refl;
+    both = asked_both result;
+    unread = λ w is. absurd (subst (λ (r : Result RoomyTables TextsFault). Judges models.items people.items r) is j);
+  }
+    where
+      asked_both : (result : Result RoomyTables TextsFault) → OnOk result (◌≡◌ {A = List (List ℕ)} [] [])
+      asked_both (Ok t) = refl
+      asked_both (Err why) = tt

@@ -1,5 +1,5 @@
 -- Which status comes of which end.
-use Rattle.std.proofs.Common.{◌≡◌, ◌≢◌, ◌⊎◌, ◌↔◌, ◌∙◌, inl, inr, ℕ, List, ◌∷◌, codes, Option, Some, None, Ok, Err, IfSome, refl, sym, ap, subst, arith}
+use Rattle.std.proofs.Common.{◌≡◌, ◌≢◌, ◌⊎◌, ◌↔◌, ◌∙◌, inl, inr, ℕ, ◌≤◌, List, ◌∷◌, length, codes, Option, Some, None, Result, Ok, Err, IfNone, IfSome, option_map, map, String, Global, refl, sym, ap, subst, arith}
 use Rattle.ht_outside.specs.Causes.{Rose}
 use Rattle.ht_tree.specs.Tables.{RoomyTables}
 use Rattle.ht_program.specs.declared.ending.Ending.{Ending}
@@ -7,10 +7,14 @@ use Rattle.ht_program.specs.declared.ending.Ending.TheVariants as ending
 use Rattle.ht_program.specs.declared.opening.TextsFault.{TextsFault}
 use Rattle.ht_program.specs.declared.opening.TextsFault.TheVariants.{Unread, TooLong, Models, People, Memory}
 use Rattle.ht_program.specs.declared.opening.Which.{Which}
-use Rattle.ht_program.specs.declared.opening.Which.TheVariants as which
+use Rattle.ht_program.specs.declared.words.Named.{Named}
+use Rattle.ht_program.specs.declared.words.Words.{Words}
+use Rattle.ht_program.proofs.Options.{bytes_of}
 use Rattle.ht_program.specs.Inputs.{IsAnswered}
-use Rattle.ht_program.specs.Opening.{AreWrong, Opens, OpensText, fault_status}
-use Rattle.ht_program.specs.Running.{HasCauses, ending_status}
+use Rattle.ht_program.specs.Named.{pair_of}
+use Rattle.ht_program.specs.Opening.{AreWrong, Judges, Opens, OpensText, fault_status, text_limit}
+use Rattle.ht_program.specs.Running.{Streams, ending_status}
+use Rattle.ht_program.specs.Serving.{HasCauses}
 use Rattle.ht_program.specs.Words.{AreTexts, IsRun, value_of}
 
 -- ---- what the words say is one
@@ -29,40 +33,27 @@ same_texts (Some a) (Some b) (Some x) (Some y) p q =
 same_rest : (words a b : List (List ℕ)) (command : List ℕ) → words ≡ command ∷ a → words ≡ command ∷ b → a ≡ b
 same_rest words a b command e f = cc
 
-pub one_reading : (words : List (List ℕ)) (from step start pace : ℕ) (x y : Option (List ℕ × List ℕ)) → IsRun words from step x → IsRun words start pace y → x ≡ y
+one_reading : (words : List (List ℕ)) (from step start pace : ℕ) (x y : Option (List ℕ × List ℕ)) → IsRun words from step x → IsRun words start pace y → x ≡ y
 one_reading words from step start pace x y p q =
     let same : q.options ≡ p.options = same_rest words q.options p.options _ q.words_are p.words_are in
     let P : List (List ℕ) → Type 0 = λ os. AreTexts (value_of (codes "--models") os) (value_of (codes "--people") os) y in
     same_texts _ _ x y p.texts_are (subst P same q.texts_are)
 
+-- the words that were read have these names
+pub same_names : (words read : List (String Global)) (said : Words) (from step : ℕ) (names : Option (List ℕ × List ℕ)) → words ≡ read → IsRun (map bytes_of words) said.run.from said.run.step (option_map pair_of said.texts) → IsRun (map bytes_of read) from step names → option_map pair_of said.texts ≡ names
+same_names words read said from step names same own is =
+    let P : List (String Global) → Type 0 = λ ws. IsRun (map bytes_of ws) said.run.from said.run.step (option_map pair_of said.texts) in
+    one_reading (map bytes_of read) _ _ _ _ (option_map pair_of said.texts) names (subst P same own) is
+
+-- without names nothing is asked of the texts
+pub no_names : (names : Option Named) (P : Type 0) → option_map pair_of names ≡ None → IfNone names P → P
+no_names None P none kept = kept
+no_names (Some names) P none kept = absurd (cc)
+
 -- ---- a connection that was served
 
-pub not_wrong_words : (e : Ending) (status : ℕ) → status ≡ ending_status e → status ≡ 2 → ⊥
-not_wrong_words ending.Done status is two = omega arith
-not_wrong_words (ending.Wire code) status is two = omega arith
-not_wrong_words ending.Budget status is two = omega arith
-not_wrong_words ending.ReadFault status is two = omega arith
-not_wrong_words ending.WriteFault status is two = omega arith
-not_wrong_words ending.Memory status is two = omega arith
-
-pub not_unread : (e : Ending) (status : ℕ) → status ≡ ending_status e → status ≡ 3 → ⊥
-not_unread ending.Done status is three = omega arith
-not_unread (ending.Wire code) status is three = omega arith
-not_unread ending.Budget status is three = omega arith
-not_unread ending.ReadFault status is three = omega arith
-not_unread ending.WriteFault status is three = omega arith
-not_unread ending.Memory status is three = omega arith
-
-pub not_refused : (e : Ending) (status : ℕ) → status ≡ ending_status e → status ≡ 4 → ⊥
-not_refused ending.Done status is four = omega arith
-not_refused (ending.Wire code) status is four = omega arith
-not_refused ending.Budget status is four = omega arith
-not_refused ending.ReadFault status is four = omega arith
-not_refused ending.WriteFault status is four = omega arith
-not_refused ending.Memory status is four = omega arith
-
-module _ (reads reads_now writes writes_now : ℕ) where
-  pub answered : (e : Ending) (status : ℕ) → status ≡ ending_status e → HasCauses reads reads_now writes writes_now (Some e) → (Rose reads reads_now → ⊥) → (Rose writes writes_now → ⊥) → IsAnswered status
+module _ (old new : Streams) where
+  pub answered : (e : Ending) (status : ℕ) → status ≡ ending_status e → HasCauses old new (Some e) → (Rose old.input.faults new.input.faults → ⊥) → (Rose old.output.faults new.output.faults → ⊥) → IsAnswered status
   answered ending.Done status is causes read write = inl is
   answered (ending.Wire code) status is causes read write = inr (inl is)
   answered ending.Budget status is causes read write = inr (inr (inr (inr is)))
@@ -70,7 +61,7 @@ module _ (reads reads_now writes writes_now : ℕ) where
   answered ending.WriteFault status is causes read write = absurd (write (causes.write refl))
   answered ending.Memory status is causes read write = inr (inr (inr (inl is)))
 
-  pub broke : (e : Ending) (status : ℕ) → status ≡ ending_status e → HasCauses reads reads_now writes writes_now (Some e) → status ≡ 7 → Rose reads reads_now ⊎ Rose writes writes_now
+  pub broke : (e : Ending) (status : ℕ) → status ≡ ending_status e → HasCauses old new (Some e) → status ≡ 7 → Rose old.input.faults new.input.faults ⊎ Rose old.output.faults new.output.faults
   broke ending.Done status is causes seven = absurd (omega arith)
   broke (ending.Wire code) status is causes seven = absurd (omega arith)
   broke ending.Budget status is causes seven = absurd (omega arith)
@@ -80,13 +71,6 @@ module _ (reads reads_now writes writes_now : ℕ) where
 
 -- ---- an office that was not opened
 
-pub fault_words : (why : TextsFault) (status : ℕ) → status ≡ fault_status why → status ≡ 2 → ⊥
-fault_words (Unread w) status is two = omega arith
-fault_words (TooLong w) status is two = omega arith
-fault_words (Models why) status is two = omega arith
-fault_words (People why) status is two = omega arith
-fault_words Memory status is two = omega arith
-
 pub fault_answered : (before now : ℕ) (why : TextsFault) (status : ℕ) → status ≡ fault_status why → ((w : Which) → why ≡ Unread w → Rose before now) → (Rose before now → ⊥) → IsAnswered status
 fault_answered before now (Unread w) status is cause none = absurd (none (cause w refl))
 fault_answered before now (TooLong w) status is cause none = inr (inr (inl is))
@@ -94,7 +78,7 @@ fault_answered before now (Models why) status is cause none = inr (inr (inl is))
 fault_answered before now (People why) status is cause none = inr (inr (inl is))
 fault_answered before now Memory status is cause none = inr (inr (inr (inl is)))
 
-pub built_in_fault : (told : Option (List ℕ → List ℕ)) (why : TextsFault) (status : ℕ) → Opens told None (Err why) → status ≡ fault_status why → (status ≢ 3) × (status ≢ 4)
+pub built_in_fault : (told : Option (List ℕ → List ℕ)) (why : TextsFault) (status : ℕ) → Opens None told (Err why) → status ≡ fault_status why → (status ≢ 3) × (status ≢ 4)
 built_in_fault told (Unread w) status opens is = absurd opens
 built_in_fault told (TooLong w) status opens is = absurd opens
 built_in_fault told (Models why) status opens is = absurd opens
@@ -106,25 +90,53 @@ built_in_fault told Memory status opens is = ((λ e. omega arith), (λ e. omega 
 abbrev pub RefusedRight : Option (List ℕ → List ℕ) → List ℕ × List ℕ → ℕ → Type 0
 RefusedRight told names status = IfSome told (λ text. status ≢ 3 → status ≢ 8 → (status ≡ 4) ↔ AreWrong (text names.0) (text names.1))
 
-right : (m p : List ℕ) (t : RoomyTables) → OpensText m p (Ok t) → AreWrong m p → ⊥
-right m p t opens (inl (inl long)) = let short = opens.0.0 in omega arith
-right m p t opens (inl (inr long)) = let short = opens.0.1 in omega arith
-right m p t opens (inr (inl holds)) = opens.1.2.right holds.0 holds.1
-right m p t opens (inr (inr holds)) = opens.1.3.right holds.0 holds.1
+both_read : (m p : List ℕ) (t : RoomyTables) → OpensText m p (Ok t) → (length m ≤ text_limit) × (length p ≤ text_limit) × Judges m p (Ok t)
+both_read m p t (inl missing) = absurd missing
+both_read m p t (inr (short, inl missing)) = absurd missing
+both_read m p t (inr (short, inr judged)) = (short, judged.0, judged.1)
 
-pub served_right : (told : Option (List ℕ → List ℕ)) (names : List ℕ × List ℕ) (t : RoomyTables) (e : Ending) (status : ℕ) → Opens told (Some names) (Ok t) → status ≡ ending_status e → RefusedRight told names status
-served_right None names t e status opens is = tt
-served_right (Some text) names t e status opens is = λ three eight.
-    ((λ four. absurd (not_refused e status is four)), (λ wrong. absurd (right (text names.0) (text names.1) t opens wrong)))
+right : (m p : List ℕ) (t : RoomyTables) → OpensText m p (Ok t) → AreWrong m p → ⊥
+right m p t opens (inl (inl long)) = let short = (both_read m p t opens).0 in omega arith
+right m p t opens (inl (inr long)) = let short = (both_read m p t opens).1 in omega arith
+right m p t opens (inr (inl holds)) = (both_read m p t opens).2.2.right holds.0 holds.1
+right m p t opens (inr (inr holds)) = (both_read m p t opens).2.3.right holds.0 holds.1
+
+-- the two texts are those that are told
+these_texts : (text : List ℕ → List ℕ) (names : List ℕ × List ℕ) (result : Result RoomyTables TextsFault) → Opens (Some names) (Some text) result → OpensText (text names.0) (text names.1) result
+these_texts text names result opens =
+    let P : List ℕ → Type 0 = λ m. OpensText m (text names.1) result in
+    let Q : List ℕ → Type 0 = λ p. OpensText opens.0 p result in
+    subst P opens.2 (subst Q opens.3 opens.4)
+
+pub served_right : (told : Option (List ℕ → List ℕ)) (names : List ℕ × List ℕ) (t : RoomyTables) (status : ℕ) → Opens (Some names) told (Ok t) → status ≢ 4 → RefusedRight told names status
+served_right None names t status opens not_four = tt
+served_right (Some text) names t status opens not_four = λ three eight.
+    ((λ four. absurd (not_four four)), (λ wrong. absurd (right (text names.0) (text names.1) t (these_texts text names (Ok t) opens) wrong)))
+
+-- which fault of two texts is told
+is_wrong : (m p : List ℕ) (why : TextsFault) → OpensText m p (Err why) → fault_status why ≡ 4 → AreWrong m p
+is_wrong m p (Unread w) opens four = absurd (omega arith)
+is_wrong m p (TooLong w) (inl missing) four = inl (inl missing.1)
+is_wrong m p (TooLong w) (inr (short, inl missing)) four = inl (inr missing.1)
+is_wrong m p (TooLong w) (inr (short, inr judged)) four = absurd judged.1
+is_wrong m p (Models why) (inl missing) four = absurd missing
+is_wrong m p (Models why) (inr (short, inl missing)) four = absurd missing
+is_wrong m p (Models why) (inr (short, inr judged)) four = inr (inl (why, judged.1.holds))
+is_wrong m p (People why) (inl missing) four = absurd missing
+is_wrong m p (People why) (inr (short, inl missing)) four = absurd missing
+is_wrong m p (People why) (inr (short, inr judged)) four = inr (inr (why, judged.1.2.holds))
+is_wrong m p Memory opens four = absurd (omega arith)
+
+is_four : (why : TextsFault) → fault_status why ≢ 3 → fault_status why ≢ 8 → fault_status why ≡ 4
+is_four (Unread w) three eight = absurd (three refl)
+is_four (TooLong w) three eight = refl
+is_four (Models why) three eight = refl
+is_four (People why) three eight = refl
+is_four Memory three eight = absurd (eight refl)
 
 wrong_of : (m p : List ℕ) (why : TextsFault) (status : ℕ) → OpensText m p (Err why) → status ≡ fault_status why → status ≢ 3 → status ≢ 8 → (status ≡ 4) ↔ AreWrong m p
-wrong_of m p (Unread w) status opens is three eight = absurd (three is)
-wrong_of m p (TooLong which.Models) status opens is three eight = ((λ four. inl (inl opens)), (λ wrong. is))
-wrong_of m p (TooLong which.People) status opens is three eight = ((λ four. inl (inr opens.1)), (λ wrong. is))
-wrong_of m p (Models why) status opens is three eight = ((λ four. inr (inl (why, opens.1.holds))), (λ wrong. is))
-wrong_of m p (People why) status opens is three eight = ((λ four. inr (inr (why, opens.1.2.holds))), (λ wrong. is))
-wrong_of m p Memory status opens is three eight = absurd (eight is)
+wrong_of m p why status opens is three eight = ((λ four. is_wrong m p why opens (sym is ∙ four)), (λ wrong. is ∙ is_four why (λ e. three (is ∙ e)) (λ e. eight (is ∙ e))))
 
-pub failed_right : (told : Option (List ℕ → List ℕ)) (names : List ℕ × List ℕ) (why : TextsFault) (status : ℕ) → Opens told (Some names) (Err why) → status ≡ fault_status why → RefusedRight told names status
+pub failed_right : (told : Option (List ℕ → List ℕ)) (names : List ℕ × List ℕ) (why : TextsFault) (status : ℕ) → Opens (Some names) told (Err why) → status ≡ fault_status why → RefusedRight told names status
 failed_right None names why status opens is = tt
-failed_right (Some text) names why status opens is = λ three eight. wrong_of (text names.0) (text names.1) why status opens is three eight
+failed_right (Some text) names why status opens is = λ three eight. wrong_of (text names.0) (text names.1) why status (these_texts text names (Err why) opens) is three eight

@@ -47,13 +47,14 @@ pub record IsTooMuch (most : ℕ) (input : List ℕ) : Type 0 where
   pub open_still : GoOn asked
   pub more : IsEnd rest → ⊥
 
--- the status of a run that had no fault and memory enough, over an input that tells its bytes
-abbrev pub IsStatusOf : Option Flow → ℕ → Type 0
-IsStatusOf None status = ⊤
-IsStatusOf (Some flow) status =
-    ((status ≡ 0) ↔ IsWhole budget flow.left)
-    × ((status ≡ 1) ↔ IsBroken budget flow.left)
-    × ((status ≡ 9) ↔ IsTooMuch budget flow.left)
+-- the status of a run of at most so many requests that had no fault and memory enough, over an input
+-- that tells its bytes
+abbrev pub IsStatusOf : ℕ → Option Flow → ℕ → Type 0
+IsStatusOf most None status = ⊤
+IsStatusOf most (Some flow) status =
+    ((status ≡ 0) ↔ IsWhole most flow.left)
+    × ((status ≡ 1) ↔ IsBroken most flow.left)
+    × ((status ≡ 9) ↔ IsTooMuch most flow.left)
 
 -- the statuses of a run without a fault
 abbrev pub IsAnswered : ℕ → Type 0

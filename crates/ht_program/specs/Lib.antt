@@ -2,11 +2,14 @@ pub mod Adding
 pub mod Answering
 pub mod BuiltIn
 pub mod Examples
+pub mod ExampleRun
 pub mod Exchanges
 pub mod Inputs
 pub mod Named
+pub mod Office
 pub mod Opening
 pub mod Routing
 pub mod Running
+pub mod Serving
 pub mod Texts
 pub mod Words

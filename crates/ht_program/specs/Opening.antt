@@ -1,7 +1,9 @@
--- What the two texts of an office give: tables without tasks, or why there are none.
-use Rattle.std.specs.Prelude.{◌≡◌, ◌⊎◌, ℕ, ◌<◌, ◌≤◌, List, [], ◌++◌, length, Option, Some, None, Result, Ok, Err, ⊤, codes, decimal, unwrap_or}
+-- What the two texts of an office give: tables without tasks, or why there are none; and which texts
+-- are asked for.
+use Rattle.std.specs.Prelude.{◌≡◌, ◌⊎◌, ℕ, ◌<◌, ◌≤◌, List, [], ◌∷◌, ◌++◌, length, map, Option, Some, None, Result, Ok, Err, IsErrAnd, MatchResult, OnOk, ⊤, codes, decimal}
 use Rattle.ht_outside.specs.Causes.{Rose}
-use Rattle.ht_outside.specs.Tells.{Flow}
+use Rattle.ht_outside.specs.Texts.{TextsState}
+use Rattle.ht_outside.specs.declared.asked.Asked.{Asked}
 use Rattle.ht_base.specs.Bytes.{BytesOf}
 use Rattle.ht_models.specs.declared.refusal.ModelsRefusal.{ModelsRefusal}
 use Rattle.ht_models.specs.declared.refusal.ModelsRefusal.TheVariants as models
@@ -19,7 +21,6 @@ use Rattle.ht_program.specs.declared.opening.TextsFault.TheVariants.{Unread, Too
 use Rattle.ht_program.specs.declared.opening.Which.{Which}
 use Rattle.ht_program.specs.declared.opening.Which.TheVariants as which
 use Rattle.ht_program.specs.BuiltIn.{built_in_tables}
-use Rattle.ht_program.specs.Running.{Complains, Runs}
 
 -- the most bytes of a text
 abbrev pub text_limit : ℕ
@@ -27,14 +28,17 @@ text_limit = 262144
 
 -- ---- one text
 
--- a text was read whole, or it wasn't
+-- a text can't be read, is too long, or there is no memory for it
+abbrev pub IsMissing : Which → List ℕ → TextsFault → Type 0
+IsMissing w text (Unread v) = v ≡ w
+IsMissing w text (TooLong v) = (v ≡ w) × (text_limit < length text)
+IsMissing w text (Models why) = ⊥
+IsMissing w text (People why) = ⊥
+IsMissing w text Memory = ⊤
+
+-- a text was read whole, or it is missing
 abbrev pub Gives : Which → List ℕ → Result BytesOf TextsFault → Type 0
-Gives w text (Ok bytes) = (bytes.items ≡ text) × (length text ≤ text_limit)
-Gives w text (Err (Unread v)) = v ≡ w
-Gives w text (Err (TooLong v)) = (v ≡ w) × (text_limit < length text)
-Gives w text (Err (Models why)) = ⊥
-Gives w text (Err (People why)) = ⊥
-Gives w text (Err Memory) = ⊤
+Gives w text result = MatchResult result (λ bytes. (bytes.items ≡ text) × (length text ≤ text_limit)) (IsMissing w text)
 
 -- ---- both texts
 
@@ -47,25 +51,12 @@ Judges m p (Err (Models why)) = models_text.IsFirst m why
 Judges m p (Err (People why)) = (models : List ModelOf) × models_text.IsRead m models × people_text.IsFirst p why
 Judges m p (Err Memory) = ⊤
 
--- neither is too long
-abbrev pub AreShort : List ℕ → List ℕ → Type 0
-AreShort m p = (length m ≤ text_limit) × (length p ≤ text_limit)
-
--- both are read before they are judged, the models text first
+-- Both are read before they are judged, the models text first: the models text is missing; or else
+-- the people text is; or else they are judged.
 abbrev pub OpensText : List ℕ → List ℕ → Result RoomyTables TextsFault → Type 0
-OpensText m p (Ok t) = AreShort m p × Judges m p (Ok t)
-OpensText m p (Err (Unread which.Models)) = ⊤
-OpensText m p (Err (Unread which.People)) = length m ≤ text_limit
-OpensText m p (Err (TooLong which.Models)) = text_limit < length m
-OpensText m p (Err (TooLong which.People)) = (length m ≤ text_limit) × (text_limit < length p)
-OpensText m p (Err (Models why)) = AreShort m p × Judges m p (Err (Models why))
-OpensText m p (Err (People why)) = AreShort m p × Judges m p (Err (People why))
-OpensText m p (Err Memory) = ⊤
-
--- where the bytes of the texts aren't told, there are some models and people
-abbrev pub OpensUntold : Result RoomyTables TextsFault → Type 0
-OpensUntold (Ok t) = (models : List ModelOf) × (people : DirectoryOf) × (t.tables ≡ empty_tables models people)
-OpensUntold (Err why) = ⊤
+OpensText m p result =
+    IsErrAnd result (IsMissing which.Models m)
+    ⊎ ((length m ≤ text_limit) × (IsErrAnd result (IsMissing which.People p) ⊎ ((length p ≤ text_limit) × Judges m p result)))
 
 abbrev pub OpensBuiltIn : Result RoomyTables TextsFault → Type 0
 OpensBuiltIn (Ok t) = t.tables ≡ built_in_tables
@@ -75,11 +66,57 @@ OpensBuiltIn (Err (TooLong w)) = ⊥
 OpensBuiltIn (Err (Models why)) = ⊥
 OpensBuiltIn (Err (People why)) = ⊥
 
--- over what is told of each name, the office of two texts of these names, or the built-in one
-abbrev pub Opens : Option (List ℕ → List ℕ) → Option (List ℕ × List ℕ) → Result RoomyTables TextsFault → Type 0
-Opens told None result = OpensBuiltIn result
-Opens None (Some names) result = OpensUntold result
-Opens (Some text) (Some names) result = OpensText (text names.0) (text names.1) result
+-- this is the text of the name, as far as the texts are told
+abbrev pub IsTextOf : Option (List ℕ → List ℕ) → List ℕ → List ℕ → Type 0
+IsTextOf None name text = ⊤
+IsTextOf (Some told) name text = text ≡ told name
+
+-- there is a text of this name, of which this was read
+abbrev pub ReadsText : Which → Option (List ℕ → List ℕ) → List ℕ → Result BytesOf TextsFault → Type 0
+ReadsText w told name result = (text : List ℕ) × IsTextOf told name text × Gives w text result
+
+-- without names it is the built-in office, and else that of the two texts of these names, which are
+-- there also where they aren't told
+abbrev pub Opens : Option (List ℕ × List ℕ) → Option (List ℕ → List ℕ) → Result RoomyTables TextsFault → Type 0
+Opens None told result = OpensBuiltIn result
+Opens (Some names) told result =
+    (models : List ℕ) × (people : List ℕ) × IsTextOf told names.0 models × IsTextOf told names.1 people × OpensText models people result
+
+-- ---- which texts were asked for
+
+-- one read was noted, unless there was no memory
+abbrev pub IsAsked : {T : Type 0} → List ℕ → TextsState → TextsState → Result T TextsFault → Type 0
+IsAsked name old new result =
+    (new.asked ≡ old.asked ++ record { name = name; before = old.faults } ∷ [])
+    ⊎ ((result ≡ Err Memory) × (new.asked ≡ old.asked))
+
+-- the last of these reads was of this name, and failed: the count of faults rose in it
+pub record LastFailed (reads : List Asked) (name : List ℕ) (before now : ℕ) : Type 0 where
+  pub earlier : List Asked
+  pub last : Asked
+  pub reads_are : reads ≡ earlier ++ last ∷ []
+  pub named : last.name ≡ name
+  pub later : before ≤ last.before
+  pub failed : Rose last.before now
+
+abbrev pub name_in : Which → List ℕ × List ℕ → List ℕ
+name_in which.Models names = names.0
+name_in which.People names = names.1
+
+-- The names that were asked for are a beginning of models and people, and both where the office was
+-- opened. A text that couldn't be read is the one that was asked for last.
+pub record Asks (names : List ℕ × List ℕ) (old new : TextsState) (result : Result RoomyTables TextsFault) : Type 0 where
+  pub reads : List Asked
+  pub grown : new.asked ≡ old.asked ++ reads
+  pub unasked : List (List ℕ)
+  pub begins : names.0 ∷ names.1 ∷ [] ≡ map (λ a. a.name) reads ++ unasked
+  pub both : OnOk result (unasked ≡ [])
+  pub unread : (w : Which) → result ≡ Err (Unread w) → LastFailed reads (name_in w names) old.faults new.faults
+
+-- without names no text was asked for, and else these
+abbrev pub AsksFor : Option (List ℕ × List ℕ) → TextsState → TextsState → Result RoomyTables TextsFault → Type 0
+AsksFor None old new result = new ≡ old
+AsksFor (Some names) old new result = Asks names old new result
 
 -- something is wrong with one of two texts
 abbrev pub AreWrong : List ℕ → List ℕ → Type 0
@@ -139,10 +176,6 @@ people_words (people.Cycle place) = placed (codes "Cycle") place
 people_words people.Limit = codes "Limit"
 people_words people.Memory = codes "Memory"
 
-abbrev pub name_in : Which → List ℕ × List ℕ → List ℕ
-name_in which.Models names = names.0
-name_in which.People names = names.1
-
 -- the line on complaints, for texts of these names
 abbrev pub fault_line : List ℕ × List ℕ → TextsFault → List ℕ
 fault_line names (Unread w) = codes "texts: " ++ name_in w names ++ codes "\n"
@@ -158,11 +191,3 @@ short_line (TooLong w) = fault_line ([], []) (TooLong w)
 short_line (Models why) = fault_line ([], []) (Models why)
 short_line (People why) = fault_line ([], []) (People why)
 short_line Memory = fault_line ([], []) Memory
-
--- The office was opened and its connection was served, or it wasn't opened, and then nothing was
--- read of the input, or written to the output.
-abbrev pub RunsOffice : Option (List ℕ → List ℕ) → Option (List ℕ × List ℕ) → ℕ → ℕ → Option Flow → Option Flow → Option (List ℕ) → Option (List ℕ) → ℕ → ℕ → Option (List ℕ) → Option (List ℕ) → ℕ → Type 0
-RunsOffice told names from step f g w v before now c d status =
-    ((t : RoomyTables) × Opens told names (Ok t) × Runs from step t.tables f g w v before now c d status)
-    ⊎ ((why : TextsFault) × Opens told names (Err why) × (status ≡ fault_status why) × (g ≡ f) × (v ≡ w)
-    × Complains before now c d (fault_line (unwrap_or names ([], [])) why))

@@ -1,69 +1,88 @@
--- What a run of the program does: from the tables t, the source f and what was written w, to u, g
--- and v.
-use Rattle.std.specs.Prelude.{◌≡◌, ◌⊎◌, ℕ, ◌+◌, ◌<◌, ◌≤◌, true, List, [], ◌++◌, length, Option, Some, None, ⊤, codes, decimal}
+-- What a run does to a connection, and how it ends.
+use Rattle.std.specs.Prelude.{◌≡◌, ◌⊎◌, ℕ, ◌<◌, ◌≤◌, true, List, [], ◌++◌, length, Option, Some, None, ⊤, codes, decimal}
+use Rattle.ht_base.specs.History.{end_of}
 use Rattle.ht_outside.specs.Causes.{Rose}
-use Rattle.ht_outside.specs.Tells.{Flow, Takes, Grows, GrowsPart}
-use Rattle.ht_machine.specs.History.{IsLegal, end_of}
+use Rattle.ht_outside.specs.Tells.{Flow, SourceState, SinkState, Takes, Grows, GrowsPart}
+use Rattle.ht_machine.specs.History.{IsHistory}
 use Rattle.ht_tree.specs.Tables.{TablesOf}
-use Rattle.ht_wire.specs.Heads.{IsEnd}
-use Rattle.ht_wire.specs.Reading.{EndsAt, RefusedAt}
+use Rattle.ht_wire.specs.Heads.{HasNoHead, IsEnd}
+use Rattle.ht_wire.specs.Reading.{EndsAt, LastReadWhere, RefusedAt}
 use Rattle.ht_wire.specs.Replies.{reply_bytes}
 use Rattle.ht_wire.specs.Requests.{AreRequests}
+use Rattle.ht_wire.specs.declared.request.Request.{Request}
 use Rattle.ht_program.specs.declared.ending.Ending.{Ending}
 use Rattle.ht_program.specs.declared.ending.Ending.TheVariants.{Done, Wire, Budget, ReadFault, WriteFault, Memory}
 use Rattle.ht_program.specs.Exchanges.{Exchange, AreExchanges, entries, replies, requests}
-use Rattle.ht_program.specs.Inputs.{budget, GoOn, Close}
+use Rattle.ht_program.specs.Inputs.{GoOn, Close}
 use Rattle.ht_program.specs.Texts.{refused_text}
 
--- these exchanges were made, from number k on. The requests are those of the bytes read, in order,
--- and rest is what was read behind them. The entries are a legal history from t to u.
-pub record Serves (from step k : ℕ) (t u : TablesOf) (f g : Option Flow) (pending rest : List ℕ) (xs : List Exchange) : Type 0 where
-  pub taken : List ℕ
-  pub takes : Takes f g taken
-  pub stand : AreRequests (pending ++ taken) (requests xs) rest
-  pub numbered : AreExchanges from step k xs
-  pub legal : IsLegal t (entries xs)
+-- what the two ends of a connection tell
+pub record Streams : Type 0 where
+  pub input : SourceState
+  pub output : SinkState
+
+abbrev pub streams : SourceState → SinkState → Streams
+streams input output = record { input = input; output = output }
+
+-- These exchanges were made, from number k on. Their requests stand in the bytes, in order, and rest
+-- behind them; their entries are a legal history from t to u.
+pub record Serves (moment : ℕ → ℕ) (k : ℕ) (t u : TablesOf) (bytes rest : List ℕ) (xs : List Exchange) : Type 0 where
+  pub stand : AreRequests bytes (requests xs) rest
+  pub numbered : AreExchanges moment k xs
+  pub legal : IsHistory t (entries xs)
   pub ends : end_of t (entries xs) ≡ u
 
+-- the bytes that refuse what follows
 abbrev pub refusal_bytes : ℕ → List ℕ
 refusal_bytes code = reply_bytes code (refused_text code) true
 
--- nothing, or the bytes that refuse what follows
-abbrev pub IsTail : Option Flow → List ℕ → List ℕ → Type 0
-IsTail g rest tail = (tail ≡ []) ⊎ ((code : ℕ) × RefusedAt g rest code × (tail ≡ refusal_bytes code))
+-- nothing, or the refusal of what follows requests that go on and are fewer than the most
+abbrev pub IsTail : ℕ → ℕ → Option Flow → List ℕ → List Exchange → List ℕ → Type 0
+IsTail most n g rest xs tail =
+    (tail ≡ []) ⊎ (GoOn (requests xs) × (n < most) × ((code : ℕ) × RefusedAt g rest code × (tail ≡ refusal_bytes code)))
 
 -- the bytes read, and those that the source has left, are not the end of the requests
 abbrev pub IsMoreAt : Option Flow → List ℕ → Type 0
 IsMoreAt None bytes = ⊤
 IsMoreAt (Some flow) bytes = IsEnd (bytes ++ flow.left) → ⊥
 
--- where the exchanges from number k on end, and what was written
-abbrev pub EndsAs : ℕ → Ending → Option Flow → List ℕ → Option (List ℕ) → Option (List ℕ) → List Exchange → Type 0
-EndsAs k Done g rest w v xs =
-    (Close (requests xs) ⊎ (GoOn (requests xs) × EndsAt g rest)) × (k + length xs ≤ budget) × Grows w v (replies xs)
-EndsAs k (Wire code) g rest w v xs =
-    GoOn (requests xs) × (k + length xs < budget) × RefusedAt g rest code × Grows w v (replies xs ++ refusal_bytes code)
-EndsAs k Budget g rest w v xs =
-    GoOn (requests xs) × (k + length xs ≡ budget) × IsMoreAt g rest × Grows w v (replies xs)
-EndsAs k ReadFault g rest w v xs = Grows w v (replies xs)
-EndsAs k WriteFault g rest w v xs = (tail : List ℕ) × IsTail g rest tail × GrowsPart w v (replies xs ++ tail)
-EndsAs k Memory g rest w v xs = Grows w v (replies xs)
+-- Where a connection ends behind n exchanges, of which xs are the last, and what was written of
+-- these. The most requests that a run answers are `most`, and rest is what was read behind them.
+abbrev pub EndsAs : ℕ → ℕ → Ending → Streams → Streams → List ℕ → List Exchange → Type 0
+EndsAs most n Done old new rest xs =
+    (Close (requests xs) ⊎ (GoOn (requests xs) × EndsAt new.input.flow rest))
+    × (n ≤ most)
+    × Grows old.output.written new.output.written (replies xs)
+EndsAs most n (Wire code) old new rest xs =
+    GoOn (requests xs)
+    × (n < most)
+    × RefusedAt new.input.flow rest code
+    × Grows old.output.written new.output.written (replies xs ++ refusal_bytes code)
+EndsAs most n Budget old new rest xs =
+    GoOn (requests xs) × (n ≡ most) × IsMoreAt new.input.flow rest × Grows old.output.written new.output.written (replies xs)
+EndsAs most n ReadFault old new rest xs =
+    GoOn (requests xs) × (n ≤ most) × HasNoHead rest × Grows old.output.written new.output.written (replies xs)
+EndsAs most n WriteFault old new rest xs =
+    (n ≤ most)
+    × ((tail : List ℕ) × IsTail most n new.input.flow rest xs tail × GrowsPart old.output.written new.output.written (replies xs ++ tail))
+EndsAs most n Memory old new rest xs =
+    GoOn (requests xs) × (n ≤ most) × Grows old.output.written new.output.written (replies xs)
 
--- a connection was served from number k to before number next, and goes on
-pub record Goes (from step k next : ℕ) (t u : TablesOf) (f g : Option Flow) (pending rest : List ℕ) (w v : Option (List ℕ)) : Type 0 where
-  pub exchanges : List Exchange
-  pub counted : next ≡ k + length exchanges
-  pub serves : Serves from step k t u f g pending rest exchanges
-  pub open_still : GoOn (requests exchanges)
-  pub wrote : Grows w v (replies exchanges)
+-- not all of these requests stand whole in the bytes
+abbrev pub AreNotWhole : List Request → List ℕ → Type 0
+AreNotWhole asked bytes = (rest : List ℕ) → AreRequests bytes asked rest → ⊥
 
--- from number k on, the connection was served to its ending
-pub record Ran (from step k : ℕ) (t : TablesOf) (f g : Option Flow) (pending : List ℕ) (w v : Option (List ℕ)) (ending : Ending) : Type 0 where
+-- A connection was served from these tables to its ending. Where the last request closes it, no read
+-- was made behind that request.
+pub record Ran (moment : ℕ → ℕ) (most : ℕ) (t : TablesOf) (old new : Streams) (ending : Ending) : Type 0 where
   pub exchanges : List Exchange
   pub after : TablesOf
+  pub taken : List ℕ
+  pub takes : Takes old.input.flow new.input.flow taken
   pub rest : List ℕ
-  pub serves : Serves from step k t after f g pending rest exchanges
-  pub ends : EndsAs k ending g rest w v exchanges
+  pub serves : Serves moment 0 t after taken rest exchanges
+  pub ends : EndsAs most (length exchanges) ending old new rest exchanges
+  pub closed : Close (requests exchanges) → LastReadWhere (AreNotWhole (requests exchanges)) old.input.flow new.input.flow []
 
 -- the status of an ending
 abbrev pub ending_status : Ending → ℕ
@@ -87,37 +106,9 @@ abbrev pub usage_line : List ℕ
 usage_line = codes "usage: office run, serve, check, load or export\n"
 
 -- the line was written, wholly unless the count of faults rose
-pub record Complains (before now : ℕ) (w v : Option (List ℕ)) (line : List ℕ) : Type 0 where
+pub record Complains (old new : SinkState) (line : List ℕ) : Type 0 where
   pub front : List ℕ
   pub rest : List ℕ
   pub line_is : line ≡ front ++ rest
-  pub wrote : Grows w v front
-  pub whole : (rest ≡ []) ⊎ Rose before now
-
--- a fault of the connection has a cause, and no count falls
-pub record HasCauses (reads reads_now writes writes_now : ℕ) (ending : Option Ending) : Type 0 where
-  pub read_later : reads ≤ reads_now
-  pub write_later : writes ≤ writes_now
-  pub read : ending ≡ Some ReadFault → Rose reads reads_now
-  pub write : ending ≡ Some WriteFault → Rose writes writes_now
-
--- what stands in the input behind the last request that may be answered
-abbrev pub FollowsAs : Ending → Option Flow → List ℕ → Type 0
-FollowsAs Done g rest = EndsAt g rest
-FollowsAs (Wire code) g rest = ⊥
-FollowsAs Budget g rest = IsMoreAt g rest
-FollowsAs ReadFault g rest = Unit {0}
-FollowsAs WriteFault g rest = ⊥
-FollowsAs Memory g rest = Unit {0}
-
-pub record Follows (f g : Option Flow) (pending : List ℕ) (ending : Ending) : Type 0 where
-  pub taken : List ℕ
-  pub takes : Takes f g taken
-  pub follows : FollowsAs ending g (pending ++ taken)
-
--- the command run from these tables on
-pub record Runs (from step : ℕ) (t : TablesOf) (f g : Option Flow) (w v : Option (List ℕ)) (before now : ℕ) (c d : Option (List ℕ)) (status : ℕ) : Type 0 where
-  pub ending : Ending
-  pub status_is : status ≡ ending_status ending
-  pub ran : Ran from step 0 t f g [] w v ending
-  pub complains : Complains before now c d (ending_line ending)
+  pub wrote : Grows old.written new.written front
+  pub whole : (rest ≡ []) ⊎ Rose old.faults new.faults

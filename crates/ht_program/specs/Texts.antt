@@ -76,6 +76,10 @@ roles_of set = names_among role_name (contains_role set) all_roles
 abbrev pub fault : List ℕ → List ℕ
 fault name = codes "{\"fault\":\"" ++ name ++ codes "\"}"
 
+-- of a request for which there is no memory
+abbrev pub memory_text : List ℕ
+memory_text = fault (codes "Memory")
+
 abbrev pub limit_name : Limit → List ℕ
 limit_name Tasks = codes "tasks"
 
@@ -87,6 +91,7 @@ refusal_text (refusal.Unknown (unknown.Model name)) = codes "{\"fault\":\"Unknow
 refusal_text (refusal.State allowed state) =
     codes "{\"allowed\":" ++ list_text (states_of allowed) ++ codes ",\"fault\":\"State\",\"state\":" ++ quoted (state_name state) ++ codes "}"
 refusal_text (refusal.Limit limit) = codes "{\"fault\":\"Limit\",\"limit\":\"" ++ limit_name limit ++ codes "\"}"
+refusal_text refusal.Memory = memory_text
 
 abbrev pub refusal_status : Refusal → ℕ
 refusal_status refusal.Person = 401
@@ -95,6 +100,7 @@ refusal_status (refusal.Role needs) = 403
 refusal_status (refusal.State allowed state) = 409
 refusal_status (refusal.Unknown what) = 422
 refusal_status (refusal.Limit limit) = 507
+refusal_status refusal.Memory = 500
 
 -- ---- the sheet, in three parts. A task has no comments, parts and sub tasks yet.
 
@@ -154,7 +160,7 @@ answer_status e (Done task state owner) = done_status e
 answer_status e (Sheet s) = 200
 answer_status e (Refused why) = refusal_status why
 
--- ---- where there is no event, or no memory
+-- ---- where there is no event
 
 abbrev pub api_status : ApiRefusal → ℕ
 api_status Route = 404
@@ -170,6 +176,3 @@ refused_text code =
     if code == 431 then fault (codes "Fields")
     else if code == 501 then fault (codes "Coding")
     else fault (codes "Head")
-
-abbrev pub memory_text : List ℕ
-memory_text = fault (codes "Memory")

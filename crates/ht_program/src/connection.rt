@@ -1,13 +1,15 @@
-ghost use Rattle.std.specs.Prelude.{◌≡◌, ◌+◌, ◌<◌, ◌≤◌, [], length, Some, IfOk, MatchOption};
-ghost use Rattle.ht_outside.specs.Causes.{HasCause};
+ghost use Rattle.std.specs.Prelude.{◌≡◌, ◌≢◌, ◌+◌, ◌<◌, ◌≤◌, [], length, Some, IfOk, MatchOption};
+ghost use Rattle.ht_outside.specs.Causes.{HasCause, Rose};
 ghost use Rattle.ht_base.specs.Moment.{last_moment};
-ghost use Rattle.ht_machine.specs.Deciding.{IsValid, decide};
+ghost use Rattle.ht_base.specs.Events.{IsValid};
 ghost use Rattle.ht_wire.specs.Reading.{HasReadCause};
 ghost use Rattle.ht_wire.specs.Replies.{IsReplyStatus};
 ghost use Rattle.ht_program.specs.Answering.{Answers, Decides};
 ghost use Rattle.ht_program.specs.Inputs.{budget};
-ghost use Rattle.ht_program.specs.Running.{Follows, Goes, HasCauses, Ran};
+ghost use Rattle.ht_program.specs.Running.{Ran, streams};
+ghost use Rattle.ht_program.specs.Serving.{EndsFrom, Follows, Goes, HasCauses};
 ghost use Rattle.ht_program.specs.Texts.{memory_text};
+ghost use Rattle.ht_program.specs.Words.{moment_of};
 
 use crate::ending::Ending;
 use crate::routing::event_of;
@@ -38,8 +40,9 @@ pub(crate) fn serve<S: Source, K: Sink>(
     input: &mut S,
     output: &mut K,
 ) -> Ending
-    ensures ran { Ran run.now.from run.now.step 0 tables.tables (S.flow input.old) (S.flow input.new) [] (K.written output.old) (K.written output.new) result }
-    ensures causes { HasCauses (S.read_faults input.old) (S.read_faults input.new) (K.write_faults output.old) (K.write_faults output.new) (Some result) }
+    ensures ran { Ran (moment_of run.now.from run.now.step) budget tables.tables
+        (streams (S.source_state input.old) (K.sink_state output.old)) (streams (S.source_state input.new) (K.sink_state output.new)) result }
+    ensures causes { HasCauses (streams (S.source_state input.old) (K.sink_state output.old)) (streams (S.source_state input.new) (K.sink_state output.new)) (Some result) }
 {
     let mut tables = tables;
     let Ok(mut buffers) = Buffers::new(alloc) else {
@@ -78,9 +81,11 @@ fn serve_next<S: Source, K: Sink>(
     requires few { number < budget }
     requires room { 1024 ≤ buffers.old.text.spare + length buffers.old.text.items }
     ensures served { MatchOption result
-        (Goes run.now.from run.now.step number (number + 1) tables.old.tables tables.new.tables (S.flow input.old) (S.flow input.new) buffers.old.input buffers.new.input (K.written output.old) (K.written output.new))
-        (Ran run.now.from run.now.step number tables.old.tables (S.flow input.old) (S.flow input.new) buffers.old.input (K.written output.old) (K.written output.new)) }
-    ensures causes { HasCauses (S.read_faults input.old) (S.read_faults input.new) (K.write_faults output.old) (K.write_faults output.new) result }
+        (Goes (moment_of run.now.from run.now.step) number (number + 1) tables.old.tables tables.new.tables
+        (streams (S.source_state input.old) (K.sink_state output.old)) (streams (S.source_state input.new) (K.sink_state output.new)) buffers.old.input buffers.new.input)
+        (EndsFrom (moment_of run.now.from run.now.step) budget number tables.old.tables
+        (streams (S.source_state input.old) (K.sink_state output.old)) (streams (S.source_state input.new) (K.sink_state output.new)) buffers.old.input) }
+    ensures causes { HasCauses (streams (S.source_state input.old) (K.sink_state output.old)) (streams (S.source_state input.new) (K.sink_state output.new)) result }
     ensures room { 1024 ≤ buffers.new.text.spare + length buffers.new.text.items }
 {
     match next_request(alloc, input, &mut buffers.input) {
@@ -114,8 +119,10 @@ fn serve_next<S: Source, K: Sink>(
 
 // Whether more input stands behind the last request that may be answered.
 fn what_follows<S: Source>(alloc: Global, input: &mut S, buffer: &mut Buffer) -> Ending
-    ensures follows { Follows (S.flow input.old) (S.flow input.new) buffer.old result }
-    ensures cause { HasCauses (S.read_faults input.old) (S.read_faults input.new) 0 0 (Some result) }
+    ensures follows { Follows (S.source_state input.old).flow (S.source_state input.new).flow buffer.old result }
+    ensures later { (S.source_state input.old).faults ≤ (S.source_state input.new).faults }
+    ensures cause { result ≡ Ending.ReadFault → Rose (S.source_state input.old).faults (S.source_state input.new).faults }
+    ensures read { result ≢ Ending.WriteFault }
 {
     match next_request(alloc, input, buffer) {
         Next::Request(_) => Ending::Budget,

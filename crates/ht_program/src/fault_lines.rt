@@ -1,4 +1,4 @@
-ghost use Rattle.std.specs.Prelude.{◌≡◌, ◌+◌, ◌≤◌, [], ◌++◌, length, codes};
+ghost use Rattle.std.specs.Prelude.{◌≡◌, ◌≢◌, ◌+◌, ◌≤◌, [], ◌++◌, length, codes};
 ghost use Rattle.ht_program.specs.Opening as spec;
 ghost use Rattle.ht_program.specs.Opening.{models_words, people_words, placed, short_line};
 
@@ -8,7 +8,8 @@ use ht_models::ModelsRefusal;
 use ht_people::PeopleRefusal;
 
 pub(crate) fn fault_status(fault: TextsFault) -> Status
-    ensures { result.0 ≡ spec.fault_status fault }
+    ensures value { result.0 ≡ spec.fault_status fault }
+    ensures opening { result.0 ≢ 2 }
 {
     Status(match fault {
         TextsFault::Unread(_) => 3,

@@ -21,6 +21,7 @@ mod words;
 
 use ht_outside::{FileTexts, StdSink, StdSource};
 pub use status::Status;
+use status::exit_code;
 use std::env;
 use std::io::{self, ErrorKind};
 use std::process::ExitCode;
@@ -32,7 +33,7 @@ fn main(rt: HostRuntime) -> ExitCode {
         Ok(words) => words,
         Err(error) => {
             if error.kind() == ErrorKind::OutOfMemory {
-                return ExitCode::from(8);
+                return exit_code(Status::MEMORY);
             }
             // Words that are no text are not in the grammar, as none are.
             Vec::new(rt.alloc())
@@ -41,7 +42,7 @@ fn main(rt: HostRuntime) -> ExitCode {
     let mut input = StdSource::new(rt.stdin());
     let mut output = StdSink::new(rt.stdout());
     let mut complaints = StdSink::new(rt.stderr());
-    let mut texts = FileTexts::new(&rt);
+    let mut texts = FileTexts::new(rt.alloc(), &rt);
     let status = office(
         rt.alloc(),
         &words,
@@ -50,7 +51,7 @@ fn main(rt: HostRuntime) -> ExitCode {
         &mut output,
         &mut complaints,
     );
-    ExitCode::from(status.0)
+    exit_code(status)
 }
 
 // The words behind the program's name.

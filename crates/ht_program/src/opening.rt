@@ -1,7 +1,7 @@
-ghost use Rattle.std.specs.Prelude.{◌≡◌, ◌≤◌, IfOk, IfSome, length, option_map};
+ghost use Rattle.std.specs.Prelude.{◌≡◌, IfNone, option_map};
 ghost use Rattle.ht_program.specs.Named.{pair_of};
 ghost use Rattle.ht_program.specs.Opening as spec;
-ghost use Rattle.ht_program.specs.Opening.{Gives, HasTextsCause, Judges, Opens};
+ghost use Rattle.ht_program.specs.Opening.{AsksFor, HasTextsCause, IsAsked, Judges, Opens, ReadsText};
 
 use crate::office_tables::built_in_tables;
 use crate::words::Named;
@@ -57,8 +57,10 @@ pub(crate) fn open<X: Texts>(
     named: Option<Named<'_>>,
     texts: &mut X,
 ) -> Result<Tables, TextsFault>
-    ensures opens { Opens (X.texts texts.old) (option_map pair_of named.entry) result }
-    ensures cause { HasTextsCause (X.text_faults texts.old) (X.text_faults texts.new) result }
+    ensures opens { Opens (option_map pair_of named.entry) (X.texts_state texts.old).texts result }
+    ensures asks { AsksFor (option_map pair_of named.entry) (X.texts_state texts.old) (X.texts_state texts.new) result }
+    ensures built_in { IfNone named.entry (texts.new ≡ texts.old) }
+    ensures cause { HasTextsCause (X.texts_state texts.old).faults (X.texts_state texts.new).faults result }
 {
     let Some(named) = named else {
         return Ok(built_in_tables(alloc)?);
@@ -75,9 +77,10 @@ fn text_of<X: Texts>(
     which: Which,
     name: &str,
 ) -> Result<Bytes, TextsFault>
-    ensures text { IfSome (X.texts texts.old) (λ text. Gives which (text name.now) result) }
-    ensures kept { X.texts texts.new ≡ X.texts texts.old }
-    ensures cause { HasTextsCause (X.text_faults texts.old) (X.text_faults texts.new) result }
+    ensures text { ReadsText which (X.texts_state texts.old).texts name.now result }
+    ensures kept { (X.texts_state texts.new).texts ≡ (X.texts_state texts.old).texts }
+    ensures asked { IsAsked name.now (X.texts_state texts.old) (X.texts_state texts.new) result }
+    ensures cause { HasTextsCause (X.texts_state texts.old).faults (X.texts_state texts.new).faults result }
 {
     match texts.read(alloc, name, TEXT_LIMIT) {
         Ok(bytes) => Ok(bytes),

@@ -1,6 +1,6 @@
 ghost use Rattle.std.specs.Prelude.{◌≡◌, ◌≢◌, ◌≤◌, ◌++◌, ℕ, List, IfOk, IfSome, IfNone, MatchOption, decimal};
 ghost use Rattle.ht_base.specs.Moment.{last_moment};
-ghost use Rattle.ht_machine.specs.Deciding.{IsValid};
+ghost use Rattle.ht_base.specs.Events.{IsValid};
 ghost use Rattle.ht_program.specs.declared.routing.Form.{Form};
 ghost use Rattle.ht_program.specs.Routing as spec;
 ghost use Rattle.ht_program.specs.Routing.{IsEvent, IsForm, IsId, claim_path, task_path};

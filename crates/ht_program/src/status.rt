@@ -1,8 +1,10 @@
-ghost use Rattle.std.specs.Prelude.{◌≡◌, ◌+◌, ◌≤◌, [], ◌++◌, length, codes, decimal};
+ghost use Rattle.std.specs.Prelude.{◌≡◌, ◌≢◌, ◌+◌, ◌≤◌, [], ◌++◌, length, codes, decimal};
+ghost use Rattle.std.specs.Process.{exit_status};
 ghost use Rattle.ht_program.specs.Running.{ending_line, ending_status};
 
 use crate::ending::Ending;
 use arrayvec::ArrayVec;
+use std::process::ExitCode;
 
 /// The exit status of the program: 0 done, 1 a request that can't be read, 2 wrong words, 3 a text
 /// that can't be read, 4 a text that is too long or refused, 7 a fault of input or output, 8 no
@@ -12,6 +14,15 @@ pub struct Status(pub u8);
 
 impl Status {
     pub const USAGE: Status = Status(2);
+
+    pub const MEMORY: Status = Status(8);
+}
+
+/// What the process ends with.
+pub(crate) fn exit_code(status: Status) -> ExitCode
+    ensures { exit_status result ≡ status.0 }
+{
+    ExitCode::from(status.0)
 }
 
 /// A line on complaints, with its line feed.
@@ -21,7 +32,8 @@ pub(crate) type Line = ArrayVec<u8, 64>;
 pub(crate) const USAGE_LINE: &[u8] = b"usage: office run, serve, check, load or export\n";
 
 pub(crate) fn status_of(ending: Ending) -> Status
-    ensures { result.0 ≡ ending_status ending }
+    ensures value { result.0 ≡ ending_status ending }
+    ensures served { (result.0 ≢ 2) × (result.0 ≢ 3) × (result.0 ≢ 4) }
 {
     Status(match ending {
         Ending::Done => 0,

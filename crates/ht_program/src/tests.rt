@@ -369,6 +369,14 @@ fn a_fault_of_the_pipe_is_told_by_the_status(rt: HostRuntime) -> Result<(), Fail
     Ok(())
 }
 
+#[test]
+fn nothing_is_read_behind_a_request_that_closes(rt: HostRuntime) -> Result<(), Fail> {
+    let last = "POST /tasks HTTP/1.0\r\nx-person: p3\r\n\r\n";
+    let ran = run_with(rt.alloc(), "run --from 0 --step 0", last, &[2], &[])?;
+    assert_eq!(rt; ran.status, Status(0));
+    Ok(())
+}
+
 const PEOPLE: &str = "[[person]]\nname = \"anna\"\n[[person]]\nname = \"ben\"\n\
     [[person]]\nname = \"cora\"\n[[person]]\nname = \"dan\"\n[[person]]\nname = \"root\"\n\
     operator = true\n[[group]]\nname = \"clerks\"\nmembers = [\"anna\", \"ben\"]\n";

@@ -16,7 +16,7 @@ use ht_base::{
 /// The room that the text of an answer takes at most.
 pub(crate) const TEXT_ROOM: u32 = 1024;
 
-/// The text of a reply to a request for whose event there is no memory.
+/// The text of a reply where there is no memory to act on a request, or to show a sheet.
 pub(crate) const MEMORY_TEXT: &[u8] = b"{\"fault\":\"Memory\"}";
 
 /// The status of the reply to an event: 201 where a task was created.
@@ -33,6 +33,7 @@ pub(crate) fn status_of(event: &Event, answer: &Answer) -> u16
         Answer::Refused(Refusal::State { .. }) => 409,
         Answer::Refused(Refusal::Unknown(_)) => 422,
         Answer::Refused(Refusal::Limit(_)) => 507,
+        Answer::Refused(Refusal::Memory) => 500,
     }
 }
 
@@ -124,6 +125,7 @@ fn write_refusal(refusal: &Refusal, into: &mut Bytes)
         Refusal::Unknown(Unknown::Model(name)) => write_unknown_model(name, into),
         Refusal::State { allowed, state } => write_state_refusal(allowed, *state, into),
         Refusal::Limit(Limit::Tasks) => put(b"{\"fault\":\"Limit\",\"limit\":\"tasks\"}", into),
+        Refusal::Memory => put(MEMORY_TEXT, into),
     }
 }
 

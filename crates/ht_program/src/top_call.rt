@@ -1,11 +1,12 @@
 ghost use Rattle.std.specs.Prelude.{◌≡◌, ◌≢◌, ◌⊎◌, ◌↔◌, ◌++◌, ℕ, [], List, None, Option, Some, IfSome, codes, map, option_map, string_bytes, unwrap_or};
 ghost use Rattle.ht_outside.specs.Causes.{Rose};
-ghost use Rattle.ht_program.specs.Inputs.{IsAnswered, IsStatusOf};
+ghost use Rattle.ht_program.specs.Inputs.{IsAnswered, IsStatusOf, budget};
 ghost use Rattle.ht_program.specs.Named.{pair_of};
 ghost use Rattle.ht_program.specs.Opening as opening;
-ghost use Rattle.ht_program.specs.Opening.{AreWrong, RunsOffice};
+ghost use Rattle.ht_program.specs.Office.{RunsOffice, outside};
+ghost use Rattle.ht_program.specs.Opening.{AreWrong};
 ghost use Rattle.ht_program.specs.Running.{Complains, usage_line};
-ghost use Rattle.ht_program.specs.Words.{IsRun};
+ghost use Rattle.ht_program.specs.Words.{IsRun, moment_of};
 
 use crate::connection::serve;
 use crate::fault_lines::{fault_line, fault_status};
@@ -31,19 +32,20 @@ pub fn office<X: Texts, S: Source, K: Sink, Q: Sink>(
 ) -> Status
     ensures usage { (result.0 ≡ 2) ↔ ((from step : ℕ) (names : Option (List ℕ × List ℕ)) → IsRun (map string_bytes words.now.items) from step names → ⊥) }
     ensures refused { result.0 ≡ 2 → (texts.new ≡ texts.old) × (input.new ≡ input.old) × (output.new ≡ output.old)
-        × Complains (Q.write_faults complaints.old) (Q.write_faults complaints.new) (Q.written complaints.old) (Q.written complaints.new) usage_line }
+        × Complains (Q.sink_state complaints.old) (Q.sink_state complaints.new) usage_line }
     ensures run { result.0 ≢ 2 → (from : ℕ) × (step : ℕ) × (names : Option (List ℕ × List ℕ)) × IsRun (map string_bytes words.now.items) from step names
-        × RunsOffice (X.texts texts.old) names from step (S.flow input.old) (S.flow input.new) (K.written output.old) (K.written output.new)
-        (Q.write_faults complaints.old) (Q.write_faults complaints.new) (Q.written complaints.old) (Q.written complaints.new) result.0 }
-    ensures unread { result.0 ≡ 3 → Rose (X.text_faults texts.old) (X.text_faults texts.new) }
+        × RunsOffice (moment_of from step) budget names
+        (outside (X.texts_state texts.old) (S.source_state input.old) (K.sink_state output.old) (Q.sink_state complaints.old))
+        (outside (X.texts_state texts.new) (S.source_state input.new) (K.sink_state output.new) (Q.sink_state complaints.new)) result.0 }
+    ensures unread { result.0 ≡ 3 → Rose (X.texts_state texts.old).faults (X.texts_state texts.new).faults }
     ensures wrong { (from step : ℕ) (names : List ℕ × List ℕ) → IsRun (map string_bytes words.now.items) from step (Some names)
-        → IfSome (X.texts texts.old) (λ text. result.0 ≢ 3 → result.0 ≢ 8 → (result.0 ≡ 4) ↔ AreWrong (text names.0) (text names.1)) }
-    ensures built_in { (from step : ℕ) → IsRun (map string_bytes words.now.items) from step None → (result.0 ≢ 3) × (result.0 ≢ 4) }
-    ensures exact { result.0 ≢ 2 → result.0 ≢ 3 → result.0 ≢ 4 → result.0 ≢ 7 → result.0 ≢ 8 → IsStatusOf (S.flow input.old) result.0 }
+        → IfSome (X.texts_state texts.old).texts (λ text. result.0 ≢ 3 → result.0 ≢ 8 → (result.0 ≡ 4) ↔ AreWrong (text names.0) (text names.1)) }
+    ensures built_in { (from step : ℕ) → IsRun (map string_bytes words.now.items) from step None → (result.0 ≢ 3) × (result.0 ≢ 4) × (texts.new ≡ texts.old) }
+    ensures exact { result.0 ≢ 2 → result.0 ≢ 3 → result.0 ≢ 4 → result.0 ≢ 7 → result.0 ≢ 8 → IsStatusOf budget (S.source_state input.old).flow result.0 }
     ensures complete { (from step : ℕ) (names : Option (List ℕ × List ℕ)) → IsRun (map string_bytes words.now.items) from step names
-        → (Rose (X.text_faults texts.old) (X.text_faults texts.new) → ⊥) → (Rose (S.read_faults input.old) (S.read_faults input.new) → ⊥)
-        → (Rose (K.write_faults output.old) (K.write_faults output.new) → ⊥) → IsAnswered result.0 }
-    ensures pipe { result.0 ≡ 7 → Rose (S.read_faults input.old) (S.read_faults input.new) ⊎ Rose (K.write_faults output.old) (K.write_faults output.new) }
+        → (Rose (X.texts_state texts.old).faults (X.texts_state texts.new).faults → ⊥) → (Rose (S.source_state input.old).faults (S.source_state input.new).faults → ⊥)
+        → (Rose (K.sink_state output.old).faults (K.sink_state output.new).faults → ⊥) → IsAnswered result.0 }
+    ensures pipe { result.0 ≡ 7 → Rose (S.source_state input.old).faults (S.source_state input.new).faults ⊎ Rose (K.sink_state output.old).faults (K.sink_state output.new).faults }
 {
     match run_of(words) {
         Some(words) => match open(alloc, words.texts, texts) {
@@ -66,7 +68,7 @@ pub fn office<X: Texts, S: Source, K: Sink, Q: Sink>(
 
 // Tells why there is no office, for texts of these names.
 fn complain_of<Q: Sink>(complaints: &mut Q, named: Option<Named<'_>>, fault: TextsFault)
-    ensures { Complains (Q.write_faults complaints.old) (Q.write_faults complaints.new) (Q.written complaints.old) (Q.written complaints.new)
+    ensures { Complains (Q.sink_state complaints.old) (Q.sink_state complaints.new)
         (opening.fault_line (unwrap_or (option_map pair_of named.entry) ([], [])) fault) }
 {
     match fault {
@@ -87,7 +89,7 @@ fn name_in(named: Option<Named<'_>>, which: Which) -> &str
 
 // Tells the name of a text that could not be read, which may be of any length.
 fn complain_unread<Q: Sink>(complaints: &mut Q, name: &str)
-    ensures { Complains (Q.write_faults complaints.old) (Q.write_faults complaints.new) (Q.written complaints.old) (Q.written complaints.new)
+    ensures { Complains (Q.sink_state complaints.old) (Q.sink_state complaints.new)
         (codes "texts: " ++ name.now ++ codes "\n") }
 {
     if complaints.write(b"texts: ").is_err() {
@@ -101,7 +103,7 @@ fn complain_unread<Q: Sink>(complaints: &mut Q, name: &str)
 
 // Writes a line, if there is one. That it can't be written changes no status.
 fn complain<Q: Sink>(complaints: &mut Q, line: &[u8])
-    ensures { Complains (Q.write_faults complaints.old) (Q.write_faults complaints.new) (Q.written complaints.old) (Q.written complaints.new) line.now }
+    ensures { Complains (Q.sink_state complaints.old) (Q.sink_state complaints.new) line.now }
 {
     if line.is_empty() {
         return;

@@ -6,7 +6,7 @@ use Rattle.httparse.specs.declared.spans.HeaderSpan.{HeaderSpan}
 use Rattle.httparse.specs.declared.spans.RequestSpans.{RequestSpans}
 use Rattle.httparse.specs.Grammar.{RequestHead, print_request, HasNoRequest, NeverHasRequest, MayBecomeRequest}
 use Rattle.httparse.specs.Spans.{IsRequestAt, IsRequestWithin, RequestExceeds, RequestOverflows, span_bytes}
-use Rattle.ht_outside.specs.Tells.{Flow, Takes, IsAtEnd}
+use Rattle.ht_outside.specs.Tells.{Flow, Takes, IsAtEnd, IsLastRead}
 use Rattle.ht_outside.proofs.PublicLaws.{Takes-none, Takes-trans}
 use Rattle.ht_wire.specs.declared.reading.Next.{Next}
 use Rattle.ht_wire.specs.declared.reading.Next.TheVariants as next
@@ -14,34 +14,60 @@ use Rattle.ht_wire.specs.declared.request.Request.{Request}
 use Rattle.ht_wire.specs.Buffer.{Gains, Stays}
 use Rattle.ht_wire.specs.Fields.{has_body}
 use Rattle.ht_wire.specs.GivingOut.{GivesOut, fields_at}
-use Rattle.ht_wire.specs.Heads.{IsEnd, IsTooLong, IsLineByte, fields_of}
-use Rattle.ht_wire.specs.Reading.{Reads, Finds, EndsAt, RefusedAt}
+use Rattle.ht_wire.specs.Heads.{HasNoHead, IsEnd, IsHead, IsTooLong, IsLineByte, fields_of}
+use Rattle.ht_wire.specs.Reading.{Reads, Finds, EndsAt, LastReadWhere, RefusedAt}
 use Rattle.ht_wire.specs.Requests.{Carries}
 use Rattle.ht_wire.specs.Window.{window, room}
 use Rattle.ht_wire.proofs.Outcomes.{reads_on, never_on, exceeds_on, overflows_on, front_of, front_full, more_on}
-use Rattle.ht_wire.proofs.Uniqueness.{exact_of}
+use Rattle.ht_wire.proofs.Uniqueness.{exact_of, head_or_end}
 
 -- what was read since the call began
 pub record Took (f g : Option Flow) (old new : List ℕ) : Type 0 where
   pub taken : List ℕ
   pub takes : Takes f g taken
   pub behind : new ≡ old ++ taken
+  pub needed : LastReadWhere HasNoHead f g old
+
+needed_none : (f : Option Flow) (old : List ℕ) → LastReadWhere HasNoHead f f old
+needed_none None old = tt
+needed_none (Some f) old = inl refl
+
+needed_more : (f g h : Option Flow) (old mid taken : List ℕ) → Takes f g taken → mid ≡ old ++ taken → HasNoHead mid → IsLastRead g h → LastReadWhere HasNoHead f h old
+needed_more None None None old mid taken takes behind none last = tt
+needed_more None None (Some h) old mid taken takes behind none last = absurd last
+needed_more None (Some g) h old mid taken takes behind none last = absurd takes
+needed_more (Some f) None h old mid taken takes behind none last = absurd takes
+needed_more (Some f) (Some g) None old mid taken takes behind none last = absurd last
+needed_more (Some f) (Some g) (Some h) old mid taken takes behind none last = inr (taken, last ∙ takes.taken, subst HasNoHead behind none)
+
+-- no head stands in blank bytes, in a part of one, or in what stands before bytes without one
+pub none_blank : (bytes : List ℕ) → (length bytes < window) × All IsLineByte bytes → HasNoHead bytes
+none_blank bytes blank h rest head = head_or_end bytes h rest head (record { short = blank.0; blank = blank.1 })
+
+pub none_partial : (bytes : List ℕ) → (length bytes < window) × (IsEnd bytes → ⊥) × HasNoRequest bytes → HasNoHead bytes
+none_partial bytes partial h rest head = partial.2 h rest head.reads
+
+pub none_before : (f g : Option Flow) (old new : List ℕ) → Took f g old new → HasNoHead new → HasNoHead old
+none_before f g old new a none h rest head =
+    none h (rest ++ a.taken) (subst (λ (l : List ℕ). IsHead l h (rest ++ a.taken)) (sym a.behind) (record { reads = reads_on old a.taken h rest head.reads; short = head.short; few = head.few }))
 
 pub took_none : (f : Option Flow) (old : List ℕ) → Took f f old old
-took_none f old = record { taken = []; takes = Takes-none f; behind = sym (append-nil old) }
+took_none f old = record { taken = []; takes = Takes-none f; behind = sym (append-nil old); needed = needed_none f old }
 
-pub took_more : (f g h : Option Flow) (old mid new : List ℕ) (n : ℕ) → Took f g old mid → Gains g h mid new n → Took f h old new
-took_more f g h old mid new n a b = record {
+pub took_more : (f g h : Option Flow) (old mid new : List ℕ) (n : ℕ) → Took f g old mid → HasNoHead mid → IsLastRead g h → Gains g h mid new n → Took f h old new
+took_more f g h old mid new n a none last b = record {
   taken = a.taken ++ b.taken;
   takes = Takes-trans f g h a.taken b.taken a.takes b.takes;
   behind = b.behind ∙ ap (λ l. l ++ b.taken) a.behind ∙ append_assoc old a.taken b.taken;
+  needed = needed_more f g h old mid a.taken a.takes a.behind none last;
 }
 
-pub took_still : (f g h : Option Flow) (old mid new : List ℕ) → Took f g old mid → Stays g h mid new → Took f h old new
-took_still f g h old mid new a b = record {
+pub took_still : (f g h : Option Flow) (old mid new : List ℕ) → Took f g old mid → HasNoHead mid → IsLastRead g h → Stays g h mid new → Took f h old new
+took_still f g h old mid new a none last b = record {
   taken = a.taken ++ [];
   takes = Takes-trans f g h a.taken [] a.takes b.takes;
   behind = b.same ∙ a.behind ∙ ap (λ l. old ++ l) (sym (append-nil a.taken));
+  needed = needed_more f g h old mid a.taken a.takes a.behind none last;
 }
 
 pub grew : (g h : Option Flow) (mid new : List ℕ) (n c : ℕ) → Gains g h mid new n → (n ≡ 0 → ⊥) → c ≤ length mid → c + 1 ≤ length new
@@ -65,7 +91,7 @@ none_gained g h mid new b = b.behind ∙ ap (λ l. mid ++ l) (no_bytes b.taken b
 reads_of : (f g : Option Flow) (old mid new : List ℕ) (n : Next) → Took f g old mid → Finds mid g new n → Reads f g old new n
 reads_of f g old mid new n a finds =
     let mine : Finds (old ++ a.taken) g new n = subst (λ (bytes : List ℕ). Finds bytes g new n) a.behind finds in
-    record { taken = a.taken; takes = a.takes; finds = mine; exact = exact_of f g old new a.taken n a.takes mine }
+    record { taken = a.taken; takes = a.takes; finds = mine; exact = exact_of f g old new a.taken n a.takes mine; needed = a.needed }
 
 -- they are buffered still
 pub found : (f g : Option Flow) (old new : List ℕ) (n : Next) → Took f g old new → Finds new g new n → Reads f g old new n
@@ -75,10 +101,10 @@ ended_at : (h : Option Flow) (bytes : List ℕ) → IsAtEnd h → IsEnd bytes �
 ended_at None bytes at_end end = tt
 ended_at (Some flow) bytes at_end end = (at_end, end)
 
-pub found_end : (f g h : Option Flow) (old mid new : List ℕ) → Took f g old mid → Gains g h mid new 0 → (length mid < window) × All IsLineByte mid → Reads f h old new next.End
-found_end f g h old mid new a b blank =
+pub found_end : (f g h : Option Flow) (old mid new : List ℕ) → Took f g old mid → IsLastRead g h → Gains g h mid new 0 → (length mid < window) × All IsLineByte mid → Reads f h old new next.End
+found_end f g h old mid new a last b blank =
     let same : new ≡ mid = none_gained g h mid new b in
-    found f h old new next.End (took_more f g h old mid new 0 a b) (refl, ended_at h new (b.ended refl) (rw same (record { short = blank.0; blank = blank.1 })))
+    found f h old new next.End (took_more f g h old mid new 0 a (none_blank mid blank) last b) (refl, ended_at h new (b.ended refl) (rw same (record { short = blank.0; blank = blank.1 })))
 
 long_on : (buf left : List ℕ) → length buf ≤ window → (RequestExceeds room buf × RequestOverflows room buf) ⊎ ((window ≤ length buf) × HasNoRequest buf × MayBecomeRequest buf) → IsTooLong (buf ++ left)
 long_on buf left within (inl both) = inl (rw (front_of buf left within) (exceeds_on buf _ both.0), rw (front_of buf left within) (overflows_on buf _ both.1))
@@ -106,13 +132,13 @@ cut_at (Some flow) bytes at_end more short none =
     record { more = more_on bytes flow.left more; why = inr (inl (refl, inr (rw whole short, rw (whole, take_all window bytes (omega (arith, short))) none))) }
 
 -- the bytes end before the head does
-pub found_cut : (f g h : Option Flow) (old mid new : List ℕ) → Took f g old mid → Gains g h mid new 0 → (length mid < window) × (IsEnd mid → ⊥) × HasNoRequest mid → Reads f h old new (next.Refused 400)
-found_cut f g h old mid new a b partial =
+pub found_cut : (f g h : Option Flow) (old mid new : List ℕ) → Took f g old mid → IsLastRead g h → Gains g h mid new 0 → (length mid < window) × (IsEnd mid → ⊥) × HasNoRequest mid → Reads f h old new (next.Refused 400)
+found_cut f g h old mid new a last b partial =
     let same : new ≡ mid = none_gained g h mid new b in
-    found f h old new (next.Refused 400) (took_more f g h old mid new 0 a b) (refl, cut_at h new (b.ended refl) (rw same partial.1) (rw same partial.0) (rw same partial.2))
+    found f h old new (next.Refused 400) (took_more f g h old mid new 0 a (none_partial mid partial) last b) (refl, cut_at h new (b.ended refl) (rw same partial.1) (rw same partial.0) (rw same partial.2))
 
-pub found_fault : (f g h : Option Flow) (old mid new : List ℕ) → Took f g old mid → Stays g h mid new → Reads f h old new next.ReadFault
-found_fault f g h old mid new a b = found f h old new next.ReadFault (took_still f g h old mid new a b) refl
+pub found_fault : (f g h : Option Flow) (old mid new : List ℕ) → Took f g old mid → IsLastRead g h → Stays g h mid new → HasNoHead mid → Reads f h old new next.ReadFault
+found_fault f g h old mid new a last b none = found f h old new next.ReadFault (took_still f g h old mid new a none last b) (refl, subst HasNoHead (sym b.same) none)
 
 -- a head that was found and given out
 abbrev Seen : List ℕ → List HeaderSpan → RequestSpans → Type 0

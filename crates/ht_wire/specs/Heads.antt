@@ -21,6 +21,10 @@ pub record IsHead (stream : List ℕ) (h : RequestHead) (rest : List ℕ) : Type
   pub short : length (print_request h) ≤ window
   pub few : length h.fields ≤ room
 
+-- no whole head stands at the front
+abbrev pub HasNoHead : List ℕ → Type 0
+HasNoHead stream = (h : RequestHead) (rest : List ℕ) → IsHead stream h rest → ⊥
+
 -- the fields of a head by name and value
 abbrev pub fields_of : RequestHead → List (List ℕ × List ℕ)
 fields_of h = map name_and_value h.fields

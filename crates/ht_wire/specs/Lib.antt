@@ -1,5 +1,6 @@
 pub mod Buffer
 pub mod BufferBytes
+pub mod ExampleRequests
 pub mod Examples
 pub mod Fields
 pub mod GivingOut

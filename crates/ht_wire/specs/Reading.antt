@@ -1,12 +1,13 @@
 -- What one call of `next_request` reads: from the bytes that were buffered and those that it took
--- from the source, to the bytes that are buffered after it.
+-- from the source, to the bytes that are buffered after it. It reads on only while no whole head
+-- stands in them.
 use Rattle.std.specs.Prelude.{◌≡◌, ◌⊎◌, ℕ, ◌≤◌, List, [], ◌++◌, Option, Some, None, ⊤}
 use Rattle.ht_outside.specs.Causes.{Rose}
 use Rattle.ht_outside.specs.Tells.{Flow, Takes}
 use Rattle.ht_wire.specs.declared.reading.Next.{Next}
 use Rattle.ht_wire.specs.declared.reading.Next.TheVariants.{Request, End, Refused, ReadFault, Memory}
 use Rattle.ht_wire.specs.declared.request.Request.{Request as OneRequest}
-use Rattle.ht_wire.specs.Heads.{IsEnd, IsCorner}
+use Rattle.ht_wire.specs.Heads.{HasNoHead, IsEnd, IsCorner}
 use Rattle.ht_wire.specs.Requests.{IsRequest, IsRefused, IsRefusalCode, IsSame}
 
 -- the bytes read are all there are, and they are the end of the requests
@@ -24,7 +25,7 @@ abbrev pub Finds : List ℕ → Option Flow → List ℕ → Next → Type 0
 Finds bytes flow new (Request r) = IsRequest bytes r new
 Finds bytes flow new End = (new ≡ bytes) × EndsAt flow bytes
 Finds bytes flow new (Refused code) = (new ≡ bytes) × RefusedAt flow bytes code
-Finds bytes flow new ReadFault = new ≡ bytes
+Finds bytes flow new ReadFault = (new ≡ bytes) × HasNoHead bytes
 Finds bytes flow new Memory = new ≡ bytes
 
 -- the source failed, or there is no memory
@@ -66,12 +67,20 @@ abbrev pub IsExact : Option Flow → List ℕ → Next → Type 0
 IsExact None old next = ⊤
 IsExact (Some flow) old next = IsTrueTo (old ++ flow.left) next
 
+-- no read was made, or the last one where this held of the bytes buffered and those taken before it
+abbrev pub LastReadWhere : (List ℕ → Type 0) → Option Flow → Option Flow → List ℕ → Type 0
+LastReadWhere P None None old = ⊤
+LastReadWhere P None (Some new) old = ⊥
+LastReadWhere P (Some f) None old = ⊥
+LastReadWhere P (Some f) (Some g) old = (g ≡ f) ⊎ ((earlier : List ℕ) × (g.before ≡ f.taken ++ earlier) × P (old ++ earlier))
+
 -- old and new: the bytes buffered before and after
 pub record Reads (f g : Option Flow) (old new : List ℕ) (next : Next) : Type 0 where
   pub taken : List ℕ
   pub takes : Takes f g taken
   pub finds : Finds (old ++ taken) g new next
   pub exact : IsExact f old next
+  pub needed : LastReadWhere HasNoHead f g old
 
 -- the source's count of faults doesn't fall, and it rose where the answer is a fault of it
 pub record HasReadCause (before now : ℕ) (next : Next) : Type 0 where

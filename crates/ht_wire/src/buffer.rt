@@ -1,6 +1,6 @@
 ghost use Rattle.std.specs.Prelude.{◌≡◌, ◌+◌, ◌-◌, ◌<◌, ◌≤◌, [], ◌++◌, length, take, drop, slice_range, IfOk};
 ghost use Rattle.ht_outside.specs.Causes.{HasCause};
-ghost use Rattle.ht_outside.specs.Tells.{ReadTakes};
+ghost use Rattle.ht_outside.specs.Tells.{IsLastRead, ReadTakes};
 ghost use Rattle.ht_wire.specs.Buffer.{Fills, MakesRoom};
 
 use ht_base::Memory;
@@ -68,9 +68,10 @@ impl Buffer {
     /// Reads once, as many bytes as there is room for. 0 is the end.
     pub(crate) fn fill<S: Source>(&mut self, source: &mut S) -> Result<usize, Failed>
         requires { length self.old < 16384 }
-        ensures bytes { Fills (S.flow source.old) (S.flow source.new) self.old self.new result }
+        ensures bytes { Fills (S.source_state source.old).flow (S.source_state source.new).flow self.old self.new result }
+        ensures last { IsLastRead (S.source_state source.old).flow (S.source_state source.new).flow }
         ensures beside { S.beside_source source.new ≡ S.beside_source source.old }
-        ensures cause { HasCause (S.read_faults source.old) (S.read_faults source.new) result }
+        ensures cause { HasCause (S.source_state source.old).faults (S.source_state source.new).faults result }
     {
         make_room(&mut self.bytes, &mut self.start, &mut self.end);
         let count = read_behind(source, &mut self.bytes, self.end)?;
@@ -95,11 +96,12 @@ fn make_room(bytes: &mut Vec<u8>, start: &mut usize, end: &mut usize)
 // Reads to the bytes behind `at`.
 fn read_behind<S: Source>(source: &mut S, bytes: &mut Vec<u8>, at: usize) -> Result<usize, Failed>
     requires { at ≤ length bytes.old.items }
-    ensures bytes { ReadTakes (S.flow source.old) (S.flow source.new) result (drop at bytes.new.items) }
+    ensures bytes { ReadTakes (S.source_state source.old).flow (S.source_state source.new).flow result (drop at bytes.new.items) }
+    ensures last { IsLastRead (S.source_state source.old).flow (S.source_state source.new).flow }
     ensures before { take at bytes.new.items ≡ take at bytes.old.items }
     ensures size { length bytes.new.items ≡ length bytes.old.items }
     ensures beside { S.beside_source source.new ≡ S.beside_source source.old }
-    ensures cause { HasCause (S.read_faults source.old) (S.read_faults source.new) result }
+    ensures cause { HasCause (S.source_state source.old).faults (S.source_state source.new).faults result }
 {
     source.read(&mut bytes[at..])
 }

@@ -1,7 +1,9 @@
-ghost use Rattle.std.specs.Prelude.{◌≡◌, All, IfOk, length, map, take};
+ghost use Rattle.std.specs.Prelude.{◌≡◌, ℕ, List, All, IfOk, length, map, take};
 ghost use Rattle.http_header.specs.Token.{IsToken};
+ghost use Rattle.httparse.specs.Grammar.{RequestHead};
 ghost use Rattle.httparse.specs.Spans.{IsHeaderWithin, IsRequestWithin, IsWithin, header_bytes, span_bytes};
 ghost use Rattle.ht_wire.specs.GivingOut.{GivesOut};
+ghost use Rattle.ht_wire.specs.Heads.{IsHead};
 ghost use Rattle.ht_wire.specs.Reading.{Reads, HasReadCause};
 ghost use Rattle.ht_wire.specs.Requests.{Carries};
 
@@ -40,11 +42,13 @@ pub enum Next {
 
 /// Reads the next request (RFC 9112, sections 2 to 5). Bytes behind it stay in the buffer. A head
 /// has at most 16,384 bytes and 64 fields: more are refused with 431. What is no head, or ends
-/// before one does, is refused with 400, and a head that announces a body with 501.
+/// before one does, is refused with 400, and a head that announces a body with 501. It reads only
+/// while no whole head stands in the bytes that are there.
 pub fn next_request<S: Source>(alloc: Global, source: &mut S, buffer: &mut Buffer) -> Next
-    ensures reads { Reads (S.flow source.old) (S.flow source.new) buffer.old buffer.new result }
+    ensures reads { Reads (S.source_state source.old).flow (S.source_state source.new).flow buffer.old buffer.new result }
+    ensures buffered { (h : RequestHead) (rest : List ℕ) → IsHead buffer.old h rest → source.new ≡ source.old }
     ensures beside { S.beside_source source.new ≡ S.beside_source source.old }
-    ensures cause { HasReadCause (S.read_faults source.old) (S.read_faults source.new) result }
+    ensures cause { HasReadCause (S.source_state source.old).faults (S.source_state source.new).faults result }
 {
     let mut headers = [EMPTY_HEADER_SPAN; ROOM];
     for _ in 0..LOOKS {

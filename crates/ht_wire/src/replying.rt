@@ -19,9 +19,9 @@ pub fn write_reply<K: Sink>(
     last: bool,
 ) -> Result<(), Failed>
     requires { IsReplyStatus status }
-    ensures written { WriteGrows (K.written sink.old) (K.written sink.new) result (reply_bytes status body.now last) }
+    ensures written { WriteGrows (K.sink_state sink.old).written (K.sink_state sink.new).written result (reply_bytes status body.now last) }
     ensures beside { K.beside_sink sink.new ≡ K.beside_sink sink.old }
-    ensures cause { HasCause (K.write_faults sink.old) (K.write_faults sink.new) result }
+    ensures cause { HasCause (K.sink_state sink.old).faults (K.sink_state sink.new).faults result }
 {
     let mut piece = Piece::new();
     put_head(status, body.len(), last, &mut piece);
@@ -34,9 +34,9 @@ pub fn write_reply<K: Sink>(
 
 // By two writes.
 fn write_both<K: Sink>(sink: &mut K, first: &[u8], second: &[u8]) -> Result<(), Failed>
-    ensures written { WriteGrows (K.written sink.old) (K.written sink.new) result (first.now ++ second.now) }
+    ensures written { WriteGrows (K.sink_state sink.old).written (K.sink_state sink.new).written result (first.now ++ second.now) }
     ensures beside { K.beside_sink sink.new ≡ K.beside_sink sink.old }
-    ensures cause { HasCause (K.write_faults sink.old) (K.write_faults sink.new) result }
+    ensures cause { HasCause (K.sink_state sink.old).faults (K.sink_state sink.new).faults result }
 {
     sink.write(first)?;
     sink.write(second)

@@ -1,0 +1,81 @@
+-- A worked run: two requests in, the bytes of two replies out. A wrong reading of a definition fails
+-- the check.
+use Rattle.std.specs.Prelude.{◌≡◌, refl, ℕ, List, [], ◌∷◌, ◌++◌, Some, None, codes}
+use Rattle.std.specs.Fmt.{digits}
+use Rattle.std.proofs.Common.{lit≤, lit<, inl, inr, sym}
+use Rattle.std.proofs.lemmas.List.Elements.{All-nil}
+use Rattle.ht_base.specs.declared.event.Event.{Event}
+use Rattle.ht_base.specs.declared.event.Event.TheVariants.{Ask}
+use Rattle.ht_base.specs.declared.event.Command.TheVariants as command
+use Rattle.ht_base.specs.declared.reply.Answer.TheVariants.{Done}
+use Rattle.ht_base.specs.declared.reply.Reply.{Reply}
+use Rattle.ht_base.specs.declared.state.State.TheVariants.{Ready}
+use Rattle.ht_machine.specs.History.{IsHistory, IsStep}
+use Rattle.ht_tree.specs.Tables.{TablesOf}
+use Rattle.ht_wire.specs.ExampleRequests.{both_stand, first, first_bytes, second, second_bytes}
+use Rattle.ht_wire.specs.Heads.{IsLineByte}
+use Rattle.ht_wire.specs.Replies.{phrase_of, reply_head}
+use Rattle.ht_wire.proofs.PublicLaws.{request_or_end}
+use Rattle.ht_program.specs.declared.ending.Ending.TheVariants as ending
+use Rattle.ht_program.specs.declared.routing.ApiRefusal.TheVariants.{Person}
+use Rattle.ht_program.specs.declared.routing.Form.TheVariants as form
+use Rattle.ht_program.specs.Exchanges.{Exchange, AreExchanges, answered, entries, refused, replies}
+use Rattle.ht_program.specs.Running.{Ran, Streams}
+use Rattle.ht_program.specs.Words.{moment_of}
+
+-- ---- a legal history, and the exchanges
+
+abbrev create : Event
+create = Ask (record { 0 = 2000 }) (codes "p3") (record { 0 = 0 }) (command.Create None)
+
+abbrev created : Reply
+created = record { taken = 0; answer = Done (record { 0 = 1 }) Ready None }
+
+-- the first request makes no event, since it says no person; the second is a create
+abbrev exchanges : TablesOf → List Exchange
+exchanges after =
+    record { request = first; moment = 1000; outcome = refused Person }
+    ∷ record { request = second; moment = 2000; outcome = answered (record { pass = 0; event = create; reply = created; after = after }) }
+    ∷ []
+
+a_legal_history : (t u : TablesOf) → IsStep t create created u → IsHistory t (entries (exchanges u))
+a_legal_history t u step = (step, tt)
+
+two_exchanges : (u : TablesOf) → AreExchanges (moment_of 1000 1000) 0 (exchanges u)
+two_exchanges u = (refl, (form.Create, (refl, refl), refl), (refl, ((form.Create, codes "p3", (refl, refl), refl, refl), refl), tt))
+
+-- ---- the run
+
+abbrev bytes_out : List ℕ
+bytes_out =
+    codes "HTTP/1.1 401 Unauthorized\r\ncontent-type: application/json\r\ncontent-length: 18\r\n\r\n{\"fault\":\"Person\"}"
+    ++ codes "HTTP/1.1 201 Created\r\ncontent-type: application/json\r\ncontent-length: 39\r\nconnection: close\r\n\r\n{\"owner\":null,\"state\":\"Ready\",\"task\":1}"
+
+the_bytes_out : (u : TablesOf) → replies (exchanges u) ≡ bytes_out
+unfolding reply_head phrase_of digits
+the_bytes_out u = refl
+
+-- the input had both requests, and one read took them
+abbrev before : Streams
+before = record {
+  input = record { flow = Some (record { left = first_bytes ++ second_bytes; taken = []; before = [] }); faults = 0 };
+  output = record { written = Some []; faults = 0 };
+}
+
+abbrev after : Streams
+after = record {
+  input = record { flow = Some (record { left = []; taken = first_bytes ++ second_bytes; before = [] }); faults = 0 };
+  output = record { written = Some bytes_out; faults = 0 };
+}
+
+a_run : (t u : TablesOf) → IsStep t create created u → Ran (moment_of 1000 1000) 1048576 t before after ending.Done
+a_run t u step = record {
+  exchanges = exchanges u;
+  after = u;
+  taken = first_bytes ++ second_bytes;
+  takes = record { left = refl; taken = refl };
+  rest = [];
+  serves = record { stand = both_stand; numbered = two_exchanges u; legal = a_legal_history t u step; ends = refl };
+  ends = (inl refl, lit≤ tt, sym (the_bytes_out u));
+  closed = λ _. inr ([], refl, (λ rest whole. request_or_end [] first whole.0 whole.1 (record { short = lit< tt; blank = All-nil IsLineByte })));
+}
