@@ -336,7 +336,7 @@ stripped (b ∷ bs) None h = false_from_ne_true (quote b) (λ is. h bs (ap (λ c
 tells_digits : IsDigitsTest (λ ds. list_all is_ascii_digit ds ≡ true)
 tells_digits = search rules
 
-numerals : IsNumeralModel (λ ds. list_all is_ascii_digit ds ≡ true) (digits_value 10)
+pub numerals : IsNumeralModel (λ ds. list_all is_ascii_digit ds ≡ true) (digits_value 10)
 numerals = numerals_by_value (λ ds. list_all is_ascii_digit ds ≡ true) tells_digits
 
 some_byte : (bs : List ℕ) → is_digits bs ≡ true → 0 < length bs

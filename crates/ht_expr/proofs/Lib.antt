@@ -1,13 +1,23 @@
 mod Answering
+mod Checking
 mod Computing
 mod Examples
 mod Firsts
-mod Grammar
-mod Parsed
+mod Following
+mod Fulfilling
+mod Growing
+mod Heads
+mod Keywords
+mod Listing
+mod Machine
+mod Meanings
+mod Operators
 pub mod PublicLaws
 mod Runs
+mod Sameness
 mod Scanned
 mod Spelling
 mod TokenIn
 mod Uniqueness
 mod Walking
+mod Writing

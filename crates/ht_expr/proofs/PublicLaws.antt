@@ -1,3 +1,3 @@
--- A law of the definitions, for the proofs of crates above: what a text is read to, where its tokens
+-- Laws of the definitions, for the proofs of crates above: what a text is read to, where its tokens
 -- spell a tree.
 pub use Rattle.ht_expr.proofs.Walking.{tree_row}

@@ -1,9 +1,11 @@
 pub mod Assignments
+pub mod Building
 pub mod Examples
 pub mod Expected
+pub mod Keywords
 pub mod Kinds
-pub mod Parsing
 pub mod Reading
 pub mod Scanning
 pub mod Shown
 pub mod Tokens
+pub mod Trees

@@ -1,10 +1,11 @@
 -- What reading a text answers.
-use Rattle.std.specs.Prelude.{◌≡◌, ◌≢◌, ◌⊎◌, ◌<◌, ◌≤◌, ℕ, List, [], ◌∷◌, ◌++◌, ⊤, length, map, Result, Ok, Err}
+use Rattle.std.specs.Prelude.{◌≡◌, ◌≢◌, ◌⊎◌, ◌<◌, ◌≤◌, ℕ, IsTrue, List, [], ◌∷◌, ◌++◌, ⊤, length, map, Result, Ok, Err}
+use Rattle.std.specs.List.{list_all}
+use Rattle.std.specs.Str.{IsUtf8}
 use Rattle.ht_expr.specs.declared.refusal.ExprRefusal.{ExprRefusal}
 use Rattle.ht_expr.specs.declared.refusal.ExprRefusal.TheVariants as refusal
-use Rattle.ht_expr.specs.Tokens.{Token, Placed, AreTokens, HasNoTokenAt}
-use Rattle.ht_expr.specs.Assignments.{Assignment, AreAssignment, HasKinds}
-use Rattle.ht_expr.specs.Kinds.{Declared}
+use Rattle.ht_expr.specs.Tokens.{Token, Placed, number, quoted, word, mark, greatest_number, is_text_byte, is_word, AreTokens, HasNoTokenAt}
+use Rattle.ht_expr.specs.Trees.{Tree, AreTree}
 
 -- the most tokens of a text
 abbrev pub most_tokens : ℕ
@@ -14,9 +15,20 @@ most_tokens = 128
 abbrev pub bare : List Placed → List Token
 bare tokens = map (λ t. t.token) tokens
 
--- some tree is spelled so
-abbrev pub IsText : {T : Type 0} → (List Token → T → Type 0) → List Token → Type 0
-IsText {T} AreTree tokens = (tree : T) × AreTree tokens tree
+-- the token can be written: it has a spelling in UTF-8
+abbrev pub IsWritable : Token → Type 0
+IsWritable (number n) = n ≤ greatest_number
+IsWritable (quoted x) = IsUtf8 x × IsTrue (list_all is_text_byte x)
+IsWritable (word w) = IsTrue (is_word w)
+IsWritable (mark m) = ⊤
+
+abbrev pub AreWritable : List Token → Type 0
+AreWritable [] = ⊤
+AreWritable (t ∷ ts) = IsWritable t × AreWritable ts
+
+-- the tokens are a text of the grammar: they can be written, and are a tree of this level
+abbrev pub IsText : ℕ → List Token → Type 0
+IsText level tokens = AreWritable tokens × ((tree : Tree) × AreTree level tokens tree)
 
 -- these tokens, and perhaps more behind them, are a text of the grammar
 abbrev pub Begins : (List Token → Type 0) → List Token → Type 0
@@ -41,27 +53,19 @@ HasShapeFault IsWhole tokens end at = StopsBefore IsWhole tokens at ⊎ (EndsEar
 abbrev pub HasTokens : List ℕ → List Placed → Type 0
 HasTokens text tokens = AreTokens text tokens × (length tokens ≤ most_tokens)
 
--- the text is this tree of the grammar, and the tree has the kinds that it asks
-abbrev pub IsRead : {T : Type 0} → (List Token → T → Type 0) → (T → Type 0) → List ℕ → T → Type 0
-IsRead AreTree HasItsKinds text tree = (tokens : List Placed) × HasTokens text tokens × AreTree (bare tokens) tree × HasItsKinds tree
-
--- a text is refused so: the first cause, in this order, that it has. Want of memory is free
-abbrev pub IsRefused : {T : Type 0} → (List Token → T → Type 0) → (T → Type 0) → List ℕ → ExprRefusal → Type 0
-IsRefused AreTree HasItsKinds text (refusal.Token at) = HasNoTokenAt text at
-IsRefused AreTree HasItsKinds text refusal.TooLong = (tokens : List Placed) × AreTokens text tokens × (most_tokens < length tokens)
-IsRefused AreTree HasItsKinds text (refusal.Shape at) =
-    (tokens : List Placed) × HasTokens text tokens × HasShapeFault (IsText AreTree) tokens (length text) at
-IsRefused {T} AreTree HasItsKinds text refusal.BadKind =
-    (tokens : List Placed) × (tree : T) × HasTokens text tokens × AreTree (bare tokens) tree × (HasItsKinds tree → ⊥)
-IsRefused AreTree HasItsKinds text refusal.Memory = ⊤
-
--- the text is this assignment, or is refused so
-abbrev pub Reads : List ℕ → Declared → Result Assignment ExprRefusal → Type 0
-Reads text kinds (Ok a) = IsRead AreAssignment (HasKinds kinds) text a
-Reads text kinds (Err e) = IsRefused AreAssignment (HasKinds kinds) text e
+-- the text is this tree, or is refused so: the first cause, in this order, that it has. Want of memory is free, and
+-- kinds are not looked at
+abbrev pub Reads : ℕ → List ℕ → Result Tree ExprRefusal → Type 0
+Reads level text (Ok tree) = (tokens : List Placed) × HasTokens text tokens × AreTree level (bare tokens) tree
+Reads level text (Err (refusal.Token at)) = HasNoTokenAt text at
+Reads level text (Err refusal.TooLong) = (tokens : List Placed) × AreTokens text tokens × (most_tokens < length tokens)
+Reads level text (Err (refusal.Shape at)) =
+    (tokens : List Placed) × HasTokens text tokens × HasShapeFault (IsText level) tokens (length text) at
+Reads level text (Err refusal.BadKind) = ⊥
+Reads level text (Err refusal.Memory) = ⊤
 
 -- whatever else the text is, it is the same, unless one of the two is want of memory
-abbrev pub IsOnly : List ℕ → Declared → Result Assignment ExprRefusal → Type 0
-IsOnly text kinds answer =
-    (other : Result Assignment ExprRefusal) → Reads text kinds other
+abbrev pub IsOnly : ℕ → List ℕ → Result Tree ExprRefusal → Type 0
+IsOnly level text answer =
+    (other : Result Tree ExprRefusal) → Reads level text other
     → answer ≢ Err refusal.Memory → other ≢ Err refusal.Memory → answer ≡ other

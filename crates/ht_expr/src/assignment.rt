@@ -1,9 +1,10 @@
 ghost use Rattle.std.specs.Prelude.{◌≡◌, IfOk};
-ghost use Rattle.ht_expr.specs.Assignments.{is_individual};
+ghost use Rattle.ht_expr.specs.Assignments.{is_individual, is_plain};
 ghost use Rattle.ht_expr.specs.Reading.{IsOnly, Reads};
 ghost use Rattle.ht_expr.specs.Shown.{shown, shown_answer};
+ghost use Rattle.ht_expr.specs.Trees.{an_assignment};
 
-use crate::{ExprRefusal, Kinds, parsing, scanning};
+use crate::{Expr, ExprRefusal, Kinds, building, expected};
 use ht_base::{Memory, Txt};
 use std::alloc::Global;
 
@@ -15,6 +16,8 @@ pub enum Assign {
     Everybody,
     /// The task's initiator.
     Initiator,
+    /// The person whom the input part of this name holds, if it holds one.
+    In(Txt),
     /// The person with this name, if there is one.
     User(Txt),
     /// The members of the group with this name, if there is one.
@@ -25,21 +28,23 @@ pub enum Assign {
     Intersect(Box<Assign>, Box<Assign>),
     /// Who is in the first and not in the second.
     Except(Box<Assign>, Box<Assign>),
+    /// The first assignment where the expression is true, and else the second.
+    When(Box<Expr>, Box<Assign>, Box<Assign>),
 }
 
 impl Assign {
-    /// Reads an assignment from its text: `nobody`, `everybody`, `initiator`, `user('name')`,
-    /// `group('name')`, and `union`, `intersect` or `except` of two assignments, as
-    /// `union(nobody, initiator)`. Blanks may stand between its tokens, of which there are at most
-    /// 128. A name is any text without `'` and without bytes below 32. Of the causes of a refusal
-    /// the first in the order of [`ExprRefusal`] is answered. `kinds` are the parts that the text may
-    /// speak of.
-    pub fn read(alloc: Global, text: &str, kinds: &Kinds) -> Result<Assign, ExprRefusal>
-        ensures reads { Reads text.now kinds.now (shown_answer result) }
-        ensures exact { IsOnly text.now kinds.now (shown_answer result) }
+    /// Reads an assignment from its text: `nobody`, `everybody`, `initiator`, `in.word`,
+    /// `user('name')`, `group('name')`, `union`, `intersect` or `except` of two assignments, as
+    /// `union(nobody, initiator)`, and `when` of an expression and two assignments. Blanks may stand
+    /// between its tokens, of which there are at most 128. A name is any text without `'` and without
+    /// bytes below 32. Of the causes of a refusal the first in the order of [`ExprRefusal`] is
+    /// answered. The kinds of parts and values are not looked at.
+    pub fn read(alloc: Global, text: &str, _kinds: &Kinds) -> Result<Assign, ExprRefusal>
+        ensures reads { Reads an_assignment text.now (shown_answer result) }
+        ensures exact { IsOnly an_assignment text.now (shown_answer result) }
     {
-        let tokens = scanning::tokens(alloc, text)?;
-        parsing::assignment_of(alloc, &tokens, text.len())
+        let tokens = expected::whole_tokens(alloc, text, 9)?;
+        Ok(building::assignment_of(alloc, &tokens)?)
     }
 
     /// Whether the persons are named one by one: neither `group` nor `everybody` stands anywhere in
@@ -48,11 +53,29 @@ impl Assign {
         ensures { result ≡ is_individual (shown self.now) }
     {
         match self {
-            Assign::Nobody | Assign::Initiator | Assign::User(_) => true,
+            Assign::Nobody | Assign::Initiator | Assign::In(_) | Assign::User(_) => true,
             Assign::Everybody | Assign::Group(_) => false,
             Assign::Union(first, second)
             | Assign::Intersect(first, second)
-            | Assign::Except(first, second) => first.individual() && second.individual(),
+            | Assign::Except(first, second)
+            | Assign::When(_, first, second) => first.individual() && second.individual(),
+        }
+    }
+
+    /// Whether it looks at no part and no expression: neither `in` nor `when` stands anywhere in it.
+    pub fn is_plain(&self) -> bool
+        ensures { result ≡ is_plain (shown self.now) }
+    {
+        match self {
+            Assign::In(_) | Assign::When(_, _, _) => false,
+            Assign::Nobody
+            | Assign::Everybody
+            | Assign::Initiator
+            | Assign::User(_)
+            | Assign::Group(_) => true,
+            Assign::Union(first, second)
+            | Assign::Intersect(first, second)
+            | Assign::Except(first, second) => first.is_plain() && second.is_plain(),
         }
     }
 
@@ -64,6 +87,7 @@ impl Assign {
             Assign::Nobody => Ok(Assign::Nobody),
             Assign::Everybody => Ok(Assign::Everybody),
             Assign::Initiator => Ok(Assign::Initiator),
+            Assign::In(name) => Ok(Assign::In(name.copy(alloc)?)),
             Assign::User(name) => Ok(Assign::User(name.copy(alloc)?)),
             Assign::Group(name) => Ok(Assign::Group(name.copy(alloc)?)),
             Assign::Union(first, second) => {
@@ -77,6 +101,11 @@ impl Assign {
             Assign::Except(first, second) => {
                 let first = Box::new(alloc, first.copy(alloc)?)?;
                 Ok(Assign::Except(first, Box::new(alloc, second.copy(alloc)?)?))
+            }
+            Assign::When(test, first, second) => {
+                let test = Box::new(alloc, test.copy(alloc)?)?;
+                let first = Box::new(alloc, first.copy(alloc)?)?;
+                Ok(Assign::When(test, first, Box::new(alloc, second.copy(alloc)?)?))
             }
         }
     }

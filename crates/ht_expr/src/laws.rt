@@ -1,22 +1,22 @@
 //! Laws of reading, for proofs alone: the functions do nothing.
 ghost use Rattle.std.specs.Prelude.{◌≡◌, ◌≢◌, ◌≤◌, ℕ, List, Result, length};
-ghost use Rattle.ht_expr.specs.Assignments.{Assignment, IsWritable, tokens_of};
-ghost use Rattle.ht_expr.specs.Kinds.{Declared};
-ghost use Rattle.ht_expr.specs.Reading.{Reads, most_tokens};
+ghost use Rattle.std.specs.Str.{IsUtf8};
+ghost use Rattle.ht_expr.specs.Reading.{AreWritable, Reads, most_tokens};
+ghost use Rattle.ht_expr.specs.Trees.{Fits, Tree, tokens_of};
 ghost use Rattle.ht_expr.specs.declared.refusal.ExprRefusal.{ExprRefusal};
 
-/// But for want of memory each text has one answer: one tree, or one refusal.
+/// But for want of memory each text has one answer, as an expression and as an assignment, which are
+/// the trees of two levels: one tree, or one refusal.
 pub fn each_text_has_one_answer()
-    ensures tree { (text : List ℕ) (kinds : Declared) (a b : Assignment)
-        → Reads text kinds (Ok a) → Reads text kinds (Ok b) → a ≡ b }
-    ensures one { (text : List ℕ) (kinds : Declared) (a b : Result Assignment ExprRefusal)
-        → Reads text kinds a → Reads text kinds b → a ≢ Err ExprRefusal.Memory → b ≢ Err ExprRefusal.Memory → a ≡ b }
-    ensures some { (text : List ℕ) (kinds : Declared)
-        → (a : Result Assignment ExprRefusal) × Reads text kinds a × (a ≢ Err ExprRefusal.Memory) }
+    ensures tree { (level : ℕ) (text : List ℕ) (a b : Tree) → Reads level text (Ok a) → Reads level text (Ok b) → a ≡ b }
+    ensures one { (level : ℕ) (text : List ℕ) (a b : Result Tree ExprRefusal) → IsUtf8 text
+        → Reads level text a → Reads level text b → a ≢ Err ExprRefusal.Memory → b ≢ Err ExprRefusal.Memory → a ≡ b }
+    ensures some { (level : ℕ) (text : List ℕ) → level ≤ 9 → IsUtf8 text
+        → (a : Result Tree ExprRefusal) × Reads level text a × (a ≢ Err ExprRefusal.Memory) }
 {}
 
-/// Each assignment whose names can be written, of at most 128 tokens, is what some text is read as.
-pub fn each_assignment_has_a_text()
-    ensures { (a : Assignment) (kinds : Declared) → IsWritable a → length (tokens_of a) ≤ most_tokens
-        → (text : List ℕ) × Reads text kinds (Ok a) }
+/// Each tree whose tokens can be written, at most 128, is what some text is read as.
+pub fn each_tree_has_a_text()
+    ensures { (level : ℕ) (a : Tree) → Fits level a → AreWritable (tokens_of a) → length (tokens_of a) ≤ most_tokens
+        → (text : List ℕ) × IsUtf8 text × Reads level text (Ok a) }
 {}

@@ -17,8 +17,8 @@ pub enum ExprRefusal {
     /// end comes too early, it is the text's length.
     #[error("what stands at byte {0} can't stand there")]
     Shape(usize),
-    /// The text speaks of a part that isn't declared, or of a value of another kind. No assignment
-    /// speaks of a part, so [`Assign::read`](crate::Assign::read) doesn't answer it.
+    /// The text speaks of a part that isn't declared, or of a value of another kind. Nothing answers
+    /// it yet.
     #[error("a part that isn't declared, or a value of another kind")]
     BadKind,
     #[error("out of memory")]

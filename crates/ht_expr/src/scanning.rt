@@ -137,7 +137,7 @@ fn mark(text: &str) -> Option<(Token<'_>, &str)>
     ensures { Finds text.now result }
 {
     let mark = Mark::first_of(text.as_bytes())?;
-    let (_, rest) = text.split_at(mark.len());
+    let (_, rest) = text.split_at(mark.as_str().len());
     Some((Token::Mark(mark), rest))
 }
 

@@ -1,5 +1,5 @@
 use crate::{
-    Assign, ExprRefusal, Kinds, Side, each_assignment_has_a_text, each_text_has_one_answer,
+    Assign, Expr, ExprRefusal, Kinds, Side, each_text_has_one_answer, each_tree_has_a_text,
 };
 use ht_base::{Kind, Memory, Name};
 use std::alloc::Global;
@@ -7,6 +7,10 @@ use std::test::Fail;
 
 fn read(alloc: Global, text: &str) -> Result<Assign, ExprRefusal> {
     Assign::read(alloc, text, &Kinds::new(alloc))
+}
+
+fn read_expr(alloc: Global, text: &str) -> Result<Expr, ExprRefusal> {
+    Expr::read(alloc, text, &Kinds::new(alloc))
 }
 
 fn repeated(alloc: Global, text: &str, times: usize) -> Result<String, Fail> {
@@ -42,11 +46,238 @@ fn assignments_are_read(rt: HostRuntime) -> Result<(), Fail> {
         ("user('')", "User(Txt { text: \"\" })"),
         ("user(' a, (b) ')", "User(Txt { text: \" a, (b) \" })"),
         ("group('Büro')", "Group(Txt { text: \"Büro\" })"),
+        ("in.owner", "In(Txt { text: \"owner\" })"),
+        ("in.in", "In(Txt { text: \"in\" })"),
+        (
+            "when(1 < 2 or true, nobody, everybody)",
+            "When(Binary(Or, Binary(Less, Number(1), Number(2)), Truth(true)), Nobody, Everybody)",
+        ),
+        (
+            "when(true, when(false, nobody, in.a), initiator)",
+            "When(Truth(true), When(Truth(false), Nobody, In(Txt { text: \"a\" })), Initiator)",
+        ),
     ];
     for (text, tree) in table {
         let assign = read(rt.alloc(), text)?;
         let shown = format!(in rt.alloc(); "{assign:?}")?;
         assert_eq!(rt; shown.as_str(), tree);
+    }
+    Ok(())
+}
+
+#[test]
+fn expressions_are_read(rt: HostRuntime) -> Result<(), Fail> {
+    let table = [
+        // Each form.
+        ("12", "Number(12)"),
+        ("0012", "Number(12)"),
+        ("9223372036854775807", "Number(9223372036854775807)"),
+        ("'it, (is)'", "Text(Txt { text: \"it, (is)\" })"),
+        ("true", "Truth(true)"),
+        ("false", "Truth(false)"),
+        ("priority", "Priority"),
+        ("initiator", "Initiator"),
+        ("in.amount", "Part(Input, Txt { text: \"amount\" })"),
+        ("out . amount", "Part(Output, Txt { text: \"amount\" })"),
+        ("in.if", "Part(Input, Txt { text: \"if\" })"),
+        ("out.in", "Part(Output, Txt { text: \"in\" })"),
+        ("set(in.set)", "IsSet(Input, Txt { text: \"set\" })"),
+        ("set ( out.a )", "IsSet(Output, Txt { text: \"a\" })"),
+        ("made()", "Count(Made)"),
+        ("finished( )", "Count(Finished)"),
+        ("done()", "Count(Done)"),
+        (
+            "countText('p', 't')",
+            "CountText(Txt { text: \"p\" }, Txt { text: \"t\" })",
+        ),
+        ("countTrue('p')", "CountTrue(Txt { text: \"p\" })"),
+        ("(1)", "Brackets(Number(1))"),
+        ("-1", "Negative(Number(1))"),
+        ("not true", "Not(Truth(true))"),
+        ("if 1 then 2 else 3", "If(Number(1), Number(2), Number(3))"),
+        // Each level beside its neighbour.
+        (
+            "1 - 2 - 3",
+            "Binary(Minus, Binary(Minus, Number(1), Number(2)), Number(3))",
+        ),
+        (
+            "1 * 2 * 3",
+            "Binary(Times, Binary(Times, Number(1), Number(2)), Number(3))",
+        ),
+        (
+            "1 or 2 or 3",
+            "Binary(Or, Binary(Or, Number(1), Number(2)), Number(3))",
+        ),
+        (
+            "1 and 2 and 3",
+            "Binary(And, Binary(And, Number(1), Number(2)), Number(3))",
+        ),
+        (
+            "1 - (2 - 3)",
+            "Binary(Minus, Number(1), Brackets(Binary(Minus, Number(2), Number(3))))",
+        ),
+        ("- - 1", "Negative(Negative(Number(1)))"),
+        ("--1", "Negative(Negative(Number(1)))"),
+        ("- 1 * 2", "Binary(Times, Negative(Number(1)), Number(2))"),
+        ("1 * -2", "Binary(Times, Number(1), Negative(Number(2)))"),
+        ("1 - -2", "Binary(Minus, Number(1), Negative(Number(2)))"),
+        (
+            "1 + 2 * 3",
+            "Binary(Plus, Number(1), Binary(Times, Number(2), Number(3)))",
+        ),
+        (
+            "1 * 2 + 3",
+            "Binary(Plus, Binary(Times, Number(1), Number(2)), Number(3))",
+        ),
+        (
+            "1 < 2 + 3",
+            "Binary(Less, Number(1), Binary(Plus, Number(2), Number(3)))",
+        ),
+        (
+            "1 + 2 >= 3",
+            "Binary(GreaterOrEqual, Binary(Plus, Number(1), Number(2)), Number(3))",
+        ),
+        ("1<=2", "Binary(LessOrEqual, Number(1), Number(2))"),
+        ("1 != 2", "Binary(NotEqual, Number(1), Number(2))"),
+        ("1 > 2", "Binary(Greater, Number(1), Number(2))"),
+        (
+            "not in.a == in.b",
+            "Not(Binary(Equal, Part(Input, Txt { text: \"a\" }), Part(Input, Txt { text: \"b\" })))",
+        ),
+        ("not not 1", "Not(Not(Number(1)))"),
+        ("not 1 and 2", "Binary(And, Not(Number(1)), Number(2))"),
+        ("1 and not 2", "Binary(And, Number(1), Not(Number(2)))"),
+        (
+            "1 or 2 and 3",
+            "Binary(Or, Number(1), Binary(And, Number(2), Number(3)))",
+        ),
+        (
+            "1 and 2 or 3",
+            "Binary(Or, Binary(And, Number(1), Number(2)), Number(3))",
+        ),
+        (
+            "if 1 or 2 then 3 else 4 or 5",
+            "If(Binary(Or, Number(1), Number(2)), Number(3), Binary(Or, Number(4), Number(5)))",
+        ),
+        (
+            "if 1 then if 2 then 3 else 4 else if 5 then 6 else 7",
+            "If(Number(1), If(Number(2), Number(3), Number(4)), If(Number(5), Number(6), Number(7)))",
+        ),
+        (
+            "1 + (if 2 then 3 else 4)",
+            "Binary(Plus, Number(1), Brackets(If(Number(2), Number(3), Number(4))))",
+        ),
+        (
+            "1 + 2 < 3 * 4 and true or false",
+            "Binary(Or, Binary(And, Binary(Less, Binary(Plus, Number(1), Number(2)), Binary(Times, Number(3), Number(4))), Truth(true)), Truth(false))",
+        ),
+    ];
+    for (text, tree) in table {
+        let expr = read_expr(rt.alloc(), text)?;
+        let shown = format!(in rt.alloc(); "{expr:?}")?;
+        assert_eq!(rt; shown.as_str(), tree, "{text}");
+        let copy = expr.copy(rt.alloc())?;
+        let shown = format!(in rt.alloc(); "{copy:?}")?;
+        assert_eq!(rt; shown.as_str(), tree, "{text}");
+    }
+    Ok(())
+}
+
+#[test]
+fn other_texts_are_no_expressions(rt: HostRuntime) {
+    let table = [
+        ("1 $ 2", ExprRefusal::Token(2)),
+        ("1\t+ 2", ExprRefusal::Token(1)),
+        ("'a\u{1f}b'", ExprRefusal::Token(0)),
+        ("9223372036854775808", ExprRefusal::Token(0)),
+        ("1 = 2", ExprRefusal::Token(2)),
+        ("1 +", ExprRefusal::Shape(3)),
+        ("1 == 2 == 3", ExprRefusal::Shape(7)),
+        ("1 < 2 >= 3", ExprRefusal::Shape(6)),
+        ("1 == not 2", ExprRefusal::Shape(5)),
+        ("1 + not 2", ExprRefusal::Shape(4)),
+        ("- not 1", ExprRefusal::Shape(2)),
+        ("1 + if 2 then 3 else 4", ExprRefusal::Shape(4)),
+        ("not if 1 then 2 else 3", ExprRefusal::Shape(4)),
+        ("1 or if 2 then 3 else 4", ExprRefusal::Shape(5)),
+        ("if 1 then 2 then 3", ExprRefusal::Shape(12)),
+        ("1 2", ExprRefusal::Shape(2)),
+        ("* 1", ExprRefusal::Shape(0)),
+        ("(1))", ExprRefusal::Shape(3)),
+        ("()", ExprRefusal::Shape(1)),
+        ("a", ExprRefusal::Shape(0)),
+        ("In.a", ExprRefusal::Shape(0)),
+        ("in.1", ExprRefusal::Shape(3)),
+        ("in a", ExprRefusal::Shape(3)),
+        ("set(1)", ExprRefusal::Shape(4)),
+        ("set(initiator)", ExprRefusal::Shape(4)),
+        ("made(1)", ExprRefusal::Shape(5)),
+        ("countTrue(in.a)", ExprRefusal::Shape(10)),
+        ("countText('a')", ExprRefusal::Shape(13)),
+        ("nobody", ExprRefusal::Shape(0)),
+        ("when(true, 1, 2)", ExprRefusal::Shape(0)),
+        ("user('anna')", ExprRefusal::Shape(0)),
+    ];
+    for (text, expected) in table {
+        match read_expr(rt.alloc(), text) {
+            Ok(expr) => assert!(rt; false, "{text:?} is {expr:?}"),
+            Err(refusal) => assert_eq!(rt; refusal, expected, "{text:?}"),
+        }
+    }
+}
+
+// Of each text the front ends too early where it is cut behind a token, at the front's length.
+#[test]
+fn cut_texts_end_too_early(rt: HostRuntime) -> Result<(), Fail> {
+    let expressions = [
+        "set | ( | in | . | a | )",
+        "made | ( | )",
+        "countText | ( | 'p' | , | 't' | )",
+        "countTrue | ( | 'p' | )",
+        "( | 1 | )",
+        "- | 1",
+        "not | true",
+        "in | . | a",
+        "if | 1 | then | 2 | else | 3",
+    ];
+    for text in expressions {
+        let mut front = String::new(rt.alloc());
+        for token in text.split(" | ") {
+            if !front.as_str().is_empty() {
+                assert_eq!(rt;
+                    read_expr(rt.alloc(), front.as_str()).err(),
+                    Some(ExprRefusal::Shape(front.len())),
+                    "{text}"
+                );
+                front.push_str(" ")?;
+            }
+            front.push_str(token)?;
+        }
+        assert!(rt; read_expr(rt.alloc(), front.as_str()).is_ok(), "{text}");
+    }
+    let assignments = [
+        "in | . | a",
+        "user | ( | 'a' | )",
+        "group | ( | 'a' | )",
+        "union | ( | nobody | , | everybody | )",
+        "intersect | ( | nobody | , | everybody | )",
+        "except | ( | nobody | , | everybody | )",
+        "when | ( | true | , | nobody | , | everybody | )",
+    ];
+    for text in assignments {
+        let mut front = String::new(rt.alloc());
+        for token in text.split(" | ") {
+            if !front.as_str().is_empty() {
+                assert_eq!(rt;
+                    read(rt.alloc(), front.as_str()).err(),
+                    Some(ExprRefusal::Shape(front.len())),
+                    "{text}"
+                );
+                front.push_str(" ")?;
+            }
+            front.push_str(token)?;
+        }
+        assert!(rt; read(rt.alloc(), front.as_str()).is_ok(), "{text}");
     }
     Ok(())
 }
@@ -78,8 +309,14 @@ fn other_texts_are_refused(rt: HostRuntime) {
         ("group('Büro' nobody)", ExprRefusal::Shape(14)),
         ("  <= ", ExprRefusal::Shape(2)),
         ("user('a') == user('b')", ExprRefusal::Shape(10)),
-        ("union(in.owner, nobody)", ExprRefusal::Shape(6)),
-        ("when(true, nobody, everybody)", ExprRefusal::Shape(0)),
+        ("union(out.owner, nobody)", ExprRefusal::Shape(6)),
+        ("union(in.owner.name, nobody)", ExprRefusal::Shape(14)),
+        ("in.'owner'", ExprRefusal::Shape(3)),
+        ("when(nobody, nobody, everybody)", ExprRefusal::Shape(5)),
+        ("when(true, true, everybody)", ExprRefusal::Shape(11)),
+        ("when(true)", ExprRefusal::Shape(9)),
+        ("true", ExprRefusal::Shape(0)),
+        ("initiator == initiator", ExprRefusal::Shape(10)),
         // The end comes too early.
         ("", ExprRefusal::Shape(0)),
         ("   ", ExprRefusal::Shape(3)),
@@ -146,6 +383,10 @@ fn groups_and_everybody_are_not_individual(rt: HostRuntime) -> Result<(), Fail> 
         ("everybody", false),
         ("group('clerks')", false),
         ("union(user('anna'), initiator)", true),
+        ("in.owner", true),
+        ("when(true, in.owner, nobody)", true),
+        ("when(true, in.owner, everybody)", false),
+        ("when(true, group('clerks'), nobody)", false),
         ("union(user('anna'), group('clerks'))", false),
         ("except(everybody, user('anna'))", false),
         (
@@ -217,6 +458,6 @@ fn refusals_say_where(rt: HostRuntime) -> Result<(), Fail> {
         assert_eq!(rt; shown.as_str(), text);
     }
     each_text_has_one_answer();
-    each_assignment_has_a_text();
+    each_tree_has_a_text();
     Ok(())
 }

@@ -3,7 +3,7 @@ ghost use Rattle.ht_expr.specs.Scanning.{mark_in};
 ghost use Rattle.ht_expr.specs.Tokens.{mark_bytes};
 
 /// A token that is one or two signs.
-#[derive(Clone, Copy, Debug, PartialEq, Eq)]
+#[derive(Clone, Copy, Debug)]
 pub(crate) enum Mark {
     Open,
     Close,
@@ -44,13 +44,23 @@ impl Mark {
         }
     }
 
-    /// How many signs it has.
-    pub(crate) fn len(self) -> usize
-        ensures { result ≡ length (mark_bytes self) }
+    pub(crate) fn as_str(self) -> &'static str
+        ensures { result.now ≡ mark_bytes self }
     {
         match self {
-            Mark::Equal | Mark::NotEqual | Mark::LessOrEqual | Mark::GreaterOrEqual => 2,
-            _ => 1,
+            Mark::Open => "(",
+            Mark::Close => ")",
+            Mark::Comma => ",",
+            Mark::Dot => ".",
+            Mark::Plus => "+",
+            Mark::Minus => "-",
+            Mark::Times => "*",
+            Mark::Equal => "==",
+            Mark::NotEqual => "!=",
+            Mark::Less => "<",
+            Mark::LessOrEqual => "<=",
+            Mark::Greater => ">",
+            Mark::GreaterOrEqual => ">=",
         }
     }
 }

@@ -1,11 +1,12 @@
 -- What the built-in text reads to.
-use Rattle.std.proofs.Common.{◌≡◌, ◌≢◌, ◌⊎◌, inl, inr, Result, Ok, Err, List, [], ◌∷◌, Some, None, codes, ap, refl}
+use Rattle.std.proofs.Common.{arith, ◌≡◌, ◌≢◌, ◌⊎◌, inl, inr, Result, Ok, Err, List, [], ◌∷◌, Some, None, codes, ap, refl}
 use Rattle.std.specs.Str.{IsUtf8}
 use lib.Utf8.{encode}
 use Rattle.toml.specs.Data.{Members, array, item, member, no_items, no_members, string, table}
 use Rattle.toml.specs.Parse.{parse_document}
 use Rattle.toml.proofs.OnLiterals.{toml_on_literals}
 use Rattle.ht_expr.specs.Assignments.{everybody}
+use Rattle.ht_expr.specs.Trees.{an_assignment}
 use Rattle.ht_expr.proofs.PublicLaws.{tree_row}
 use Rattle.ht_models.specs.declared.refusal.ModelsRefusal.{ModelsRefusal}
 use Rattle.ht_models.specs.declared.refusal.ModelsRefusal.TheVariants.{Syntax, Field, Twice, UnknownModel, Cycle, Expression, Limit, Contradiction, Memory}
@@ -46,7 +47,7 @@ shape = (document, (is_text, is_read), refl)
 model : IsModel entry unit
 model = record {
   name = refl;
-  potential_owners = (tree_row (codes "everybody") [] everybody refl refl refl).reads;
+  potential_owners = ((tree_row an_assignment (codes "everybody") everybody (omega arith, omega arith, tt) refl refl refl).reads, refl);
   excluded_owners = refl;
   administrators = refl;
   stakeholders = refl;

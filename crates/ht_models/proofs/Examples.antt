@@ -7,6 +7,7 @@ use Rattle.toml.proofs.OnLiterals.{toml_on_literals}
 use Rattle.toml.specs.Data.{Members, array, item, member, no_items, no_members, string, table}
 use Rattle.ht_base.specs.Places.{IsLeast, IsRepeated}
 use Rattle.ht_expr.specs.Assignments.{user}
+use Rattle.ht_expr.specs.Trees.{an_assignment}
 use Rattle.ht_expr.proofs.PublicLaws.{tree_row}
 use Rattle.ht_models.specs.declared.refusal.ModelsRefusal.TheVariants.{Field, Twice}
 use Rattle.ht_models.specs.Model.{ModelOf}
@@ -64,9 +65,9 @@ shut_shape = (shut_document, (shut_is_text, shut_is_read), refl)
 shut_model : IsModel shut_entry shut
 shut_model = record {
   name = refl;
-  potential_owners = (tree_row (codes "user('anna')") [] (user (codes "anna")) refl refl refl).reads;
-  excluded_owners = (tree_row (codes "user('anna')") [] (user (codes "anna")) refl refl refl).reads;
-  administrators = (tree_row (codes "user('cora')") [] (user (codes "cora")) refl refl refl).reads;
+  potential_owners = ((tree_row an_assignment (codes "user('anna')") (user (codes "anna")) (omega arith, omega arith, tt) refl refl refl).reads, refl);
+  excluded_owners = ((tree_row an_assignment (codes "user('anna')") (user (codes "anna")) (omega arith, omega arith, tt) refl refl refl).reads, refl);
+  administrators = ((tree_row an_assignment (codes "user('cora')") (user (codes "cora")) (omega arith, omega arith, tt) refl refl refl).reads, refl);
   stakeholders = refl;
   size = refl;
 }

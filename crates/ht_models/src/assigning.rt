@@ -1,6 +1,6 @@
 ghost use Rattle.std.specs.Prelude.{◌≡◌, ◌≢◌, IfErr, IfOk, Some, map, option_map};
 ghost use Rattle.ht_expr.specs.Shown.{shown};
-ghost use Rattle.ht_models.specs.Assigning.{HasRefused, IsRefused, no_parts};
+ghost use Rattle.ht_models.specs.Assigning.{HasRefused, IsRefused};
 ghost use Rattle.ht_models.specs.Assigning.{Spells, SpellsIfAny, SpellsOrNobody};
 ghost use Rattle.ht_models.specs.Passes.{IsTheOne, TellsExpression};
 ghost use Rattle.ht_models.specs.Reading.{AreModels, IsModel};
@@ -58,7 +58,6 @@ fn assignment_or_nobody(
     text: &Option<Txt>,
     kinds: &Kinds,
 ) -> Result<Assign, ExprRefusal>
-    requires { kinds.now ≡ no_parts }
     ensures ok { IfOk result (λ a. IsTheOne (SpellsOrNobody text.now) (shown a)) }
     ensures refused { IfErr result (λ e. e ≢ ExprRefusal.Memory → IsRefused text.now) }
 {
@@ -74,7 +73,6 @@ fn assignment_if_any(
     text: &Option<Txt>,
     kinds: &Kinds,
 ) -> Result<Option<Assign>, ExprRefusal>
-    requires { kinds.now ≡ no_parts }
     ensures ok { IfOk result (λ a. IsTheOne (SpellsIfAny text.now) (option_map shown a)) }
     ensures refused { IfErr result (λ e. e ≢ ExprRefusal.Memory → IsRefused text.now) }
 {
@@ -84,10 +82,15 @@ fn assignment_if_any(
     }
 }
 
+// A model has no inputs and its expressions have no values yet, so one that looks at them is refused.
 fn assignment(alloc: Global, text: &str, kinds: &Kinds) -> Result<Assign, ExprRefusal>
-    requires { kinds.now ≡ no_parts }
     ensures ok { IfOk result (λ a. IsTheOne (Spells text.now) (shown a)) }
     ensures refused { IfErr result (λ e. e ≢ ExprRefusal.Memory → IsRefused (Some text.now)) }
 {
-    Assign::read(alloc, text, kinds)
+    let assign = Assign::read(alloc, text, kinds)?;
+    if assign.is_plain() {
+        Ok(assign)
+    } else {
+        Err(ExprRefusal::BadKind)
+    }
 }

@@ -217,6 +217,10 @@ fn texts_that_are_no_assignments_are_refused(rt: HostRuntime) {
             "model = [{name = 'a'}, {name = 'b', stakeholders = 'in.boss'}]",
             ModelsRefusal::Expression(1),
         ),
+        (
+            "model = [{name = 'a'}, {name = 'b', stakeholders = 'union(nobody, when(true, nobody, in.boss))'}]",
+            ModelsRefusal::Expression(1),
+        ),
     ];
     are_refused(&rt, rt.alloc(), &table);
 }

@@ -3,7 +3,7 @@
 use Rattle.std.specs.Prelude.{ℕ, ◌==◌, Bool, true, false, not, ◌&&◌, ◌||◌, List, filter, Option}
 use Rattle.std.specs.Option.{option_and_then, option_map_or}
 use Rattle.ht_base.specs.Name.{name_of}
-use Rattle.ht_expr.specs.Assignments.{Assignment, nobody, everybody, initiator, user, group, union, intersect, except}
+use Rattle.ht_expr.specs.Assignments.{Assignment, nobody, everybody, initiator, part, user, group, union, intersect, except, when}
 use Rattle.ht_people.specs.Directory.{DirectoryOf, find}
 use Rattle.ht_people.specs.Membership as people
 use Rattle.ht_people.specs.Membership.{is_member}
@@ -12,7 +12,8 @@ use Rattle.ht_people.specs.Membership.{is_member}
 abbrev pub find_user : List ℕ → DirectoryOf → Option ℕ
 find_user text d = option_and_then (λ name. find name d) (name_of text)
 
--- the person is found, for a task with this initiator
+-- The person is found, for a task with this initiator. No model that was read has an assignment with
+-- a part or a `when`; the other trees are expressions, and find nobody.
 abbrev pub is_found : DirectoryOf → ℕ → Assignment → ℕ → Bool
 is_found d creator nobody person = false
 is_found d creator everybody person = true
@@ -22,6 +23,9 @@ is_found d creator (group text) person = option_map_or (λ name. is_member d nam
 is_found d creator (union a b) person = is_found d creator a person || is_found d creator b person
 is_found d creator (intersect a b) person = is_found d creator a person && is_found d creator b person
 is_found d creator (except a b) person = is_found d creator a person && not (is_found d creator b person)
+is_found d creator (part side name) person = false
+is_found d creator (when test a b) person = false
+is_found d creator _ person = false
 
 -- all of them
 abbrev pub resolved : DirectoryOf → ℕ → Assignment → List ℕ

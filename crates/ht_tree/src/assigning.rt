@@ -52,6 +52,9 @@ pub(crate) fn found(
 {
     match assign {
         Assign::Nobody => Ok(Persons::new(alloc)),
+        // No model that was read has one of these: they come with inputs and values.
+        Assign::In(_) => Ok(Persons::new(alloc)),
+        Assign::When(_, _, _) => Ok(Persons::new(alloc)),
         Assign::Everybody => everybody(alloc, people),
         Assign::Initiator => alone(alloc, env.initiator),
         Assign::User(text) => persons_named(alloc, people, text.as_str()),

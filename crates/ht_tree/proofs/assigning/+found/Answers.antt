@@ -32,6 +32,12 @@ returns-in-Initiator t c =
     select_one (is_found d i initiator) (length d.persons) i c.requires (λ p. refl) ∙ ap (λ (a : Assign). resolved d i (shown a)) (sym c.in-Initiator.is) in
     if_ok (λ (l : List ℕ). l ≡ i ∷ []) (λ (l : List ℕ). l ≡ resolved d i (shown c.args.assign.now)) c.alone.result (λ l e. e ∙ one) c.alone.ensures
 
+pub returns-in-In : goal.returns-in-In
+returns-in-In t c = c.new-in-In.ensures ∙ select_none (is_found c.args.people.now c.args.env.now.initiator (shown c.args.assign.now)) (people.everybody c.args.people.now) (λ p. rw c.in-In.is refl)
+
+pub returns-in-When : goal.returns-in-When
+returns-in-When t c = c.new-in-When.ensures ∙ select_none (is_found c.args.people.now c.args.env.now.initiator (shown c.args.assign.now)) (people.everybody c.args.people.now) (λ p. rw c.in-When.is refl)
+
 pub returns-in-User : goal.returns-in-User
 returns-in-User t c =
     let d = c.args.people.now in

@@ -1,0 +1,36 @@
+-- What the functions that build a tree promise one another.
+use Rattle.std.specs.Prelude.{◌≡◌, ◌+◌, ◌<◌, ◌≤◌, ℕ, List, length, [], ◌∷◌, ◌++◌, drop, map}
+use Rattle.ht_expr.specs.declared.building.Both.{Both}
+use Rattle.ht_expr.specs.declared.building.Read.{Read}
+use Rattle.ht_expr.specs.declared.building.ReadAssign.{ReadAssign}
+use Rattle.ht_expr.specs.declared.token.Mark.TheVariants.{Open, Close, Comma}
+use Rattle.ht_expr.specs.declared.token.Placed.{Placed as BorrowedPlaced}
+use Rattle.ht_expr.specs.Scanning.{seen}
+use Rattle.ht_expr.specs.Shown.{shown, shown_expr}
+use Rattle.ht_expr.specs.Tokens.{Token, mark}
+use Rattle.ht_expr.specs.Trees.{Fits, Holds, least, most, tokens_of}
+
+-- the tokens of a text
+abbrev pub all : List BorrowedPlaced → List Token
+all tokens = map (λ t. seen t.token) tokens
+
+-- from this place on stand these tokens, and then those from another place on
+abbrev pub Spans : List BorrowedPlaced → ℕ → List Token → ℕ → Type 0
+Spans tokens at spelled next = (at + 1 ≤ next) × (next ≤ length tokens) × (drop at (all tokens) ≡ spelled ++ drop next (all tokens))
+
+-- at this place stands this token
+abbrev pub IsAt : List BorrowedPlaced → ℕ → Token → Type 0
+IsAt tokens at token = (at < length tokens) × (drop at (all tokens) ≡ token ∷ drop (at + 1) (all tokens))
+
+-- an expression was read where this level was asked for
+abbrev pub ReadsExpression : List BorrowedPlaced → ℕ → ℕ → Read → Type 0
+ReadsExpression tokens at p r = let e = shown_expr r.expr in
+    Spans tokens at (tokens_of e) r.next × (p ≤ r.level) × (r.level ≡ most e) × (least e ≡ 0) × Holds e
+
+abbrev pub ReadsAssignment : List BorrowedPlaced → ℕ → ReadAssign → Type 0
+ReadsAssignment tokens at r = Spans tokens at (tokens_of (shown r.assign)) r.next × Fits 9 (shown r.assign)
+
+-- two assignments in brackets
+abbrev pub ReadsOperands : List BorrowedPlaced → ℕ → Both → Type 0
+ReadsOperands tokens at r = let a = shown r.first.value in let b = shown r.second.value in
+    Spans tokens at (mark Open ∷ (tokens_of a ++ (mark Comma ∷ (tokens_of b ++ (mark Close ∷ []))))) r.next × Fits 9 a × Fits 9 b

@@ -1,0 +1,444 @@
+//! Builds the trees of whole texts. Where tokens are none, what is answered says nothing.
+ghost use Rattle.std.specs.Prelude.{◌≡◌, ◌+◌, ◌≤◌, [], ◌∷◌, ◌++◌, IfOk, IfSome};
+ghost use Rattle.ht_expr.specs.Building.{IsAt, ReadsAssignment, ReadsExpression, ReadsOperands, Spans, all};
+ghost use Rattle.ht_expr.specs.Keywords.{said};
+ghost use Rattle.ht_expr.specs.declared.keyword.Keyword.TheVariants as keyword;
+ghost use Rattle.ht_expr.specs.declared.token.Mark.TheVariants.{Open, Close, Dot};
+ghost use Rattle.ht_expr.specs.Scanning.{seen};
+ghost use Rattle.ht_expr.specs.Shown.{shown, shown_expr};
+ghost use Rattle.ht_expr.specs.Tokens.{mark, quoted, word};
+ghost use Rattle.ht_expr.specs.Trees.{an_assignment, an_expression, AreTree, count_word, side_word};
+
+use crate::expected::{is_said, is_sign, operator_for};
+use crate::keyword::Keyword;
+use crate::token::{Mark, Placed, Token};
+use crate::{Assign, Count, Expr, Side};
+use ht_base::{Memory, Txt};
+use std::alloc::Global;
+
+/// The expression that these tokens are.
+pub(crate) fn expression_of(alloc: Global, tokens: &[Placed<'_>]) -> Result<Expr, Memory>
+    ensures { IfOk result (λ e. AreTree an_expression (all tokens.now) (shown_expr e)) }
+{
+    let read = expression(alloc, tokens, 0, 0)?;
+    if read.next < tokens.len() {
+        return Err(Memory);
+    }
+    Ok(read.expr)
+}
+
+/// The assignment that these tokens are.
+pub(crate) fn assignment_of(alloc: Global, tokens: &[Placed<'_>]) -> Result<Assign, Memory>
+    ensures { IfOk result (λ a. AreTree an_assignment (all tokens.now) (shown a)) }
+{
+    let read = assignment(alloc, tokens, 0)?;
+    if read.next < tokens.len() {
+        return Err(Memory);
+    }
+    Ok(read.assign)
+}
+
+/// What was read, the highest level where it may stand, and the place of the next token.
+#[derive(Drop)]
+struct Read {
+    expr: Expr,
+    level: u8,
+    next: usize,
+}
+
+#[derive(Drop)]
+struct ReadAssign {
+    assign: Assign,
+    next: usize,
+}
+
+// An operand, and operators of this level or more with their right operands.
+#[cycle(expressions)]
+fn expression(alloc: Global, tokens: &[Placed<'_>], at: usize, level: u8) -> Result<Read, Memory>
+    requires { level ≤ 7 }
+    ensures { IfOk result (λ r. ReadsExpression tokens.now at level r) }
+{
+    let mut read = operand(alloc, tokens, at, level)?;
+    while read.next < tokens.len() {
+        let Some(operator) = operator_for(level, read.level, tokens[read.next].token) else {
+            break;
+        };
+        let own = operator.level();
+        let right = expression(alloc, tokens, read.next + 1, own + 1)?;
+        let left = Box::new(alloc, read.expr)?;
+        read = Read {
+            expr: Expr::Binary(operator, left, Box::new(alloc, right.expr)?),
+            level: own,
+            next: right.next,
+        };
+    }
+    Ok(read)
+}
+
+#[cycle(expressions)]
+fn operand(alloc: Global, tokens: &[Placed<'_>], at: usize, level: u8) -> Result<Read, Memory>
+    requires { level ≤ 7 }
+    ensures { IfOk result (λ r. ReadsExpression tokens.now at level r) }
+{
+    let Some(first) = token_at(tokens, at) else {
+        return Err(Memory);
+    };
+    match first {
+        Token::Number(number) => Ok(Read {
+            expr: Expr::Number(number),
+            level: 8,
+            next: at + 1,
+        }),
+        Token::Quoted(text) => Ok(Read {
+            expr: Expr::Text(Txt::of(alloc, text)?),
+            level: 8,
+            next: at + 1,
+        }),
+        Token::Word(text) => match Keyword::of(text) {
+            Some(keyword) => worded(alloc, tokens, at, level, keyword),
+            None => Err(Memory),
+        },
+        Token::Mark(Mark::Minus) => {
+            let operand = expression(alloc, tokens, at + 1, 7)?;
+            Ok(Read {
+                expr: Expr::Negative(Box::new(alloc, operand.expr)?),
+                level: 7,
+                next: operand.next,
+            })
+        }
+        Token::Mark(Mark::Open) => {
+            let inner = expression(alloc, tokens, at + 1, 0)?;
+            Ok(Read {
+                next: sign(tokens, inner.next, Mark::Close)?,
+                expr: Expr::Brackets(Box::new(alloc, inner.expr)?),
+                level: 8,
+            })
+        }
+        Token::Mark(_) => Err(Memory),
+    }
+}
+
+// An operand that begins with a keyword.
+#[cycle(expressions)]
+fn worded(
+    alloc: Global,
+    tokens: &[Placed<'_>],
+    at: usize,
+    level: u8,
+    keyword: Keyword,
+) -> Result<Read, Memory>
+    requires level { level ≤ 7 }
+    requires word { IsAt tokens.now at (said keyword) }
+    ensures { IfOk result (λ r. ReadsExpression tokens.now at level r) }
+{
+    match keyword {
+        Keyword::Not => {
+            if 3 < level {
+                return Err(Memory);
+            }
+            let operand = expression(alloc, tokens, at + 1, 3)?;
+            Ok(Read {
+                expr: Expr::Not(Box::new(alloc, operand.expr)?),
+                level: 3,
+                next: operand.next,
+            })
+        }
+        Keyword::If => {
+            if 0 < level {
+                return Err(Memory);
+            }
+            let test = expression(alloc, tokens, at + 1, 0)?;
+            let next = behind(tokens, test.next, "then")?;
+            let then = expression(alloc, tokens, next, 0)?;
+            let next = behind(tokens, then.next, "else")?;
+            let other = expression(alloc, tokens, next, 0)?;
+            let test = Box::new(alloc, test.expr)?;
+            let then = Box::new(alloc, then.expr)?;
+            Ok(Read {
+                expr: Expr::If(test, then, Box::new(alloc, other.expr)?),
+                level: 0,
+                next: other.next,
+            })
+        }
+        _ => atom(alloc, tokens, at, keyword),
+    }
+}
+
+// An operand that begins with a keyword and holds no other.
+fn atom(alloc: Global, tokens: &[Placed<'_>], at: usize, keyword: Keyword) -> Result<Read, Memory>
+    requires { IsAt tokens.now at (said keyword) }
+    ensures { IfOk result (λ r. ReadsExpression tokens.now at 7 r) }
+{
+    let next = at + 1;
+    match keyword {
+        Keyword::True => Ok(Read {
+            expr: Expr::Truth(true),
+            level: 8,
+            next,
+        }),
+        Keyword::False => Ok(Read {
+            expr: Expr::Truth(false),
+            level: 8,
+            next,
+        }),
+        Keyword::Priority => Ok(Read {
+            expr: Expr::Priority,
+            level: 8,
+            next,
+        }),
+        Keyword::Initiator => Ok(Read {
+            expr: Expr::Initiator,
+            level: 9,
+            next,
+        }),
+        Keyword::In => {
+            let (name, next) = name(alloc, tokens, next)?;
+            Ok(Read {
+                expr: Expr::Part(Side::Input, name),
+                level: 9,
+                next,
+            })
+        }
+        Keyword::Out => {
+            let (name, next) = name(alloc, tokens, next)?;
+            Ok(Read {
+                expr: Expr::Part(Side::Output, name),
+                level: 8,
+                next,
+            })
+        }
+        Keyword::Set => is_set(alloc, tokens, at),
+        Keyword::Made => counted(tokens, at, Count::Made),
+        Keyword::Finished => counted(tokens, at, Count::Finished),
+        Keyword::Done => counted(tokens, at, Count::Done),
+        Keyword::CountText => count_text(alloc, tokens, at),
+        Keyword::CountTrue => {
+            let (part, next) = text(alloc, tokens, next)?;
+            Ok(Read {
+                expr: Expr::CountTrue(part),
+                level: 8,
+                next,
+            })
+        }
+        _ => Err(Memory),
+    }
+}
+
+fn counted(tokens: &[Placed<'_>], at: usize, count: Count) -> Result<Read, Memory>
+    requires { IsAt tokens.now at (said (count_word count)) }
+    ensures { IfOk result (λ r. ReadsExpression tokens.now at 7 r) }
+{
+    let next = sign(tokens, at + 1, Mark::Open)?;
+    Ok(Read {
+        expr: Expr::Count(count),
+        level: 8,
+        next: sign(tokens, next, Mark::Close)?,
+    })
+}
+
+fn is_set(alloc: Global, tokens: &[Placed<'_>], at: usize) -> Result<Read, Memory>
+    requires { IsAt tokens.now at (said keyword.Set) }
+    ensures { IfOk result (λ r. ReadsExpression tokens.now at 7 r) }
+{
+    let next = sign(tokens, at + 1, Mark::Open)?;
+    let side = side(tokens, next)?;
+    let (name, next) = name(alloc, tokens, next + 1)?;
+    Ok(Read {
+        expr: Expr::IsSet(side, name),
+        level: 8,
+        next: sign(tokens, next, Mark::Close)?,
+    })
+}
+
+fn count_text(alloc: Global, tokens: &[Placed<'_>], at: usize) -> Result<Read, Memory>
+    requires { IsAt tokens.now at (said keyword.CountText) }
+    ensures { IfOk result (λ r. ReadsExpression tokens.now at 7 r) }
+{
+    let next = sign(tokens, at + 1, Mark::Open)?;
+    let part = quoted(alloc, tokens, next)?;
+    let next = sign(tokens, next + 1, Mark::Comma)?;
+    let text = quoted(alloc, tokens, next)?;
+    Ok(Read {
+        expr: Expr::CountText(part, text),
+        level: 8,
+        next: sign(tokens, next + 1, Mark::Close)?,
+    })
+}
+
+#[cycle(assignments)]
+fn assignment(alloc: Global, tokens: &[Placed<'_>], at: usize) -> Result<ReadAssign, Memory>
+    ensures { IfOk result (λ r. ReadsAssignment tokens.now at r) }
+{
+    let Some(Token::Word(word)) = token_at(tokens, at) else {
+        return Err(Memory);
+    };
+    let next = at + 1;
+    match Keyword::of(word) {
+        Some(Keyword::Nobody) => Ok(ReadAssign {
+            assign: Assign::Nobody,
+            next,
+        }),
+        Some(Keyword::Everybody) => Ok(ReadAssign {
+            assign: Assign::Everybody,
+            next,
+        }),
+        Some(Keyword::Initiator) => Ok(ReadAssign {
+            assign: Assign::Initiator,
+            next,
+        }),
+        Some(Keyword::In) => {
+            let (name, next) = name(alloc, tokens, next)?;
+            Ok(ReadAssign {
+                assign: Assign::In(name),
+                next,
+            })
+        }
+        Some(Keyword::User) => {
+            let (name, next) = text(alloc, tokens, next)?;
+            Ok(ReadAssign {
+                assign: Assign::User(name),
+                next,
+            })
+        }
+        Some(Keyword::Group) => {
+            let (name, next) = text(alloc, tokens, next)?;
+            Ok(ReadAssign {
+                assign: Assign::Group(name),
+                next,
+            })
+        }
+        Some(Keyword::Union) => {
+            let both = operands(alloc, tokens, next)?;
+            Ok(ReadAssign {
+                assign: Assign::Union(both.first, both.second),
+                next: both.next,
+            })
+        }
+        Some(Keyword::Intersect) => {
+            let both = operands(alloc, tokens, next)?;
+            Ok(ReadAssign {
+                assign: Assign::Intersect(both.first, both.second),
+                next: both.next,
+            })
+        }
+        Some(Keyword::Except) => {
+            let both = operands(alloc, tokens, next)?;
+            Ok(ReadAssign {
+                assign: Assign::Except(both.first, both.second),
+                next: both.next,
+            })
+        }
+        Some(Keyword::When) => branches(alloc, tokens, at),
+        _ => Err(Memory),
+    }
+}
+
+#[derive(Drop)]
+struct Both {
+    first: Box<Assign>,
+    second: Box<Assign>,
+    next: usize,
+}
+
+#[cycle(assignments)]
+fn operands(alloc: Global, tokens: &[Placed<'_>], at: usize) -> Result<Both, Memory>
+    ensures { IfOk result (λ r. ReadsOperands tokens.now at r) }
+{
+    let next = sign(tokens, at, Mark::Open)?;
+    let first = assignment(alloc, tokens, next)?;
+    let next = sign(tokens, first.next, Mark::Comma)?;
+    let second = assignment(alloc, tokens, next)?;
+    Ok(Both {
+        next: sign(tokens, second.next, Mark::Close)?,
+        first: Box::new(alloc, first.assign)?,
+        second: Box::new(alloc, second.assign)?,
+    })
+}
+
+#[cycle(assignments)]
+fn branches(alloc: Global, tokens: &[Placed<'_>], at: usize) -> Result<ReadAssign, Memory>
+    requires { IsAt tokens.now at (said keyword.When) }
+    ensures { IfOk result (λ r. ReadsAssignment tokens.now at r) }
+{
+    let next = sign(tokens, at + 1, Mark::Open)?;
+    let test = expression(alloc, tokens, next, 0)?;
+    let next = sign(tokens, test.next, Mark::Comma)?;
+    let then = assignment(alloc, tokens, next)?;
+    let next = sign(tokens, then.next, Mark::Comma)?;
+    let other = assignment(alloc, tokens, next)?;
+    let next = sign(tokens, other.next, Mark::Close)?;
+    let test = Box::new(alloc, test.expr)?;
+    let then = Box::new(alloc, then.assign)?;
+    Ok(ReadAssign {
+        assign: Assign::When(test, then, Box::new(alloc, other.assign)?),
+        next,
+    })
+}
+
+// A text in brackets.
+fn text(alloc: Global, tokens: &[Placed<'_>], at: usize) -> Result<(Txt, usize), Memory>
+    ensures { IfOk result (λ r. Spans tokens.now at (mark Open ∷ quoted r.0 ∷ mark Close ∷ []) r.1) }
+{
+    let next = sign(tokens, at, Mark::Open)?;
+    let text = quoted(alloc, tokens, next)?;
+    Ok((text, sign(tokens, next + 1, Mark::Close)?))
+}
+
+fn quoted(alloc: Global, tokens: &[Placed<'_>], at: usize) -> Result<Txt, Memory>
+    ensures { IfOk result (λ x. IsAt tokens.now at (quoted x)) }
+{
+    match token_at(tokens, at) {
+        Some(Token::Quoted(text)) => Txt::of(alloc, text),
+        _ => Err(Memory),
+    }
+}
+
+// A dot and a word.
+fn name(alloc: Global, tokens: &[Placed<'_>], at: usize) -> Result<(Txt, usize), Memory>
+    ensures { IfOk result (λ r. Spans tokens.now at (mark Dot ∷ word r.0 ∷ []) r.1) }
+{
+    let next = sign(tokens, at, Mark::Dot)?;
+    match token_at(tokens, next) {
+        Some(Token::Word(word)) => Ok((Txt::of(alloc, word)?, next + 1)),
+        _ => Err(Memory),
+    }
+}
+
+fn side(tokens: &[Placed<'_>], at: usize) -> Result<Side, Memory>
+    ensures { IfOk result (λ side. IsAt tokens.now at (said (side_word side))) }
+{
+    match token_at(tokens, at) {
+        Some(Token::Word("in")) => Ok(Side::Input),
+        Some(Token::Word("out")) => Ok(Side::Output),
+        _ => Err(Memory),
+    }
+}
+
+// The place behind this mark.
+fn sign(tokens: &[Placed<'_>], at: usize, wanted: Mark) -> Result<usize, Memory>
+    ensures { IfOk result (λ n. IsAt tokens.now at (mark wanted) × (n ≡ at + 1)) }
+{
+    match token_at(tokens, at) {
+        Some(token) if is_sign(wanted, token) => Ok(at + 1),
+        _ => Err(Memory),
+    }
+}
+
+// The place behind this word.
+fn behind(tokens: &[Placed<'_>], at: usize, wanted: &str) -> Result<usize, Memory>
+    ensures { IfOk result (λ n. IsAt tokens.now at (word wanted.now) × (n ≡ at + 1)) }
+{
+    match token_at(tokens, at) {
+        Some(token) if is_said(wanted, token) => Ok(at + 1),
+        _ => Err(Memory),
+    }
+}
+
+fn token_at<'a>(tokens: &[Placed<'a>], at: usize) -> Option<Token<'a>>
+    ensures { IfSome result (λ token. IsAt tokens.now at (seen token)) }
+{
+    match tokens.get(at) {
+        Some(found) => Some(found.token),
+        None => None,
+    }
+}
