@@ -1,4 +1,4 @@
-ghost use Rattle.std.specs.Prelude.{Some};
+ghost use Rattle.std.specs.Prelude.{◌≡◌, Some};
 ghost use Rattle.ht_outside.specs.Causes.{HasCause};
 ghost use Rattle.ht_outside.specs.Tells.{ReadTakes};
 
@@ -21,12 +21,11 @@ struct Drip {
 }
 
 impl Source for Drip {
-    ghost flow = { λ s. Some s.source.flow };
-
-    ghost read_faults = { λ s. s.source.faults };
+    ghost source_state = { λ s. record { flow = Some s.source.flow; faults = s.source.faults } };
 
     fn read(&mut self, into: &mut [u8]) -> Result<usize, Failed>
         ensures bytes { ReadTakes (Some self.old.source.flow) (Some self.new.source.flow) result into.new }
+        ensures last { self.new.source.flow.before ≡ self.old.source.flow.taken }
         ensures cause { HasCause self.old.source.faults self.new.source.faults result }
     {
         let most = into.len().min(1);
