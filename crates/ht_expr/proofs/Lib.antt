@@ -4,6 +4,7 @@ mod Computing
 mod Examples
 mod Firsts
 mod Following
+mod Forms
 mod Fulfilling
 mod Growing
 mod Heads

@@ -46,10 +46,26 @@ struct Read {
     next: usize,
 }
 
+impl Read {
+    fn new(expr: Expr, level: u8, next: usize) -> Read
+        ensures { result ≡ record { expr = expr; level = level; next = next } }
+    {
+        Read { expr, level, next }
+    }
+}
+
 #[derive(Drop)]
 struct ReadAssign {
     assign: Assign,
     next: usize,
+}
+
+impl ReadAssign {
+    fn new(assign: Assign, next: usize) -> ReadAssign
+        ensures { result ≡ record { assign = assign; next = next } }
+    {
+        ReadAssign { assign, next }
+    }
 }
 
 // An operand, and operators of this level or more with their right operands.
@@ -84,35 +100,27 @@ fn operand(alloc: Global, tokens: &[Placed<'_>], at: usize, level: u8) -> Result
         return Err(Memory);
     };
     match first {
-        Token::Number(number) => Ok(Read {
-            expr: Expr::Number(number),
-            level: 8,
-            next: at + 1,
-        }),
-        Token::Quoted(text) => Ok(Read {
-            expr: Expr::Text(Txt::of(alloc, text)?),
-            level: 8,
-            next: at + 1,
-        }),
+        Token::Number(number) => Ok(Read::new(Expr::Number(number), 8, at + 1)),
+        Token::Quoted(text) => Ok(Read::new(Expr::Text(Txt::of(alloc, text)?), 8, at + 1)),
         Token::Word(text) => match Keyword::of(text) {
             Some(keyword) => worded(alloc, tokens, at, level, keyword),
             None => Err(Memory),
         },
         Token::Mark(Mark::Minus) => {
             let operand = expression(alloc, tokens, at + 1, 7)?;
-            Ok(Read {
-                expr: Expr::Negative(Box::new(alloc, operand.expr)?),
-                level: 7,
-                next: operand.next,
-            })
+            Ok(Read::new(
+                Expr::Negative(Box::new(alloc, operand.expr)?),
+                7,
+                operand.next,
+            ))
         }
         Token::Mark(Mark::Open) => {
             let inner = expression(alloc, tokens, at + 1, 0)?;
-            Ok(Read {
-                next: sign(tokens, inner.next, Mark::Close)?,
-                expr: Expr::Brackets(Box::new(alloc, inner.expr)?),
-                level: 8,
-            })
+            Ok(Read::new(
+                Expr::Brackets(Box::new(alloc, inner.expr)?),
+                8,
+                sign(tokens, inner.next, Mark::Close)?,
+            ))
         }
         Token::Mark(_) => Err(Memory),
     }
@@ -137,11 +145,7 @@ fn worded(
                 return Err(Memory);
             }
             let operand = expression(alloc, tokens, at + 1, 3)?;
-            Ok(Read {
-                expr: Expr::Not(Box::new(alloc, operand.expr)?),
-                level: 3,
-                next: operand.next,
-            })
+            Ok(Read::new(Expr::Not(Box::new(alloc, operand.expr)?), 3, operand.next))
         }
         Keyword::If => {
             if 0 < level {
@@ -154,11 +158,11 @@ fn worded(
             let other = expression(alloc, tokens, next, 0)?;
             let test = Box::new(alloc, test.expr)?;
             let then = Box::new(alloc, then.expr)?;
-            Ok(Read {
-                expr: Expr::If(test, then, Box::new(alloc, other.expr)?),
-                level: 0,
-                next: other.next,
-            })
+            Ok(Read::new(
+                Expr::If(test, then, Box::new(alloc, other.expr)?),
+                0,
+                other.next,
+            ))
         }
         _ => atom(alloc, tokens, at, keyword),
     }
@@ -171,41 +175,17 @@ fn atom(alloc: Global, tokens: &[Placed<'_>], at: usize, keyword: Keyword) -> Re
 {
     let next = at + 1;
     match keyword {
-        Keyword::True => Ok(Read {
-            expr: Expr::Truth(true),
-            level: 8,
-            next,
-        }),
-        Keyword::False => Ok(Read {
-            expr: Expr::Truth(false),
-            level: 8,
-            next,
-        }),
-        Keyword::Priority => Ok(Read {
-            expr: Expr::Priority,
-            level: 8,
-            next,
-        }),
-        Keyword::Initiator => Ok(Read {
-            expr: Expr::Initiator,
-            level: 9,
-            next,
-        }),
+        Keyword::True => Ok(Read::new(Expr::Truth(true), 8, next)),
+        Keyword::False => Ok(Read::new(Expr::Truth(false), 8, next)),
+        Keyword::Priority => Ok(Read::new(Expr::Priority, 8, next)),
+        Keyword::Initiator => Ok(Read::new(Expr::Initiator, 9, next)),
         Keyword::In => {
             let (name, next) = name(alloc, tokens, next)?;
-            Ok(Read {
-                expr: Expr::Part(Side::Input, name),
-                level: 9,
-                next,
-            })
+            Ok(Read::new(Expr::Part(Side::Input, name), 9, next))
         }
         Keyword::Out => {
             let (name, next) = name(alloc, tokens, next)?;
-            Ok(Read {
-                expr: Expr::Part(Side::Output, name),
-                level: 8,
-                next,
-            })
+            Ok(Read::new(Expr::Part(Side::Output, name), 8, next))
         }
         Keyword::Set => is_set(alloc, tokens, at),
         Keyword::Made => counted(tokens, at, Count::Made),
@@ -214,11 +194,7 @@ fn atom(alloc: Global, tokens: &[Placed<'_>], at: usize, keyword: Keyword) -> Re
         Keyword::CountText => count_text(alloc, tokens, at),
         Keyword::CountTrue => {
             let (part, next) = text(alloc, tokens, next)?;
-            Ok(Read {
-                expr: Expr::CountTrue(part),
-                level: 8,
-                next,
-            })
+            Ok(Read::new(Expr::CountTrue(part), 8, next))
         }
         _ => Err(Memory),
     }
@@ -229,11 +205,7 @@ fn counted(tokens: &[Placed<'_>], at: usize, count: Count) -> Result<Read, Memor
     ensures { IfOk result (λ r. ReadsExpression tokens.now at 7 r) }
 {
     let next = sign(tokens, at + 1, Mark::Open)?;
-    Ok(Read {
-        expr: Expr::Count(count),
-        level: 8,
-        next: sign(tokens, next, Mark::Close)?,
-    })
+    Ok(Read::new(Expr::Count(count), 8, sign(tokens, next, Mark::Close)?))
 }
 
 fn is_set(alloc: Global, tokens: &[Placed<'_>], at: usize) -> Result<Read, Memory>
@@ -243,11 +215,7 @@ fn is_set(alloc: Global, tokens: &[Placed<'_>], at: usize) -> Result<Read, Memor
     let next = sign(tokens, at + 1, Mark::Open)?;
     let side = side(tokens, next)?;
     let (name, next) = name(alloc, tokens, next + 1)?;
-    Ok(Read {
-        expr: Expr::IsSet(side, name),
-        level: 8,
-        next: sign(tokens, next, Mark::Close)?,
-    })
+    Ok(Read::new(Expr::IsSet(side, name), 8, sign(tokens, next, Mark::Close)?))
 }
 
 fn count_text(alloc: Global, tokens: &[Placed<'_>], at: usize) -> Result<Read, Memory>
@@ -258,11 +226,11 @@ fn count_text(alloc: Global, tokens: &[Placed<'_>], at: usize) -> Result<Read, M
     let part = quoted(alloc, tokens, next)?;
     let next = sign(tokens, next + 1, Mark::Comma)?;
     let text = quoted(alloc, tokens, next)?;
-    Ok(Read {
-        expr: Expr::CountText(part, text),
-        level: 8,
-        next: sign(tokens, next + 1, Mark::Close)?,
-    })
+    Ok(Read::new(
+        Expr::CountText(part, text),
+        8,
+        sign(tokens, next + 1, Mark::Close)?,
+    ))
 }
 
 #[cycle(assignments)]
@@ -274,59 +242,32 @@ fn assignment(alloc: Global, tokens: &[Placed<'_>], at: usize) -> Result<ReadAss
     };
     let next = at + 1;
     match Keyword::of(word) {
-        Some(Keyword::Nobody) => Ok(ReadAssign {
-            assign: Assign::Nobody,
-            next,
-        }),
-        Some(Keyword::Everybody) => Ok(ReadAssign {
-            assign: Assign::Everybody,
-            next,
-        }),
-        Some(Keyword::Initiator) => Ok(ReadAssign {
-            assign: Assign::Initiator,
-            next,
-        }),
+        Some(Keyword::Nobody) => Ok(ReadAssign::new(Assign::Nobody, next)),
+        Some(Keyword::Everybody) => Ok(ReadAssign::new(Assign::Everybody, next)),
+        Some(Keyword::Initiator) => Ok(ReadAssign::new(Assign::Initiator, next)),
         Some(Keyword::In) => {
             let (name, next) = name(alloc, tokens, next)?;
-            Ok(ReadAssign {
-                assign: Assign::In(name),
-                next,
-            })
+            Ok(ReadAssign::new(Assign::In(name), next))
         }
         Some(Keyword::User) => {
             let (name, next) = text(alloc, tokens, next)?;
-            Ok(ReadAssign {
-                assign: Assign::User(name),
-                next,
-            })
+            Ok(ReadAssign::new(Assign::User(name), next))
         }
         Some(Keyword::Group) => {
             let (name, next) = text(alloc, tokens, next)?;
-            Ok(ReadAssign {
-                assign: Assign::Group(name),
-                next,
-            })
+            Ok(ReadAssign::new(Assign::Group(name), next))
         }
         Some(Keyword::Union) => {
             let both = operands(alloc, tokens, next)?;
-            Ok(ReadAssign {
-                assign: Assign::Union(both.first, both.second),
-                next: both.next,
-            })
+            Ok(ReadAssign::new(Assign::Union(both.first, both.second), both.next))
         }
         Some(Keyword::Intersect) => {
             let both = operands(alloc, tokens, next)?;
-            Ok(ReadAssign {
-                assign: Assign::Intersect(both.first, both.second),
-                next: both.next,
-            })
+            Ok(ReadAssign::new(Assign::Intersect(both.first, both.second), both.next))
         }
         Some(Keyword::Except) => {
             let both = operands(alloc, tokens, next)?;
-            Ok(ReadAssign {
-                assign: Assign::Except(both.first, both.second),
-                next: both.next,
-            })
+            Ok(ReadAssign::new(Assign::Except(both.first, both.second), both.next))
         }
         Some(Keyword::When) => branches(alloc, tokens, at),
         _ => Err(Memory),
@@ -369,10 +310,10 @@ fn branches(alloc: Global, tokens: &[Placed<'_>], at: usize) -> Result<ReadAssig
     let next = sign(tokens, other.next, Mark::Close)?;
     let test = Box::new(alloc, test.expr)?;
     let then = Box::new(alloc, then.assign)?;
-    Ok(ReadAssign {
-        assign: Assign::When(test, then, Box::new(alloc, other.assign)?),
+    Ok(ReadAssign::new(
+        Assign::When(test, then, Box::new(alloc, other.assign)?),
         next,
-    })
+    ))
 }
 
 // A text in brackets.

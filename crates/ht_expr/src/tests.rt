@@ -226,58 +226,53 @@ fn other_texts_are_no_expressions(rt: HostRuntime) {
     }
 }
 
-// Of each text the front ends too early where it is cut behind a token, at the front's length.
+fn refusal_of(alloc: Global, text: &str, is_assignment: bool) -> Option<ExprRefusal> {
+    if is_assignment {
+        read(alloc, text).err()
+    } else {
+        read_expr(alloc, text).err()
+    }
+}
+
+// Each text is cut behind each of its tokens: there it ends too early.
 #[test]
 fn cut_texts_end_too_early(rt: HostRuntime) -> Result<(), Fail> {
-    let expressions = [
-        "set | ( | in | . | a | )",
-        "made | ( | )",
-        "countText | ( | 'p' | , | 't' | )",
-        "countTrue | ( | 'p' | )",
-        "( | 1 | )",
-        "- | 1",
-        "not | true",
-        "in | . | a",
-        "if | 1 | then | 2 | else | 3",
+    let table = [
+        ("set | ( | in | . | a | )", false),
+        ("made | ( | )", false),
+        ("finished | ( | )", false),
+        ("done | ( | )", false),
+        ("countText | ( | 'p' | , | 't' | )", false),
+        ("countTrue | ( | 'p' | )", false),
+        ("( | 1 | )", false),
+        ("- | 1", false),
+        ("not | true", false),
+        ("out | . | a", false),
+        ("if | 1 | then | 2 | else | 3", false),
+        ("in | . | a", true),
+        ("user | ( | 'a' | )", true),
+        ("group | ( | 'a' | )", true),
+        ("union | ( | nobody | , | everybody | )", true),
+        ("intersect | ( | nobody | , | everybody | )", true),
+        ("except | ( | nobody | , | everybody | )", true),
+        ("when | ( | true | , | nobody | , | everybody | )", true),
     ];
-    for text in expressions {
+    for (text, is_assignment) in table {
         let mut front = String::new(rt.alloc());
         for token in text.split(" | ") {
-            if !front.as_str().is_empty() {
-                assert_eq!(rt;
-                    read_expr(rt.alloc(), front.as_str()).err(),
-                    Some(ExprRefusal::Shape(front.len())),
-                    "{text}"
-                );
-                front.push_str(" ")?;
-            }
+            assert_eq!(rt;
+                refusal_of(rt.alloc(), front.as_str(), is_assignment),
+                Some(ExprRefusal::Shape(front.len())),
+                "{text}"
+            );
+            front.push_str(" ")?;
             front.push_str(token)?;
         }
-        assert!(rt; read_expr(rt.alloc(), front.as_str()).is_ok(), "{text}");
-    }
-    let assignments = [
-        "in | . | a",
-        "user | ( | 'a' | )",
-        "group | ( | 'a' | )",
-        "union | ( | nobody | , | everybody | )",
-        "intersect | ( | nobody | , | everybody | )",
-        "except | ( | nobody | , | everybody | )",
-        "when | ( | true | , | nobody | , | everybody | )",
-    ];
-    for text in assignments {
-        let mut front = String::new(rt.alloc());
-        for token in text.split(" | ") {
-            if !front.as_str().is_empty() {
-                assert_eq!(rt;
-                    read(rt.alloc(), front.as_str()).err(),
-                    Some(ExprRefusal::Shape(front.len())),
-                    "{text}"
-                );
-                front.push_str(" ")?;
-            }
-            front.push_str(token)?;
-        }
-        assert!(rt; read(rt.alloc(), front.as_str()).is_ok(), "{text}");
+        assert_eq!(rt;
+            refusal_of(rt.alloc(), front.as_str(), is_assignment),
+            None,
+            "{text}"
+        );
     }
     Ok(())
 }
@@ -342,6 +337,25 @@ fn nested(alloc: Global, unions: usize, users: usize) -> Result<String, Fail> {
     text.push_str("nobody")?;
     text.push_str(repeated(alloc, ")", unions)?.as_str())?;
     Ok(text)
+}
+
+// 1 and `others` more numbers with a sign before each: 1 + 2 * `others` tokens.
+fn sum_of(alloc: Global, others: usize) -> Result<String, Fail> {
+    let signs = repeated(alloc, " + 1", others)?;
+    Ok(format!(in alloc; "1{}", signs.as_str())?)
+}
+
+#[test]
+fn expressions_of_128_tokens_are_read(rt: HostRuntime) -> Result<(), Fail> {
+    let most = sum_of(rt.alloc(), 63)?;
+    let longest = format!(in rt.alloc(); "-{}", most.as_str())?;
+    assert!(rt; read_expr(rt.alloc(), longest.as_str()).is_ok());
+    let too_long = sum_of(rt.alloc(), 64)?;
+    assert_eq!(rt;
+        read_expr(rt.alloc(), too_long.as_str()).err(),
+        Some(ExprRefusal::TooLong)
+    );
+    Ok(())
 }
 
 #[test]

@@ -1,5 +1,5 @@
 -- What reading a text as an assignment says of the text.
-use Rattle.std.proofs.Common.{◌≡◌, ◌≢◌, ℕ, List, Option, None, Some, ap, sym, ◌∙◌, Ok, Err, Result, true, false, IsTrue}
+use Rattle.std.proofs.Common.{◌≡◌, ◌≢◌, ℕ, List, Option, None, Some, ap, sym, ◌∙◌, Ok, Err, Result, true, false}
 use Rattle.std.proofs.lemmas.Bool.{both_ways}
 use Rattle.ht_expr.specs.Assignments.{Assignment, is_plain}
 use Rattle.ht_expr.specs.Reading as expression
