@@ -71,7 +71,7 @@ same_act u caller task c o p = at (gate u (op_of c) caller task)
 
 same_outcome : (t : TablesOf) (person moment task : ℕ) (c : Command) (o p : Outcome) → Comes t person moment task c o → Comes t person moment task c p → o ≡ p
 same_outcome t person moment task (command.Create model) o p a b = same_create t person moment model o p a b
-same_outcome t person moment task command.Claim o p a b = same_act t person task command.Claim o p a b
+same_outcome t person moment task c o p a b = same_act t person task c o p a b
 
 same_attempt : (t : TablesOf) (moment : ℕ) (task : TaskId) (c : Command) (person : Option ℕ) (o p : Outcome) → Attempts t moment task c person o → Attempts t moment task c person p → o ≡ p
 same_attempt t moment task c None o p a b = a ∙ sym b

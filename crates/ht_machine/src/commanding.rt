@@ -30,7 +30,7 @@ pub(crate) fn command(
 {
     match command {
         Command::Create { model } => create(alloc, tables, plan, caller, at, *model),
-        Command::Claim => act_on(alloc, tables, plan, caller, at, task, command),
+        _ => act_on(alloc, tables, plan, caller, at, task, command),
     }
 }
 

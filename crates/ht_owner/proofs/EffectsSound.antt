@@ -1,7 +1,7 @@
 -- That the effects of commands keep rows sound.
 use Rattle.std.proofs.Common.{◌≡◌, ℕ, ◌<◌, Option, length, refl, subst}
 use Rattle.ht_base.specs.declared.event.Command.{Command}
-use Rattle.ht_base.specs.declared.event.Command.TheVariants.{Claim}
+use Rattle.ht_base.specs.declared.event.Command.TheVariants.{Create}
 use Rattle.ht_base.specs.declared.operation.Op.{Op}
 use Rattle.ht_base.specs.declared.operation.Op.TheVariants as op
 use Rattle.ht_base.specs.declared.task_id.TaskId.{TaskId}
@@ -28,6 +28,11 @@ abbrev IsSoundEffect : TablesOf → Row → Effect → Type 0
 IsSoundEffect u old (does row follow) = IsSoundRow u row × (filed_of row ≡ filed_of old)
 IsSoundEffect u old (refuses why) = Unit {0}
 
+-- no command of today names a person
+names_nobody : (command : Command) → op_of command ≡ op.Delegate → ⊥
+names_nobody (Create model) e = cc
+names_nobody command e = cc
+
 module _ (u : TablesOf) (caller : ℕ) (row : Row) (sound : IsSoundRow u row) (known : caller < length u.people.persons) where
   owns : (o : Op) → IsCaller (changing row.state o).owner → verdict o row.state (roles_in u row caller) ≡ Yes → MayOwn (length u.people.persons) caller row.excluded_owners
   owns o h may = record { known = known; allowed = (sound.who).apart caller (caller_is_potential (roles_in u row caller) row.state o h may) }
@@ -38,8 +43,7 @@ module _ (u : TablesOf) (caller : ℕ) (row : Row) (sound : IsSoundRow u row) (k
 
   -- a command that may be done leaves a sound row, or is refused
   effect_sound : (command : Command) → verdict (op_of command) row.state (roles_in u row caller) ≡ Yes → IsSoundEffect u row (effect caller command row)
-  effect_sound Claim may = (plain op.Claim (λ e. cc) may, refl)
-  effect_sound command may = (plain (op_of command) (λ e. cc) may, refl)
+  effect_sound command may = (plain (op_of command) (names_nobody command) may, refl)
 
   pub effect_makes : (command : Command) (new : Row) (follow : Follow) → verdict (op_of command) row.state (roles_in u row caller) ≡ Yes → effect caller command row ≡ does new follow → IsSoundRow u new × (filed_of new ≡ filed_of row)
   effect_makes command new follow may is = let P : Effect → Type 0 = λ e. IsSoundEffect u row e in subst P is (effect_sound command may)

@@ -14,9 +14,5 @@ pub(crate) fn effect(
 ) -> Result<(Row, Follow), ActRefusal>
     ensures { Gives (spec.effect caller command.now row) result }
 {
-    match command {
-        Command::Create { .. } | Command::Claim => {
-            Ok((moved(row, command.op(), caller, caller), Follow::Nothing))
-        }
-    }
+    Ok((moved(row, command.op(), caller, caller), Follow::Nothing))
 }

@@ -3,7 +3,7 @@
 use Rattle.std.specs.Prelude.{ℕ, Bool, true, false, List, [], ◌∷◌, ◌++◌, map, filter, Option, Some, None, codes, decimal, if◌then◌else◌, ◌==◌}
 use Rattle.std.specs.List.{flat_map}
 use Rattle.ht_base.specs.declared.event.Event.{Event}
-use Rattle.ht_base.specs.declared.event.Event.TheVariants.{Ask, Read}
+use Rattle.ht_base.specs.declared.event.Event.TheVariants.{Ask}
 use Rattle.ht_base.specs.declared.event.Command.TheVariants as command
 use Rattle.ht_base.specs.declared.reply.Answer.{Answer}
 use Rattle.ht_base.specs.declared.reply.Answer.TheVariants.{Done, Sheet, Refused}
@@ -152,8 +152,7 @@ IsSheet (Refused why) = ⊥
 -- 201 where a task was created
 abbrev pub done_status : Event → ℕ
 done_status (Ask at caller task (command.Create model)) = 201
-done_status (Ask at caller task command.Claim) = 200
-done_status (Read caller what) = 200
+done_status e = 200
 
 abbrev pub answer_status : Event → Answer → ℕ
 answer_status e (Done task state owner) = done_status e

@@ -46,11 +46,7 @@ fn done_status(event: &Event) -> u16
             command: Command::Create { .. },
             ..
         } => 201,
-        Event::Ask {
-            command: Command::Claim,
-            ..
-        } => 200,
-        Event::Read { .. } => 200,
+        _ => 200,
     }
 }
 
