@@ -92,28 +92,27 @@ one_refusal level text e refusal.BadKind x y p q = absurd y
 one_refusal level text refusal.Memory f x y p q = absurd (p refl)
 one_refusal level text e refusal.Memory x y p q = absurd (q refl)
 
--- a text that is read isn't refused. Its tokens can be written, since it is UTF-8, or it is one that goes wrong
-read_or_refused : (level : ℕ) (text : List ℕ) (a : Tree) (e : ExprRefusal) → IsUtf8 text → Reads level text (Ok a) → Reads level text (Err e) → e ≢ refusal.Memory → ⊥
-read_or_refused level text a (refusal.Token b) utf8 (ts, has, tree) y q = no_fault text ts b has.0 y
-read_or_refused level text a refusal.TooLong utf8 (ts, has, tree) y q = too_long text ts y.0 has y.1 y.2
-read_or_refused level text a (refusal.Shape b) utf8 (ts, has, tree) (us, also, wrong) q =
+-- a text that is read isn't refused
+read_or_refused : (level : ℕ) (text : List ℕ) (a : Tree) (e : ExprRefusal) → Reads level text (Ok a) → Reads level text (Err e) → e ≢ refusal.Memory → ⊥
+read_or_refused level text a (refusal.Token b) (ts, has, written, tree) y q = no_fault text ts b has.0 y
+read_or_refused level text a refusal.TooLong (ts, has, written, tree) y q = too_long text ts y.0 has y.1 y.2
+read_or_refused level text a (refusal.Shape b) (ts, has, written, tree) (us, also, wrong) q =
     let same = one_list text ts us has.0 also.0 in
-    let written = text_written text ts utf8 has.0 in
     whole_or_shape (IsText level) us (length text) b (subst (λ l. IsText level (bare l)) same (written, (a, tree))) wrong
-read_or_refused level text a refusal.BadKind utf8 x y q = y
-read_or_refused level text a refusal.Memory utf8 x y q = q refl
+read_or_refused level text a refusal.BadKind x y q = y
+read_or_refused level text a refusal.Memory x y q = q refl
 
 -- one tree at most
 pub one_reading : (level : ℕ) (text : List ℕ) (a b : Tree) → Reads level text (Ok a) → Reads level text (Ok b) → a ≡ b
-one_reading level text a b (ts, has, (fits, is)) (us, also, (other, there)) =
+one_reading level text a b (ts, has, written, (fits, is)) (us, also, same_written, (other, there)) =
     let same = one_list text us ts also.0 has.0 in one_tree level a b fits other (is ∙ sym (there ∙ ap bare same))
 
 -- so there is one answer
-pub one_answer : (level : ℕ) (text : List ℕ) (r s : Result Tree ExprRefusal) → IsUtf8 text → Reads level text r → Reads level text s → r ≢ Err refusal.Memory → s ≢ Err refusal.Memory → r ≡ s
-one_answer level text (Ok a) (Ok b) utf8 x y p q = ap Ok (one_reading level text a b x y)
-one_answer level text (Ok a) (Err f) utf8 x y p q = absurd (read_or_refused level text a f utf8 x y (λ e. q (ap Err e)))
-one_answer level text (Err e) (Ok b) utf8 x y p q = absurd (read_or_refused level text b e utf8 y x (λ f. p (ap Err f)))
-one_answer level text (Err e) (Err f) utf8 x y p q = ap Err (one_refusal level text e f x y (λ k. p (ap Err k)) (λ k. q (ap Err k)))
+pub one_answer : (level : ℕ) (text : List ℕ) (r s : Result Tree ExprRefusal) → Reads level text r → Reads level text s → r ≢ Err refusal.Memory → s ≢ Err refusal.Memory → r ≡ s
+one_answer level text (Ok a) (Ok b) x y p q = ap Ok (one_reading level text a b x y)
+one_answer level text (Ok a) (Err f) x y p q = absurd (read_or_refused level text a f x y (λ e. q (ap Err e)))
+one_answer level text (Err e) (Ok b) x y p q = absurd (read_or_refused level text b e y x (λ f. p (ap Err f)))
+one_answer level text (Err e) (Err f) x y p q = ap Err (one_refusal level text e f x y (λ k. p (ap Err k)) (λ k. q (ap Err k)))
 
 -- what was scanned and then checked is refused, or whole
 pub refuses_shape : (T : Type 0) (level : ℕ) (text : List ℕ) (ts : List Placed) (e : ExprRefusal) → level ≤ 9 → IsUtf8 text → HasTokens text ts → Checks {T = T} level ts (length text) (Err e) → Reads level text (Err e)
@@ -131,13 +130,13 @@ refuses level text refusal.Memory x = tt
 refuses level text (refusal.Shape at) x = absurd x
 refuses level text refusal.BadKind x = absurd x
 
-pub only : (level : ℕ) (text : List ℕ) (r : Result Tree ExprRefusal) → IsUtf8 text → Reads level text r → IsOnly level text r
-only level text r utf8 x = λ other y p q. one_answer level text r other utf8 x y p q
+pub only : (level : ℕ) (text : List ℕ) (r : Result Tree ExprRefusal) → Reads level text r → IsOnly level text r
+only level text r x = λ other y p q. one_answer level text r other x y p q
 
 same_tokens : (ts : List BorrowedPlaced) → all ts ≡ bare (map placed ts)
 same_tokens [] = refl
 same_tokens (t ∷ ts) = ap (λ l. seen t.token ∷ l) (same_tokens ts)
 
 -- and a tree that was built of its tokens is read
-pub reads_tree : (level : ℕ) (text : List ℕ) (ts : List BorrowedPlaced) (a : Tree) → HasTokens text (map placed ts) → AreTree level (all ts) a → Reads level text (Ok a)
-reads_tree level text ts a has tree = (map placed ts, has, (tree.0, tree.1 ∙ same_tokens ts))
+pub reads_tree : (level : ℕ) (text : List ℕ) (ts : List BorrowedPlaced) (a : Tree) → IsUtf8 text → HasTokens text (map placed ts) → AreTree level (all ts) a → Reads level text (Ok a)
+reads_tree level text ts a utf8 has tree = (map placed ts, has, text_written text (map placed ts) utf8 has.0, (tree.0, tree.1 ∙ same_tokens ts))

@@ -7,16 +7,16 @@ use Rattle.ht_expr.specs.Trees.{an_assignment, an_expression, integer, truth, bi
 use Rattle.ht_expr.proofs.Walking.{IsAnswer, token_row, long_row, shape_row, tree_row}
 
 left_and_right : IsAnswer an_assignment (codes "except(everybody, initiator)") (Ok (except everybody initiator))
-left_and_right = tree_row _ _ _ (omega arith, omega arith, ((omega arith, omega arith, tt), (omega arith, omega arith, tt))) refl refl refl
+left_and_right = tree_row _ _ _ (omega arith, omega arith, ((omega arith, omega arith, tt), (omega arith, omega arith, tt))) refl refl refl refl
 
 blanks_inside : IsAnswer an_assignment (codes "  user ( ' a, (b) ')") (Ok (user (codes " a, (b) ")))
-blanks_inside = tree_row _ _ _ (omega arith, omega arith, tt) refl refl refl
+blanks_inside = tree_row _ _ _ (omega arith, omega arith, tt) refl refl refl refl
 
 branches : IsAnswer an_assignment (codes "when(true, nobody, group('c'))") (Ok (when (truth true) nobody (group (codes "c"))))
-branches = tree_row _ _ _ (omega arith, omega arith, ((omega arith, omega arith, tt), (omega arith, omega arith, tt), (omega arith, omega arith, tt))) refl refl refl
+branches = tree_row _ _ _ (omega arith, omega arith, ((omega arith, omega arith, tt), (omega arith, omega arith, tt), (omega arith, omega arith, tt))) refl refl refl refl
 
 minus_leans_left : IsAnswer an_expression (codes "1 - 2 - 3") (Ok (binary operator.Minus (binary operator.Minus (integer 1) (integer 2)) (integer 3)))
-minus_leans_left = tree_row _ _ _ (omega arith, omega arith, ((omega arith, omega arith, ((omega arith, omega arith, tt), (omega arith, omega arith, tt))), (omega arith, omega arith, tt))) refl refl refl
+minus_leans_left = tree_row _ _ _ (omega arith, omega arith, ((omega arith, omega arith, ((omega arith, omega arith, tt), (omega arith, omega arith, tt))), (omega arith, omega arith, tt))) refl refl refl refl
 
 no_such_sign : IsAnswer an_expression (codes "1 $ 2") (Err (refusal.Token 2))
 no_such_sign = token_row _ _ _ refl
@@ -37,7 +37,7 @@ no_token_goes_before_the_length : IsAnswer an_expression (replicate 129 40 ++ 36
 no_token_goes_before_the_length = token_row _ _ _ refl
 
 the_greatest_number : IsAnswer an_expression (codes "9223372036854775807") (Ok (integer 9223372036854775807))
-the_greatest_number = tree_row _ _ _ (omega arith, omega arith, tt) refl refl refl
+the_greatest_number = tree_row _ _ _ (omega arith, omega arith, tt) refl refl refl refl
 
 one_hundred_and_twenty_nine_tokens : IsAnswer an_expression (replicate 129 40) (Err refusal.TooLong)
 one_hundred_and_twenty_nine_tokens = long_row _ _ refl refl

@@ -1,5 +1,5 @@
 -- Each tree whose tokens can be written is what some text is read as: its tokens, with a blank before each.
-use Rattle.std.proofs.Common.{◌≡◌, ℕ, ◌+◌, ◌<◌, ◌≤◌, Bool, true, false, List, [], ◌∷◌, ◌++◌, length, refl, ap, sym, arith, Some, Ok}
+use Rattle.std.proofs.Common.{◌≡◌, ℕ, ◌+◌, ◌<◌, ◌≤◌, Bool, true, false, List, [], ◌∷◌, ◌++◌, length, refl, ap, sym, subst, arith, Some, Ok}
 use Rattle.std.specs.Prelude.{◌==◌, ◌^◌, nat_lt}
 use Rattle.std.specs.Fmt.{decimal}
 use Rattle.std.specs.Char.{is_ascii_alphabetic, is_ascii_digit}
@@ -124,4 +124,4 @@ some_text level a fits written few =
     let ts = tokens_of a in
     let all = bare_placed 0 ts in
     let len : length (bare (placed_from 0 ts)) ≡ length ts = ap length all in
-    (text_of ts, all_text ts written, (placed_from 0 ts, ((0, before_text 0 ts written), omega (arith, length-map (placed_from 0 ts) (λ t. t.token))), (fits, sym all)))
+    (text_of ts, all_text ts written, (placed_from 0 ts, ((0, before_text 0 ts written), omega (arith, length-map (placed_from 0 ts) (λ t. t.token))), subst AreWritable (sym all) written, (fits, sym all)))

@@ -83,7 +83,7 @@ wrong_shape p text ts at le utf8 has is = (ts, has, shape_fault p ts (length tex
 by_shape : (p : ℕ) (text : List ℕ) (ts : List Placed) (wrong : Option ℕ) → p ≤ 9 → IsUtf8 text → HasTokens text ts → wrong_at p ts (length text) ≡ wrong → HasAnswer p text
 by_shape p text ts None le utf8 has is =
     let (st, there, done) = wrong_is p ts (length text) None is in
-    let tree = whole_tree p (bare ts) st le there done in (Ok tree.0, (ts, has, tree.1), λ e. absurd (cc))
+    let tree = whole_tree p (bare ts) st le there done in (Ok tree.0, (ts, has, text_written text ts utf8 has.0, tree.1), λ e. absurd (cc))
 by_shape p text ts (Some at) le utf8 has is = (Err (refusal.Shape at), wrong_shape p text ts at le utf8 has is, λ e. absurd (cc))
 
 by_length : (p : ℕ) (text : List ℕ) (ts : List Placed) → p ≤ 9 → IsUtf8 text → AreTokens text ts → (most_tokens < length ts) ⊎ (length ts ≤ most_tokens) → HasAnswer p text
@@ -116,5 +116,8 @@ pub shape_row : (p : ℕ) (text : List ℕ) (at : ℕ) → p ≤ 9 → list_all 
     → wrong_at p (scan_of text).0 (length text) ≡ Some at → IsAnswer p text (Err (refusal.Shape at))
 shape_row p text at le ascii is small wrong = record { reads = wrong_shape p text (scan_of text).0 at le (IsUtf8-from_ascii text (low_ascii (λ b. nat_lt b 128) text (λ b h. ltb-true b 128 h) ascii)) (few text is small) wrong }
 
-pub tree_row : (p : ℕ) (text : List ℕ) (a : Tree) → Fits p a → (scan_of text).1 ≡ None → nat_le (length (scan_of text).0) most_tokens ≡ true → tokens_of a ≡ bare (scan_of text).0 → IsAnswer p text (Ok a)
-tree_row p text a fits is small spelled = record { reads = ((scan_of text).0, few text is small, (fits, spelled)) }
+pub tree_row : (p : ℕ) (text : List ℕ) (a : Tree) → Fits p a → list_all (λ b. nat_lt b 128) text ≡ true → (scan_of text).1 ≡ None → nat_le (length (scan_of text).0) most_tokens ≡ true → tokens_of a ≡ bare (scan_of text).0 → IsAnswer p text (Ok a)
+tree_row p text a fits ascii is small spelled =
+    let has = few text is small in
+    let utf8 = IsUtf8-from_ascii text (low_ascii (λ b. nat_lt b 128) text (λ b h. ltb-true b 128 h) ascii) in
+    record { reads = ((scan_of text).0, has, text_written text (scan_of text).0 utf8 has.0, (fits, spelled)) }

@@ -56,7 +56,7 @@ HasTokens text tokens = AreTokens text tokens × (length tokens ≤ most_tokens)
 -- the text is this tree, or is refused so: the first cause, in this order, that it has. Want of memory is free, and
 -- kinds are not looked at
 abbrev pub Reads : ℕ → List ℕ → Result Tree ExprRefusal → Type 0
-Reads level text (Ok tree) = (tokens : List Placed) × HasTokens text tokens × AreTree level (bare tokens) tree
+Reads level text (Ok tree) = (tokens : List Placed) × HasTokens text tokens × AreWritable (bare tokens) × AreTree level (bare tokens) tree
 Reads level text (Err (refusal.Token at)) = HasNoTokenAt text at
 Reads level text (Err refusal.TooLong) = (tokens : List Placed) × AreTokens text tokens × (most_tokens < length tokens)
 Reads level text (Err (refusal.Shape at)) =

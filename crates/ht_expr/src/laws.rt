@@ -9,7 +9,7 @@ ghost use Rattle.ht_expr.specs.declared.refusal.ExprRefusal.{ExprRefusal};
 /// the trees of two levels: one tree, or one refusal.
 pub fn each_text_has_one_answer()
     ensures tree { (level : ℕ) (text : List ℕ) (a b : Tree) → Reads level text (Ok a) → Reads level text (Ok b) → a ≡ b }
-    ensures one { (level : ℕ) (text : List ℕ) (a b : Result Tree ExprRefusal) → IsUtf8 text
+    ensures one { (level : ℕ) (text : List ℕ) (a b : Result Tree ExprRefusal)
         → Reads level text a → Reads level text b → a ≢ Err ExprRefusal.Memory → b ≢ Err ExprRefusal.Memory → a ≡ b }
     ensures some { (level : ℕ) (text : List ℕ) → level ≤ 9 → IsUtf8 text
         → (a : Result Tree ExprRefusal) × Reads level text a × (a ≢ Err ExprRefusal.Memory) }

@@ -47,7 +47,7 @@ shape = (document, (is_text, is_read), refl)
 model : IsModel entry unit
 model = record {
   name = refl;
-  potential_owners = ((tree_row an_assignment (codes "everybody") everybody (omega arith, omega arith, tt) refl refl refl).reads, refl);
+  potential_owners = ((tree_row an_assignment (codes "everybody") everybody (omega arith, omega arith, tt) refl refl refl refl).reads, refl);
   excluded_owners = refl;
   administrators = refl;
   stakeholders = refl;

@@ -65,9 +65,9 @@ shut_shape = (shut_document, (shut_is_text, shut_is_read), refl)
 shut_model : IsModel shut_entry shut
 shut_model = record {
   name = refl;
-  potential_owners = ((tree_row an_assignment (codes "user('anna')") (user (codes "anna")) (omega arith, omega arith, tt) refl refl refl).reads, refl);
-  excluded_owners = ((tree_row an_assignment (codes "user('anna')") (user (codes "anna")) (omega arith, omega arith, tt) refl refl refl).reads, refl);
-  administrators = ((tree_row an_assignment (codes "user('cora')") (user (codes "cora")) (omega arith, omega arith, tt) refl refl refl).reads, refl);
+  potential_owners = ((tree_row an_assignment (codes "user('anna')") (user (codes "anna")) (omega arith, omega arith, tt) refl refl refl refl).reads, refl);
+  excluded_owners = ((tree_row an_assignment (codes "user('anna')") (user (codes "anna")) (omega arith, omega arith, tt) refl refl refl refl).reads, refl);
+  administrators = ((tree_row an_assignment (codes "user('cora')") (user (codes "cora")) (omega arith, omega arith, tt) refl refl refl refl).reads, refl);
   stakeholders = refl;
   size = refl;
 }
