@@ -33,6 +33,15 @@ impl Persons {
         }
     }
 
+    /// Nobody, with room for this many.
+    pub fn with_capacity(alloc: Global, count: usize) -> Result<Persons, Memory>
+        ensures { IfOk result (λ persons. persons ≡ []) }
+    {
+        Ok(Persons {
+            items: Vec::with_capacity(alloc, count)?,
+        })
+    }
+
     pub fn copy(&self, alloc: Global) -> Result<Persons, Memory>
         ensures { IfOk result (λ p. p ≡ self.now) }
     {

@@ -97,8 +97,8 @@ fn lists_of_names_grow_and_are_copied(rt: HostRuntime) -> Result<(), Fail> {
 
 #[test]
 fn sets_of_persons_grow_and_are_copied(rt: HostRuntime) -> Result<(), Fail> {
-    let mut persons = Persons::new(rt.alloc());
-    assert!(rt; !persons.contains(Person(0)));
+    let mut persons = Persons::with_capacity(rt.alloc(), 1)?;
+    assert_eq!(rt; persons.as_slice(), Persons::new(rt.alloc()).as_slice());
     persons.push(Person(3))?;
     let mut copy = persons.copy(rt.alloc())?;
     copy.push(Person(7))?;

@@ -2,17 +2,14 @@
 use Rattle.std.proofs.Common.{List, [], ◌∷◌, ◌<◌, IfSome, ◌≡◌, ℕ, Bool, false, if◌then◌else◌, length, Some, is_some, IsTrue, refl, ap, subst, ◌∙◌, eq-eqb, arith}
 use Rattle.ht_base.specs.declared.state.State.{State}
 use Rattle.ht_base.specs.declared.state.State.TheVariants.{Created}
-use Rattle.ht_base.specs.Persons.{AllBelow}
 use Rattle.ht_machine.specs.Activating.{IsCreated, activated}
 use Rattle.ht_machine.proofs.Rows.{one}
-use Rattle.ht_owner.specs.Moving.{owner_by}
-use Rattle.ht_owner.proofs.PublicLaws.{by_people}
 use Rattle.ht_tree.specs.declared.row.Row.{Row}
 use Rattle.ht_tree.specs.Plans.{IsNext, Replaces}
 use Rattle.ht_tree.specs.Rows.{row_at}
 use Rattle.ht_tree.specs.Soundness.{Fits, IsSoundRow, KeepsSound, is_owned, is_suspended}
 use Rattle.ht_tree.specs.Tables.{TablesOf, task_row, with_row}
-use Rattle.ht_tree.proofs.PublicLaws.{put_sound, row_at-put_in, within}
+use Rattle.ht_tree.proofs.PublicLaws.{by_people, owner_known, put_sound, row_at-put_in, within}
 
 -- a created task isn't suspended
 not_suspended : (row : Row) → row.state ≡ Created → (IsTrue (is_some row.until) → IsTrue (is_suspended row.state)) → IsTrue (is_some row.until) → IsTrue false
@@ -37,16 +34,11 @@ activated_row_fits : (u : TablesOf) (row : Row) → row.state ≡ Created → Fi
 activated_row_fits u row created fits = record {
   filed = fits.filed;
   who = fits.who;
-  owner = owner_below (length u.people.persons) row.potential_owners (fits.who).potential_owners;
+  owner = owner_known (length u.people.persons) row.potential_owners (fits.who).potential_owners;
   commenters = fits.commenters;
   waits = λ h. absurd cc;
   until = λ h. absurd (let no = not_suspended row created fits.until h in cc);
 }
-  where
-    owner_below : (n : ℕ) (ps : List ℕ) → AllBelow n ps → IfSome (owner_by ps) (λ p. p < n)
-    owner_below n [] all = tt
-    owner_below n (p ∷ []) all = all.0
-    owner_below n (p ∷ q ∷ ps) all = tt
 
 -- it is the created task that was found
 created_is : (u : TablesOf) (task : ℕ) (row : Row) → task_row u task ≡ Some row → IsCreated u task → (row.task.0 ≡ task) × (row.state ≡ Created)

@@ -1,8 +1,8 @@
 -- Activation (WS-HumanTask 1.1, 4.10.1).
 use Rattle.std.specs.Prelude.{◌≡◌, ℕ, None, Some}
 use Rattle.ht_base.specs.declared.state.State.TheVariants.{Created}
-use Rattle.ht_owner.specs.Moving.{owner_by, state_by}
 use Rattle.ht_tree.specs.declared.row.Row.{Row}
+use Rattle.ht_tree.specs.Activation.{owner_by, state_by}
 use Rattle.ht_tree.specs.Plans.{Goes, PlanOf, planned}
 use Rattle.ht_tree.specs.Soundness.{KeepsSound}
 use Rattle.ht_tree.specs.Tables.{TablesOf, task_row, with_row}

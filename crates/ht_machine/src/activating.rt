@@ -3,8 +3,8 @@ ghost use Rattle.ht_machine.specs.Activating as spec;
 ghost use Rattle.ht_machine.specs.Activating.{Becomes, IsCreated};
 ghost use Rattle.ht_tree.specs.Plans.{IsPlanOf, planned};
 
-use ht_base::{Memory, State, TaskId};
-use ht_tree::{Plan, Row, Tables};
+use ht_base::{Memory, TaskId};
+use ht_tree::{Plan, Row, Tables, owner_by, state_by};
 use std::alloc::Global;
 
 /// Plans the activation of a created task (WS-HumanTask 1.1, 4.10.1).
@@ -28,13 +28,8 @@ fn activated(row: Row) -> Row
     ensures { result ≡ spec.activated row }
 {
     let mut row = row;
-    let (state, owner) = match row.potential_owners.as_slice() {
-        [] => (row.state, None),
-        [owner] => (State::Reserved, Some(*owner)),
-        _ => (State::Ready, None),
-    };
-    row.state = state;
-    row.owner = owner;
+    row.state = state_by(&row.potential_owners, row.state);
+    row.owner = owner_by(&row.potential_owners);
     row.waits = None;
     row
 }

@@ -8,19 +8,17 @@ use ht_base::{
 };
 use ht_models::Models;
 use ht_people::Directory;
+use ht_samples::PEOPLE;
 use ht_tree::Tables;
 use std::alloc::Global;
 use std::test::Fail;
-
-const PEOPLE: &[u8] =
-    b"[[person]]\nname = \"anna\"\n[[person]]\nname = \"ben\"\n[[person]]\nname = \"cora\"\n[[person]]\nname = \"dan\"\n[[person]]\nname = \"root\"\noperator = true\n[[group]]\nname = \"clerks\"\nmembers = [\"anna\", \"ben\"]\n";
 
 const MODELS: &[u8] =
     b"[[model]]\nname = \"unit\"\npotentialOwners = \"group('clerks')\"\nadministrators = \"user('cora')\"\n[[model]]\nname = \"solo\"\npotentialOwners = \"user('anna')\"\n[[model]]\nname = \"shut\"\npotentialOwners = \"user('anna')\"\nexcludedOwners = \"user('anna')\"\nadministrators = \"user('cora')\"\n";
 
 fn tables(alloc: Global) -> Result<Tables, Fail> {
     let models = Models::read(alloc, MODELS)?;
-    let people = Directory::read(alloc, PEOPLE)?;
+    let people = Directory::read(alloc, PEOPLE.as_bytes())?;
     Ok(Tables::new(alloc, models, people)?)
 }
 

@@ -3,9 +3,8 @@
 use Rattle.std.specs.Prelude.{◌≡◌, ◌⊎◌, ℕ, ◌&&◌, Bool, true, false, List, [], ◌∷◌, map, Option, Some, None, is_some, option_map, unwrap_or, slice_get, codes, if◌then◌else◌}
 use Rattle.std.specs.Option.{option_and_then}
 use Rattle.toml.specs.Data.{Data, Members, as_str, as_table, get_member}
-use Rattle.ht_base.specs.Name.{name_of}
 use Rattle.ht_toml.specs.Entries.{each}
-use Rattle.ht_toml.specs.Tables.{array_at, has_only, text_at}
+use Rattle.ht_toml.specs.Tables.{array_at, has_only, name_at}
 
 -- a model, and its assignments as they are written, of which each may be missing
 pub record ModelText : Type 0 where
@@ -30,9 +29,6 @@ known_keys =
     codes "name" ∷ codes "potentialOwners" ∷ codes "excludedOwners"
     ∷ codes "administrators" ∷ codes "stakeholders" ∷ []
 
-abbrev pub name_in : Members → Option (List ℕ)
-name_in ms = option_and_then name_of (text_at (codes "name") ms)
-
 -- the text of a key that may be missing. A value of another kind is none
 abbrev pub text_of : Data → Option (Option (List ℕ))
 text_of d = option_map (λ text. Some text) (as_str d)
@@ -52,7 +48,7 @@ None also value = None
 
 abbrev pub values_in : Members → Option ModelText
 values_in ms =
-    option_map model_text (name_in ms)
+    option_map model_text (name_at (codes "name") ms)
     also text_in (codes "potentialOwners") ms
     also text_in (codes "excludedOwners") ms
     also text_in (codes "administrators") ms

@@ -12,7 +12,7 @@ pub struct Model {
     /// Who administers a task, or None where the text doesn't say: a sub task then has its parent's
     /// administrators, and any other task has none.
     pub administrators: Option<Assign>,
-    /// Who may see a task without acting on it, or None as with the administrators.
+    /// Who has a stake in a task, with the rights of its administrators, or None as with these.
     pub stakeholders: Option<Assign>,
     /// The number of tasks in its tree: 1, as long as models have no sub tasks.
     pub size: u32,

@@ -3,7 +3,7 @@ ghost use Rattle.toml.specs.View.{table_view, view};
 ghost use Rattle.ht_models.specs.ModelsText as spec;
 
 use ht_base::{Name, Txt};
-use ht_toml::{Shape, has_only, text_at};
+use ht_toml::{Shape, has_only, name_at};
 use std::alloc::{AllocError, Global};
 use std::marker::Model;
 use toml::{Table, Value};
@@ -55,7 +55,7 @@ fn model_in(alloc: Global, table: &Table) -> Result<Option<ModelText>, AllocErro
     if !has_only(table, &KNOWN_KEYS) {
         return Ok(None);
     }
-    let Some(name) = name_in(table) else {
+    let Some(name) = name_at(table, "name") else {
         return Ok(None);
     };
     let Some(potential_owners) = text_in(alloc, table, "potentialOwners")? else {
@@ -77,15 +77,6 @@ fn model_in(alloc: Global, table: &Table) -> Result<Option<ModelText>, AllocErro
         administrators,
         stakeholders,
     }))
-}
-
-fn name_in(table: &Table) -> Option<Name>
-    ensures { result ≡ spec.name_in (table_view table.now) }
-{
-    match text_at(table, "name") {
-        Some(text) => Name::of(text.as_bytes()),
-        None => None,
-    }
 }
 
 /// The text of a key that may be missing. A value of another kind is none.

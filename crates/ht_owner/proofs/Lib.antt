@@ -1,4 +1,3 @@
 mod Acted
 mod EffectsSound
 mod Moved
-pub mod PublicLaws

@@ -5,7 +5,7 @@ use Rattle.ht_base.specs.declared.operation.Op.TheVariants.{Claim}
 use Rattle.ht_base.specs.declared.state.State.{State}
 use Rattle.ht_base.specs.declared.state.State.TheVariants.{Created, Ready, Reserved, InProgress, SuspendedReady, SuspendedReserved, SuspendedInProgress, Completed, Failed, Error, Exited, Obsolete}
 use Rattle.ht_base.specs.Persons.{AllBelow, has}
-use Rattle.ht_owner.specs.Moving.{changed, moved, only_if, owner_after, owner_by, state_after, state_by}
+use Rattle.ht_owner.specs.Moving.{changed, moved, only_if, owner_after, state_after}
 use Rattle.ht_rules.specs.declared.changes.After.{After}
 use Rattle.ht_rules.specs.declared.changes.After.TheVariants as after
 use Rattle.ht_rules.specs.declared.changes.Change.{Change}
@@ -14,6 +14,7 @@ use Rattle.ht_rules.specs.declared.changes.OwnerAfter.TheVariants as owner
 use Rattle.ht_rules.specs.Changes.{changing}
 use Rattle.ht_rules.proofs.PublicLaws.{IsCaller, IsNamed}
 use Rattle.ht_tree.specs.declared.row.Row.{Row}
+use Rattle.ht_tree.proofs.PublicLaws.{by_people}
 use Rattle.ht_tree.specs.Soundness.{AreApart, IsSoundIn, IsTimed, IsWhose, is_created, is_owned, is_suspended}
 
 -- ---- whose it is
@@ -50,12 +51,6 @@ fits s op = refl
 pub record MayOwn (persons p : ℕ) (excluded : List ℕ) : Type 0 where
   pub known : p < persons
   pub allowed : has p excluded ≡ false
-
--- an owner as a task's people make it, which nobody owned
-pub by_people : (persons : ℕ) (others : List ℕ) (state : State) (owners : List ℕ) → AllBelow persons owners → AreApart owners others → is_owned state ≡ false → IsWhose persons others (state_by owners state) (owner_by owners)
-by_people persons others state [] all apart fit = record { owned = sym fit; known = tt; allowed = tt }
-by_people persons others state (p ∷ []) all apart fit = record { owned = refl; known = all.0; allowed = apart p (ap (λ b. b || false) (eq-eqb p p refl)) }
-by_people persons others state (p ∷ q ∷ ps) all apart fit = record { owned = refl; known = tt; allowed = tt }
 
 module _ (models persons caller named : ℕ) (row : Row) (sound : IsSoundIn models persons row) where
   whose : (c : Change) → Fits row.state c → (IsCaller c.owner → MayOwn persons caller row.excluded_owners) → (IsNamed c.owner → MayOwn persons named row.excluded_owners) → IsWhose persons row.excluded_owners (state_after c.after row.potential_owners row.state) (owner_after c.owner row.potential_owners row.owner caller named)

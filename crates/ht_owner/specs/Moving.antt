@@ -3,7 +3,6 @@
 use Rattle.std.specs.Prelude.{ℕ, Bool, List, [], ◌∷◌, Option, Some, None, if◌then◌else◌}
 use Rattle.ht_base.specs.declared.operation.Op.{Op}
 use Rattle.ht_base.specs.declared.state.State.{State}
-use Rattle.ht_base.specs.declared.state.State.TheVariants.{Reserved, Ready}
 use Rattle.ht_rules.specs.declared.changes.After.{After}
 use Rattle.ht_rules.specs.declared.changes.After.TheVariants as after
 use Rattle.ht_rules.specs.declared.changes.Change.{Change}
@@ -11,18 +10,8 @@ use Rattle.ht_rules.specs.declared.changes.OwnerAfter.{OwnerAfter}
 use Rattle.ht_rules.specs.declared.changes.OwnerAfter.TheVariants as owner
 use Rattle.ht_rules.specs.Changes.{changing}
 use Rattle.ht_tree.specs.declared.row.Row.{Row}
+use Rattle.ht_tree.specs.Activation.{owner_by, state_by}
 use Rattle.ht_tree.specs.Soundness.{is_created, is_suspended}
-
--- one potential owner gets the task, several may claim it
-abbrev pub state_by : List ℕ → State → State
-state_by [] state = state
-state_by (p ∷ []) state = Reserved
-state_by (p ∷ q ∷ ps) state = Ready
-
-abbrev pub owner_by : List ℕ → Option ℕ
-owner_by [] = None
-owner_by (p ∷ []) = Some p
-owner_by (p ∷ q ∷ ps) = None
 
 abbrev pub state_after : After → List ℕ → State → State
 state_after (after.To state) owners old = state

@@ -1,10 +1,9 @@
 ghost use Rattle.std.specs.Prelude.{◌≡◌};
 ghost use Rattle.ht_owner.specs.Moving as spec;
-ghost use Rattle.ht_tree.specs.Soundness as soundness;
 
 use ht_base::{Op, Person, Persons, State};
-use ht_rules::{After, Change, OwnerAfter, next};
-use ht_tree::Row;
+use ht_rules::{After, Change, OwnerAfter, SUSPENDED, next};
+use ht_tree::{Row, owner_by, state_by};
 
 const UNCHANGED: Change = Change {
     after: After::Same,
@@ -26,7 +25,7 @@ pub(crate) fn moved(row: Row, op: Op, caller: Person, named: Person) -> Row
     if state != State::Created {
         row.waits = None;
     }
-    if !is_suspended(state) {
+    if !SUSPENDED.contains(state) {
         row.until = None;
     }
     row
@@ -38,11 +37,7 @@ fn state_after(after: After, owners: &Persons, state: State) -> State
     match after {
         After::To(state) => state,
         After::Same => state,
-        After::ByPeople => match owners.as_slice() {
-            [] => state,
-            [_] => State::Reserved,
-            _ => State::Ready,
-        },
+        After::ByPeople => state_by(owners, state),
     }
 }
 
@@ -60,18 +55,6 @@ fn owner_after(
         OwnerAfter::Cleared => None,
         OwnerAfter::Caller => Some(caller),
         OwnerAfter::Named => Some(named),
-        OwnerAfter::ByPeople => match owners.as_slice() {
-            [owner] => Some(*owner),
-            _ => None,
-        },
-    }
-}
-
-fn is_suspended(state: State) -> bool
-    ensures { result ≡ soundness.is_suspended state }
-{
-    match state {
-        State::SuspendedReady | State::SuspendedReserved | State::SuspendedInProgress => true,
-        _ => false,
+        OwnerAfter::ByPeople => owner_by(owners),
     }
 }

@@ -5,7 +5,7 @@ use Rattle.std.specs.Option.{option_and_then}
 use Rattle.toml.specs.Data.{Data, Members, as_str, as_table}
 use Rattle.ht_base.specs.Name.{name_of}
 use Rattle.ht_toml.specs.Entries.{each}
-use Rattle.ht_toml.specs.Tables.{array_at, entries_at, has_only, text_at, truth_at}
+use Rattle.ht_toml.specs.Tables.{array_at, entries_at, has_only, name_at, truth_at}
 use Rattle.ht_people.specs.declared.entries.MemberName.{MemberName}
 use Rattle.ht_people.specs.declared.entries.MemberName.TheVariants as member
 use Rattle.ht_people.specs.declared.entries.PersonEntry.{PersonEntry}
@@ -27,10 +27,6 @@ member_of_text (c ∷ rest) = if c == 64 then option_map member.Group (name_of r
 abbrev pub member_of : Data → Option MemberName
 member_of d = option_and_then member_of_text (as_str d)
 
--- the name of a table, which each of our tables must have
-abbrev pub name_in : Members → Option (List ℕ)
-name_in ms = option_and_then name_of (text_at (codes "name") ms)
-
 -- a person has a name, and may be marked as an operator
 abbrev pub person_with : List ℕ → Bool → PersonEntry
 person_with name operator = record { name = name; operator = operator }
@@ -38,7 +34,7 @@ person_with name operator = record { name = name; operator = operator }
 abbrev pub person_in : Members → Option PersonEntry
 person_in ms =
     if has_only (codes "name" ∷ codes "operator" ∷ []) ms
-    then option_and_then (λ name. option_map (person_with name) (truth_at (codes "operator") false ms)) (name_in ms)
+    then option_and_then (λ name. option_map (person_with name) (truth_at (codes "operator") false ms)) (name_at (codes "name") ms)
     else None
 
 abbrev pub person_of : Data → Option PersonEntry
@@ -51,7 +47,7 @@ group_with name members = record { name = name; members = members }
 abbrev pub group_in : Members → Option GroupText
 group_in ms =
     if has_only (codes "name" ∷ codes "members" ∷ []) ms
-    then option_and_then (λ name. option_map (group_with name) (option_and_then (each member_of) (array_at (codes "members") ms))) (name_in ms)
+    then option_and_then (λ name. option_map (group_with name) (option_and_then (each member_of) (array_at (codes "members") ms))) (name_at (codes "name") ms)
     else None
 
 abbrev pub group_of : Data → Option GroupText

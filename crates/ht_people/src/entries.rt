@@ -6,7 +6,7 @@ ghost use Rattle.ht_people.specs.PeopleText.{IsMisshapen};
 
 use crate::PeopleRefusal;
 use ht_base::{Key, Name};
-use ht_toml::{EntriesFault, Shape, array_at, each, entries_at, has_only, text_at, truth_at};
+use ht_toml::{EntriesFault, Shape, array_at, each, entries_at, has_only, name_at, truth_at};
 use std::alloc::{AllocError, Global};
 use std::marker::Model;
 use toml::{Table, Value};
@@ -127,7 +127,7 @@ fn person_in(table: &Table) -> Option<PersonEntry>
     if !has_only(table, &["name", "operator"]) {
         return None;
     }
-    let name = name_in(table)?;
+    let name = name_at(table, "name")?;
     let operator = truth_at(table, "operator", false)?;
     Some(PersonEntry { name, operator })
 }
@@ -151,7 +151,7 @@ fn group_in(alloc: Global, table: &Table) -> Result<Option<GroupEntry>, AllocErr
     if !has_only(table, &["name", "members"]) {
         return Ok(None);
     }
-    let Some(name) = name_in(table) else {
+    let Some(name) = name_at(table, "name") else {
         return Ok(None);
     };
     let Some(members) = array_at(table, "members") else {
@@ -161,15 +161,6 @@ fn group_in(alloc: Global, table: &Table) -> Result<Option<GroupEntry>, AllocErr
         Ok(members) => Ok(Some(GroupEntry { name, members })),
         Err(EntriesFault::Misshapen(_)) => Ok(None),
         Err(EntriesFault::Memory) => Err(AllocError),
-    }
-}
-
-fn name_in(table: &Table) -> Option<Name>
-    ensures { result ≡ spec.name_in (table_view table.now) }
-{
-    match text_at(table, "name") {
-        Some(name) => Name::of(name.as_bytes()),
-        None => None,
     }
 }
 

@@ -2,11 +2,11 @@
 //! (people assignment, WS-HumanTask 1.1, 3.5).
 #![tactic(auto)]
 
-mod built_in;
 mod chains;
 mod directory;
 mod entries;
 mod groups;
+mod laws;
 mod places;
 mod ranking;
 mod ranks;
@@ -17,8 +17,8 @@ mod sets;
 mod tests;
 mod walking;
 
-pub use built_in::built_in_people_are_read;
 pub use directory::Directory;
 pub use entries::{MemberName, PersonEntry};
+pub use laws::built_in_text_reads;
 pub use refusal::PeopleRefusal;
 pub use sets::{except, intersect, union};

@@ -54,9 +54,9 @@ fn merge(alloc: Global, first: &Persons, second: &Persons, keep: Keep) -> Result
     ensures set { IfOk result (λ set. (p : ℕ) → has p set ≡ keeps keep (has p first.now) (has p second.now)) }
     ensures ascends { IfOk result Ascends }
 {
-    let mut merged = Persons::new(alloc);
     let mut first = first.as_slice();
     let mut second = second.as_slice();
+    let mut merged = Persons::with_capacity(alloc, first.len())?;
     while let Some(person) = least_of(first, second) {
         let in_first = begins_with(first, person);
         let in_second = begins_with(second, person);

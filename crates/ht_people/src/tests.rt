@@ -1,13 +1,11 @@
 use crate::groups::Group;
 use crate::ranking::ranks;
 use crate::ranks::{falls, never_rises};
-use crate::{Directory, PeopleRefusal, built_in_people_are_read, except, intersect, union};
+use crate::{Directory, PeopleRefusal, built_in_text_reads, except, intersect, union};
 use ht_base::{Name, Person, Persons};
+use ht_samples::PEOPLE;
 use std::alloc::{AllocError, Global};
 use std::test::Fail;
-
-const SAMPLE: &[u8] =
-    b"[[person]]\nname = \"anna\"\n[[person]]\nname = \"ben\"\n[[person]]\nname = \"cora\"\n[[person]]\nname = \"dan\"\n[[person]]\nname = \"root\"\noperator = true\n[[group]]\nname = \"clerks\"\nmembers = [\"anna\", \"ben\"]\n";
 
 const ITS_OWN_MEMBER: &[u8] =
     b"[[person]]\nname = \"anna\"\n[[person]]\nname = \"ben\"\n[[person]]\nname = \"cora\"\n[[person]]\nname = \"dan\"\n[[person]]\nname = \"root\"\noperator = true\n[[group]]\nname = \"clerks\"\nmembers = [\"anna\", \"@clerks\"]\n";
@@ -221,7 +219,7 @@ fn members_of(alloc: Global, directory: &Directory, group: &str) -> Result<Perso
 
 #[test]
 fn the_sample_people_are_read(rt: HostRuntime) -> Result<(), Fail> {
-    let directory = Directory::read(rt.alloc(), SAMPLE)?;
+    let directory = Directory::read(rt.alloc(), PEOPLE.as_bytes())?;
     assert_eq!(rt; directory.persons(), 5);
     assert_eq!(rt; directory.groups(), 1);
     let table = [
@@ -253,7 +251,7 @@ fn the_sample_people_are_read(rt: HostRuntime) -> Result<(), Fail> {
 
 #[test]
 fn the_built_in_people_are_read(rt: HostRuntime) -> Result<(), Fail> {
-    built_in_people_are_read();
+    built_in_text_reads();
     let mut text = String::new(rt.alloc());
     for n in 0..16u32 {
         write!(text, "[[person]]\nname = \"p{n}\"\n")?;

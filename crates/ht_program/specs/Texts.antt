@@ -163,11 +163,11 @@ answer_status e (Refused why) = refusal_status why
 
 abbrev pub api_status : ApiRefusal → ℕ
 api_status Route = 404
-api_status Person = 401
+api_status Person = refusal_status refusal.Person
 
 abbrev pub api_text : ApiRefusal → List ℕ
 api_text Route = fault (codes "Route")
-api_text Person = fault (codes "Person")
+api_text Person = refusal_text refusal.Person
 
 -- of a connection that is refused with this code
 abbrev pub refused_text : ℕ → List ℕ

@@ -4,8 +4,8 @@ ghost use Rattle.ht_people.specs.BuiltIn as people;
 ghost use Rattle.ht_program.specs.BuiltIn.{built_in_tables};
 
 use ht_base::Memory;
-use ht_models::{Models, built_in_text_reads};
-use ht_people::{Directory, built_in_people_are_read};
+use ht_models::Models;
+use ht_people::Directory;
 use ht_tree::Tables;
 use std::alloc::Global;
 
@@ -28,7 +28,7 @@ pub(crate) fn built_in_tables(alloc: Global) -> Result<Tables, Memory>
 fn built_in_models(alloc: Global) -> Result<Models, Memory>
     ensures { IfOk result (λ m. m ≡ models.unit ∷ []) }
 {
-    built_in_text_reads();
+    ht_models::built_in_text_reads();
     match Models::read(alloc, MODELS) {
         Ok(models) => Ok(models),
         // Nothing is wrong with the text, by the law above.
@@ -39,7 +39,7 @@ fn built_in_models(alloc: Global) -> Result<Models, Memory>
 fn built_in_people(alloc: Global) -> Result<Directory, Memory>
     ensures { IfOk result (λ d. d ≡ people.built_in_people) }
 {
-    built_in_people_are_read();
+    ht_people::built_in_text_reads();
     match Directory::read(alloc, PEOPLE) {
         Ok(people) => Ok(people),
         // Nothing is wrong with the text, by the law above.

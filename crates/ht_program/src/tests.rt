@@ -1,6 +1,7 @@
 use crate::{Status, office};
 use ht_base::{Bytes, Txt};
 use ht_outside::{MemorySink, MemorySource, MemoryTexts};
+use ht_samples::PEOPLE;
 use std::alloc::Global;
 use std::test::Fail;
 
@@ -376,10 +377,6 @@ fn nothing_is_read_behind_a_request_that_closes(rt: HostRuntime) -> Result<(), F
     assert_eq!(rt; ran.status, Status(0));
     Ok(())
 }
-
-const PEOPLE: &str = "[[person]]\nname = \"anna\"\n[[person]]\nname = \"ben\"\n\
-    [[person]]\nname = \"cora\"\n[[person]]\nname = \"dan\"\n[[person]]\nname = \"root\"\n\
-    operator = true\n[[group]]\nname = \"clerks\"\nmembers = [\"anna\", \"ben\"]\n";
 
 const SHUT: &str = "[[model]]\nname = \"shut\"\npotentialOwners = \"user('anna')\"\n\
     excludedOwners = \"user('anna')\"\nadministrators = \"user('cora')\"\n";

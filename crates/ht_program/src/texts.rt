@@ -19,6 +19,9 @@ pub(crate) const TEXT_ROOM: u32 = 1024;
 /// The text of a reply where there is no memory to act on a request, or to show a sheet.
 pub(crate) const MEMORY_TEXT: &[u8] = b"{\"fault\":\"Memory\"}";
 
+// The text of the reply to somebody who is no person of the directory, or who isn't told.
+const PERSON_TEXT: &[u8] = b"{\"fault\":\"Person\"}";
+
 /// The status of the reply to an event: 201 where a task was created.
 pub(crate) fn status_of(event: &Event, answer: &Answer) -> u16
     ensures status { result ≡ answer_status event.now answer.now }
@@ -115,7 +118,7 @@ fn write_refusal(refusal: &Refusal, into: &mut Bytes)
     ensures kept { into.old.spare ≤ into.new.spare + length into.new.items }
 {
     match refusal {
-        Refusal::Person => put(b"{\"fault\":\"Person\"}", into),
+        Refusal::Person => put(PERSON_TEXT, into),
         Refusal::Task(task) => write_task_refusal(*task, into),
         Refusal::Role { needs } => write_role_refusal(needs, into),
         Refusal::Unknown(Unknown::Model(name)) => write_unknown_model(name, into),
@@ -203,6 +206,6 @@ pub(crate) fn api_reply(refusal: ApiRefusal) -> (u16, &'static [u8])
 {
     match refusal {
         ApiRefusal::Route => (404, b"{\"fault\":\"Route\"}"),
-        ApiRefusal::Person => (401, b"{\"fault\":\"Person\"}"),
+        ApiRefusal::Person => (401, PERSON_TEXT),
     }
 }

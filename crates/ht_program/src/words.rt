@@ -91,18 +91,7 @@ fn begin_options(name: &String, value: &String, later: &[String]) -> bool
 fn is_option(word: &String) -> bool
     ensures { result ≡ spec.is_option (string_bytes word.now) }
 {
-    is_among(&OPTIONS, word.as_bytes())
-}
-
-fn is_among(names: &[&[u8]], name: &[u8]) -> bool
-    ensures { result ≡ list_any (λ n. bytes_eq n name.now) (map (λ n. n.now) names.now) }
-{
-    for known in names {
-        if *known == name {
-            return true;
-        }
-    }
-    false
+    OPTIONS.contains(&word.as_bytes())
 }
 
 fn is_value(word: &String) -> bool

@@ -96,7 +96,8 @@ pub(crate) const OWNED_SUSPENDED: StateSet = StateSet {
     ..SUSPENDED_IN_PROGRESS
 };
 
-pub(crate) const SUSPENDED: StateSet = StateSet {
+/// The states of a task that is suspended.
+pub const SUSPENDED: StateSet = StateSet {
     suspended_ready: true,
     ..OWNED_SUSPENDED
 };

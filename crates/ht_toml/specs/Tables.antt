@@ -2,6 +2,7 @@
 use Rattle.std.specs.Prelude.{ℕ, Bool, List, [], ◌∷◌, Option, Some, None, option_map, bytes_eq}
 use Rattle.std.specs.List.{list_all, list_any}
 use Rattle.std.specs.Option.{option_and_then}
+use Rattle.ht_base.specs.Name.{name_of}
 use Rattle.toml.specs.Data.{Data, Items, no_items, item, Members, no_members, member, get_member, as_array, as_bool, as_str}
 
 -- a list, whose entries the library's data has one behind another
@@ -23,6 +24,10 @@ has_only known ms = list_all (is_among known) (keys ms)
 -- the text at a key
 abbrev pub text_at : List ℕ → Members → Option (List ℕ)
 text_at k ms = option_and_then as_str (get_member k ms)
+
+-- the name at a key
+abbrev pub name_at : List ℕ → Members → Option (List ℕ)
+name_at k ms = option_and_then name_of (text_at k ms)
 
 -- the truth value at a key, or this one where the key is missing
 abbrev pub truth_or : Bool → Option Data → Option Bool

@@ -10,4 +10,4 @@ mod tests;
 
 pub use documents::{DocumentFault, document};
 pub use entries::{EntriesFault, Shape, each};
-pub use tables::{array_at, entries_at, has_only, text_at, truth_at};
+pub use tables::{array_at, entries_at, has_only, name_at, text_at, truth_at};

@@ -3,6 +3,7 @@ ghost use Rattle.toml.specs.Data.{get_member};
 ghost use Rattle.toml.specs.View.{table_view, view};
 ghost use Rattle.ht_toml.specs.Tables as spec;
 
+use ht_base::Name;
 use toml::{Table, Value};
 
 /// Whether each key of the table is one of these.
@@ -23,6 +24,16 @@ pub fn text_at<'a>(table: &'a Table, key: &str) -> Option<&'a str>
 {
     match value_at(table, key) {
         Some(value) => value.as_str(),
+        None => None,
+    }
+}
+
+/// The name at a key.
+pub fn name_at(table: &Table, key: &str) -> Option<Name>
+    ensures { result ≡ spec.name_at key.now (table_view table.now) }
+{
+    match text_at(table, key) {
+        Some(text) => Name::of(text.as_bytes()),
         None => None,
     }
 }

@@ -1,7 +1,8 @@
 use crate::{
-    DocumentFault, EntriesFault, Shape, array_at, document, each, entries_at, has_only, text_at,
-    truth_at,
+    DocumentFault, EntriesFault, Shape, array_at, document, each, entries_at, has_only, name_at,
+    text_at, truth_at,
 };
+use ht_base::Name;
 use std::alloc::{AllocError, Global};
 use std::test::Fail;
 use toml::Value;
@@ -47,6 +48,8 @@ fn values_are_found_by_their_shape(rt: HostRuntime) -> Result<(), Fail> {
     assert_eq!(rt; text_at(&table, "name"), Some("anna"));
     assert_eq!(rt; text_at(&table, "operator"), None);
     assert_eq!(rt; text_at(&table, "nam"), None);
+    assert!(rt; name_at(&table, "name") == Name::of(b"anna"));
+    assert!(rt; name_at(&table, "operator").is_none());
     assert_eq!(rt; truth_at(&table, "operator", false), Some(true));
     assert_eq!(rt; truth_at(&table, "other", false), Some(false));
     assert_eq!(rt; truth_at(&table, "name", false), None);

@@ -1,3 +1,4 @@
+mod Activation
 mod Counting
 mod Fitting
 mod Planning

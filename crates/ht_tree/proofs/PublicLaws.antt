@@ -1,4 +1,5 @@
 -- Laws of rows, of planned tables and of sound ones, for the proofs of crates above.
+pub use Rattle.ht_tree.proofs.Activation.{by_people, owner_known}
 pub use Rattle.ht_tree.proofs.Fitting.{sound_row_fits}
 pub use Rattle.ht_tree.proofs.Putting.{row_at-put_in, length-put_in}
 pub use Rattle.ht_tree.proofs.Selecting.{selected_apart, selected_ascends}

@@ -1,10 +1,11 @@
 -- Sets of persons as filters of everybody.
-use Rattle.std.proofs.Common.{◌≡◌, ℕ, ◌+◌, ◌<◌, ◌≤◌, ◌==◌, zero, suc, nat_lt, Bool, true, false, not, ◌&&◌, ◌||◌, cond, List, [], ◌∷◌, ◌++◌, filter, refl, ap, sym, ◌∙◌, subst, inl, inr, eq-eqb, arith}
+use Rattle.std.proofs.Common.{◌≡◌, ℕ, ◌+◌, ◌<◌, ◌≤◌, ◌==◌, zero, suc, nat_lt, Bool, true, false, not, ◌&&◌, ◌||◌, cond, List, [], ◌∷◌, ◌++◌, filter, length, refl, ap, sym, ◌∙◌, subst, inl, inr, eq-eqb, arith}
 use Rattle.std.proofs.lemmas.Bool.{cases_eq}
+use Rattle.std.proofs.lemmas.List.{nil_from_length}
 use Rattle.std.proofs.lemmas.Bool.Decides.{nat_tests}
 use Rattle.ht_base.specs.Persons.{AllBelow, Ascends, AscendsFrom, has}
 use Rattle.std.specs.List.{range_with_len}
-use Rattle.std.specs.Prelude.{Result, Ok, Err, IfOk}
+use Rattle.std.specs.Prelude.{Result, Ok, Err, IfOk, ⊤}
 
 apart : (m n : ℕ) → (m ≡ n → ⊥) → (m == n) ≡ false
 apart m n d = grind (arith, nat_tests)
@@ -182,23 +183,15 @@ select_one test n q within is = selected test n (q ∷ []) (omega arith, tt) eac
 
 -- ---- of two sets
 
-pub select_either : (f g : ℕ → Bool) (n : ℕ) (ps : List ℕ) → Ascends ps → ((p : ℕ) → has p ps ≡ (has p (filter f (range_with_len 0 n)) || has p (filter g (range_with_len 0 n)))) → ps ≡ filter (λ p. f p || g p) (range_with_len 0 n)
-select_either f g n ps a h = selected (λ p. f p || g p) n ps a (λ p. h p ∙ rw (has_selected f n p, has_selected g n p) (either_of (nat_lt p n) (f p) (g p)))
-
-pub select_both : (f g : ℕ → Bool) (n : ℕ) (ps : List ℕ) → Ascends ps → ((p : ℕ) → has p ps ≡ (has p (filter f (range_with_len 0 n)) && has p (filter g (range_with_len 0 n)))) → ps ≡ filter (λ p. f p && g p) (range_with_len 0 n)
-select_both f g n ps a h = selected (λ p. f p && g p) n ps a (λ p. h p ∙ rw (has_selected f n p, has_selected g n p) (both_of (nat_lt p n) (f p) (g p)))
-
-pub select_first : (f g : ℕ → Bool) (n : ℕ) (ps : List ℕ) → Ascends ps → ((p : ℕ) → has p ps ≡ (has p (filter f (range_with_len 0 n)) && not (has p (filter g (range_with_len 0 n))))) → ps ≡ filter (λ p. f p && not (g p)) (range_with_len 0 n)
-select_first f g n ps a h = selected (λ p. f p && not (g p)) n ps a (λ p. h p ∙ rw (has_selected f n p, has_selected g n p) (first_of_two (nat_lt p n) (f p) (g p)))
+-- what is answered of two sets, where a test of both goes with being there
+pub joined : {E : Type 0} (join : Bool → Bool → Bool) → ((a b c : Bool) → join (a && b) (a && c) ≡ (a && join b c)) → (f g : ℕ → Bool) (n : ℕ) (xs ys : List ℕ) → xs ≡ filter f (range_with_len 0 n) → ys ≡ filter g (range_with_len 0 n) → (r : Result (List ℕ) E) → IfOk r (λ l. (p : ℕ) → has p l ≡ join (has p xs) (has p ys)) → IfOk r Ascends → IfOk r (λ l. l ≡ filter (λ p. join (f p) (g p)) (range_with_len 0 n))
+joined join law f g n xs ys x y (Ok l) set up = selected (λ p. join (f p) (g p)) n l up (λ p. set p ∙ rw (x, y, has_selected f n p, has_selected g n p) (law (nat_lt p n) (f p) (g p)))
+joined join law f g n xs ys x y (Err e) set up = tt
 
 -- what is answered says more
 pub if_ok : {A E : Type 0} (P Q : A → Type 0) (r : Result A E) → ((x : A) → P x → Q x) → IfOk r P → IfOk r Q
 if_ok P Q (Ok x) more p = more x p
 if_ok P Q (Err e) more p = tt
-
-pub if_both : {A E : Type 0} (P Q R : A → Type 0) (r : Result A E) → ((x : A) → P x → Q x → R x) → IfOk r P → IfOk r Q → IfOk r R
-if_both P Q R (Ok x) more p q = more x p q
-if_both P Q R (Err e) more p q = tt
 
 -- ---- a filter ascends
 
@@ -226,3 +219,18 @@ selected_apart f g n p h = has_selected g n p ∙ apart_of (nat_lt p n) (f p) (g
     apart_of true false c h = cc
     apart_of true true false h = refl
     apart_of true true true h = cc
+
+-- where nobody is taken out, all are left
+pub all_but_nobody : (f g : ℕ → Bool) (n : ℕ) → (length (filter g (range_with_len 0 n)) == 0) ≡ true → filter f (range_with_len 0 n) ≡ filter (λ p. f p && not (g p)) (range_with_len 0 n)
+all_but_nobody f g n none =
+    let out = filter g (range_with_len 0 n) in
+    let all = filter f (range_with_len 0 n) in
+    let answer : Result (List ℕ) ⊤ = Ok all in
+    joined (λ a b. a && not b) first_of_two f g n all [] refl (sym (nil_from_length out (is_zero (length out) none))) answer (λ p. stays (has p all)) (selected_ascends f n)
+  where
+    is_zero : (k : ℕ) → (k == 0) ≡ true → k ≡ 0
+    is_zero k h = grind (arith, nat_tests)
+
+    stays : (b : Bool) → b ≡ (b && true)
+    stays true = refl
+    stays false = refl

@@ -1,3 +1,4 @@
+pub mod Activation
 pub mod Assigning
 pub mod Creating
 pub mod Examples

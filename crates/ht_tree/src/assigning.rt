@@ -80,8 +80,9 @@ pub(crate) fn found(
 fn everybody(alloc: Global, people: &Directory) -> Result<Persons, Memory>
     ensures { IfOk result (λ persons. persons ≡ membership.everybody people.now) }
 {
-    let mut persons = Persons::new(alloc);
-    for place in 0..people.persons() {
+    let count = people.persons();
+    let mut persons = Persons::with_capacity(alloc, count as usize)?;
+    for place in 0..count {
         persons.push(Person(place))?;
     }
     Ok(persons)
@@ -90,7 +91,7 @@ fn everybody(alloc: Global, people: &Directory) -> Result<Persons, Memory>
 fn alone(alloc: Global, person: Person) -> Result<Persons, Memory>
     ensures { IfOk result (λ persons. persons ≡ person ∷ []) }
 {
-    let mut persons = Persons::new(alloc);
+    let mut persons = Persons::with_capacity(alloc, 1)?;
     persons.push(person)?;
     Ok(persons)
 }

@@ -2,6 +2,7 @@
 //! with all the memory that it takes, and then its commit gives just the planned rows.
 #![tactic(auto)]
 
+mod activating;
 mod assigning;
 mod comments;
 mod creating;
@@ -15,6 +16,7 @@ mod taken;
 #[cfg(test)]
 mod tests;
 
+pub use activating::{owner_by, state_by};
 pub use assigning::{env, resolve};
 pub use comments::{Comment, Comments};
 pub use creating::{CreateRefusal, create};

@@ -1,11 +1,10 @@
-use Rattle.std.proofs.Common.{◌≡◌, ℕ, ◌&&◌, ◌||◌, not, List, ◌∷◌, [], length, refl, ap, sym, ◌∙◌}
-use Rattle.ht_base.specs.Persons.{Ascends, has}
-use Rattle.ht_expr.specs.Assignments.{Assignment, nobody, everybody, initiator, user, group, union, intersect, except}
+use Rattle.std.proofs.Common.{◌≡◌, ℕ, ◌&&◌, ◌||◌, not, List, ◌∷◌, [], IfOk, length, refl, ap, sym, subst, ◌∙◌}
+use Rattle.ht_expr.specs.Assignments.{Assignment, nobody, everybody, initiator, user, group}
 use Rattle.ht_expr.specs.Shown.{shown}
 use Rattle.ht_expr.specs.declared.assignment.Assign.{Assign}
 use Rattle.ht_people.specs.Membership as people
 use Rattle.ht_tree.specs.Assigning.{is_found, resolved}
-use Rattle.ht_tree.proofs.Selecting.{if_both, if_ok, select_all, select_both, select_either, select_first, select_none, select_one}
+use Rattle.ht_tree.proofs.Selecting.{both_of, either_of, first_of_two, if_ok, joined, select_all, select_none, select_one}
 use Rattle.ht_tree.proofs.assigning.+found.Goals as goal
 
 pub returns-in-Nobody : goal.returns-in-Nobody
@@ -60,18 +59,10 @@ returns-in_ok-second-in-Union t c =
     let i = c.args.env.now.initiator in
     let a : Assignment = shown c.in-Union.a.value in
     let b : Assignment = shown c.in-Union.b.value in
-    let n = length d.persons in
     let first : c.in_ok-first-in-Union.first ≡ resolved d i a = c.in_ok-first-in-Union.ensures ∙ ap (λ (x : Assign). resolved d i (shown x)) c.deref.ensures in
     let second : c.in_ok-second-in-Union.second ≡ resolved d i b = c.in_ok-second-in-Union.ensures ∙ ap (λ (x : Assign). resolved d i (shown x)) c.deref-in-Union.ensures in
-    let same : resolved d i (union a b) ≡ resolved d i (shown c.args.assign.now) = ap (λ (x : Assign). resolved d i (shown x)) (sym c.in-Union.is) in
-    if_both
-    (λ (l : List ℕ). (p : ℕ) → has p l ≡ (has p c.in_ok-first-in-Union.first || has p c.in_ok-second-in-Union.second))
-    Ascends
-    (λ (l : List ℕ). l ≡ resolved d i (shown c.args.assign.now))
-    c.union.result
-    (λ l h up. select_either (is_found d i a) (is_found d i b) n l up (λ p. h p ∙ rw (first, second) refl) ∙ same)
-    c.union.ensures.set
-    c.union.ensures.ascends
+    let P : Assign → Type 0 = λ x. IfOk c.union.result (λ l. l ≡ resolved d i (shown x)) in
+    subst P (sym c.in-Union.is) (joined (λ x y. x || y) either_of (is_found d i a) (is_found d i b) (length d.persons) c.in_ok-first-in-Union.first c.in_ok-second-in-Union.second first second c.union.result c.union.ensures.set c.union.ensures.ascends)
 
 pub returns-in_ok-second-in-Intersect : goal.returns-in_ok-second-in-Intersect
 returns-in_ok-second-in-Intersect t c =
@@ -79,18 +70,10 @@ returns-in_ok-second-in-Intersect t c =
     let i = c.args.env.now.initiator in
     let a : Assignment = shown c.in-Intersect.a.value in
     let b : Assignment = shown c.in-Intersect.b.value in
-    let n = length d.persons in
     let first : c.in_ok-first-in-Intersect.first ≡ resolved d i a = c.in_ok-first-in-Intersect.ensures ∙ ap (λ (x : Assign). resolved d i (shown x)) c.deref-in-Intersect.ensures in
     let second : c.in_ok-second-in-Intersect.second ≡ resolved d i b = c.in_ok-second-in-Intersect.ensures ∙ ap (λ (x : Assign). resolved d i (shown x)) c.deref-in-Intersect-2.ensures in
-    let same : resolved d i (intersect a b) ≡ resolved d i (shown c.args.assign.now) = ap (λ (x : Assign). resolved d i (shown x)) (sym c.in-Intersect.is) in
-    if_both
-    (λ (l : List ℕ). (p : ℕ) → has p l ≡ (has p c.in_ok-first-in-Intersect.first && has p c.in_ok-second-in-Intersect.second))
-    Ascends
-    (λ (l : List ℕ). l ≡ resolved d i (shown c.args.assign.now))
-    c.intersect.result
-    (λ l h up. select_both (is_found d i a) (is_found d i b) n l up (λ p. h p ∙ rw (first, second) refl) ∙ same)
-    c.intersect.ensures.set
-    c.intersect.ensures.ascends
+    let P : Assign → Type 0 = λ x. IfOk c.intersect.result (λ l. l ≡ resolved d i (shown x)) in
+    subst P (sym c.in-Intersect.is) (joined (λ x y. x && y) both_of (is_found d i a) (is_found d i b) (length d.persons) c.in_ok-first-in-Intersect.first c.in_ok-second-in-Intersect.second first second c.intersect.result c.intersect.ensures.set c.intersect.ensures.ascends)
 
 pub returns-in_ok-second-in-Except : goal.returns-in_ok-second-in-Except
 returns-in_ok-second-in-Except t c =
@@ -98,15 +81,7 @@ returns-in_ok-second-in-Except t c =
     let i = c.args.env.now.initiator in
     let a : Assignment = shown c.in-Except.a.value in
     let b : Assignment = shown c.in-Except.b.value in
-    let n = length d.persons in
     let first : c.in_ok-first-in-Except.first ≡ resolved d i a = c.in_ok-first-in-Except.ensures ∙ ap (λ (x : Assign). resolved d i (shown x)) c.deref-in-Except.ensures in
     let second : c.in_ok-second-in-Except.second ≡ resolved d i b = c.in_ok-second-in-Except.ensures ∙ ap (λ (x : Assign). resolved d i (shown x)) c.deref-in-Except-2.ensures in
-    let same : resolved d i (except a b) ≡ resolved d i (shown c.args.assign.now) = ap (λ (x : Assign). resolved d i (shown x)) (sym c.in-Except.is) in
-    if_both
-    (λ (l : List ℕ). (p : ℕ) → has p l ≡ (has p c.in_ok-first-in-Except.first && not (has p c.in_ok-second-in-Except.second)))
-    Ascends
-    (λ (l : List ℕ). l ≡ resolved d i (shown c.args.assign.now))
-    c.except.result
-    (λ l h up. select_first (is_found d i a) (is_found d i b) n l up (λ p. h p ∙ rw (first, second) refl) ∙ same)
-    c.except.ensures.set
-    c.except.ensures.ascends
+    let P : Assign → Type 0 = λ x. IfOk c.except.result (λ l. l ≡ resolved d i (shown x)) in
+    subst P (sym c.in-Except.is) (joined (λ x y. x && not y) first_of_two (is_found d i a) (is_found d i b) (length d.persons) c.in_ok-first-in-Except.first c.in_ok-second-in-Except.second first second c.except.result c.except.ensures.set c.except.ensures.ascends)

@@ -1,9 +1,8 @@
-use Rattle.std.proofs.Common.{◌≡◌, ℕ, ◌&&◌, not, List, length, refl, ◌∙◌}
-use Rattle.ht_base.specs.Persons.{Ascends, has}
+use Rattle.std.proofs.Common.{◌≡◌, ℕ, ◌==◌, true, ◌&&◌, not, List, length, sym, subst, ◌∙◌}
 use Rattle.ht_expr.specs.Assignments.{Assignment}
 use Rattle.ht_expr.specs.Shown.{shown}
-use Rattle.ht_tree.specs.Assigning.{is_found, potential_owners}
-use Rattle.ht_tree.proofs.Selecting.{if_both, select_first}
+use Rattle.ht_tree.specs.Assigning.{is_found}
+use Rattle.ht_tree.proofs.Selecting.{all_but_nobody, first_of_two, joined}
 use Rattle.ht_tree.proofs.creating.owners.Goals as goal
 
 pub returns : goal.returns
@@ -12,11 +11,14 @@ returns c =
     let i = c.args.env.now.initiator in
     let a : Assignment = shown c.args.model.now.potential_owners in
     let b : Assignment = shown c.args.model.now.excluded_owners in
-    if_both
-    (λ (l : List ℕ). (p : ℕ) → has p l ≡ (has p c.in_ok-candidates.candidates && not (has p c.args.excluded.now)))
-    Ascends
-    (λ (l : List ℕ). l ≡ potential_owners d i a b)
-    c.except.result
-    (λ l h up. select_first (is_found d i a) (is_found d i b) (length d.persons) l up (λ p. h p ∙ rw (c.in_ok-candidates.ensures, c.requires.excluded) refl))
-    c.except.ensures.set
-    c.except.ensures.ascends
+    joined (λ x y. x && not y) first_of_two (is_found d i a) (is_found d i b) (length d.persons) c.in_ok-candidates.candidates c.args.excluded.now c.in_ok-candidates.ensures c.requires.excluded c.except.result c.except.ensures.set c.except.ensures.ascends
+
+pub returns-then-is_empty : goal.returns-then-is_empty
+returns-then-is_empty c =
+    let d = c.args.people.now in
+    let i = c.args.env.now.initiator in
+    let a : Assignment = shown c.args.model.now.potential_owners in
+    let b : Assignment = shown c.args.model.now.excluded_owners in
+    let P : List ℕ → Type 0 = λ l. (length l == 0) ≡ true in
+    let nobody = subst P (c.as_slice.ensures.value ∙ c.requires.excluded) (sym c.is_empty.ensures ∙ c.if-is_empty.true) in
+    c.in_ok-candidates.ensures ∙ all_but_nobody (is_found d i a) (is_found d i b) (length d.persons) nobody

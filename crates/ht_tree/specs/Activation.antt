@@ -1,0 +1,16 @@
+-- What the potential owners make of a task that nobody owns, at its activation
+-- (WS-HumanTask 1.1, 4.10.1).
+use Rattle.std.specs.Prelude.{ℕ, List, [], ◌∷◌, Option, Some, None}
+use Rattle.ht_base.specs.declared.state.State.{State}
+use Rattle.ht_base.specs.declared.state.State.TheVariants.{Reserved, Ready}
+
+-- one potential owner gets the task, several may claim it
+abbrev pub state_by : List ℕ → State → State
+state_by [] state = state
+state_by (p ∷ []) state = Reserved
+state_by (p ∷ q ∷ ps) state = Ready
+
+abbrev pub owner_by : List ℕ → Option ℕ
+owner_by [] = None
+owner_by (p ∷ []) = Some p
+owner_by (p ∷ q ∷ ps) = None
