@@ -34,12 +34,12 @@ impl Model for Plan {
 }
 
 impl Plan {
-    /// Changes nothing.
+    /// Changes nothing. It has room for one row, which is what most commands put.
     pub fn begin(alloc: Global) -> Result<Plan, Memory>
         ensures { IfOk result (λ plan. plan ≡ no_plan) }
     {
         Ok(Plan {
-            rows: Vec::new(alloc),
+            rows: Vec::with_capacity(alloc, 1)?,
             mark: 0,
         })
     }
