@@ -1,7 +1,10 @@
 -- Worked examples of the definitions. A wrong reading of one fails the check.
-use Rattle.std.specs.Prelude.{◌≡◌, ℕ, ◌+◌, refl, List, [], Some, None, codes, true, false, ◌∷◌}
+use Rattle.std.specs.Prelude.{◌≡◌, ℕ, ◌+◌, ◌*◌, refl, List, [], Some, None, codes, true, false, ◌∷◌}
+use Rattle.std.specs.Str.Parse.{digits_value}
 use Rattle.ht_base.specs.History.{Entry, IsLegal, end_of, own}
 use Rattle.ht_base.specs.Name.{is_name, name_of}
+use Rattle.ht_base.specs.Numbers.{is_number}
+use Rattle.ht_base.specs.Periods.{PeriodText, IsPeriod, millis, longest_period}
 use Rattle.ht_base.specs.Persons.{has}
 use Rattle.ht_base.specs.Places.{place_in}
 use Rattle.ht_base.specs.Values.{is_before}
@@ -46,6 +49,61 @@ before_the_longer = refl
 
 not_before_itself : is_before (codes "p1") (codes "p1") ≡ false
 not_before_itself = refl
+
+-- ---- numbers
+
+leading_zeros : is_number (codes "007") ≡ true
+leading_zeros = refl
+
+they_count_nothing : digits_value 10 (codes "007") ≡ 7
+they_count_nothing = refl
+
+six_digits : is_number (codes "999999") ≡ true
+six_digits = refl
+
+seven_digits : is_number (codes "1000000") ≡ false
+seven_digits = refl
+
+no_digits : is_number (codes "") ≡ false
+no_digits = refl
+
+a_sign : is_number (codes "+1") ≡ false
+a_sign = refl
+
+-- ---- periods
+
+abbrev days_alone : PeriodText
+days_alone = record { days = Some (codes "01"); time = None }
+
+a_day : IsPeriod (codes "P01D") days_alone
+a_day = record { written = refl; days = refl; time = tt; given = refl }
+
+a_day_has_24_hours : millis days_alone ≡ 24 * 60 * 60 * 1000
+a_day_has_24_hours = refl
+
+abbrev an_hour : PeriodText
+an_hour = record { days = None; time = Some (record { hours = Some (codes "1"); minutes = None; seconds = None }) }
+
+of_an_hour : IsPeriod (codes "PT1H") an_hour
+of_an_hour = record { written = refl; days = tt; time = record { hours = refl; minutes = tt; seconds = tt; given = refl }; given = refl }
+
+an_hour_has_60_minutes : millis an_hour ≡ 60 * 60 * 1000
+an_hour_has_60_minutes = refl
+
+abbrev each : List ℕ → PeriodText
+each digits = record { days = Some digits; time = Some (record { hours = Some digits; minutes = Some digits; seconds = Some digits }) }
+
+one_of_each : IsPeriod (codes "P1DT1H1M1S") (each (codes "1"))
+one_of_each = record { written = refl; days = refl; time = record { hours = refl; minutes = refl; seconds = refl; given = refl }; given = refl }
+
+one_of_each_is_long : millis (each (codes "1")) ≡ 90061000
+one_of_each_is_long = refl
+
+most_of_each : IsPeriod (codes "P999999DT999999H999999M999999S") (each (codes "999999"))
+most_of_each = record { written = refl; days = refl; time = record { hours = refl; minutes = refl; seconds = refl; given = refl }; given = refl }
+
+most_of_each_is_longest : millis (each (codes "999999")) ≡ longest_period
+most_of_each_is_longest = refl
 
 -- ---- histories, of a machine that adds and answers the sum
 

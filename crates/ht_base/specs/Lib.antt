@@ -6,6 +6,8 @@ pub mod Indexes
 pub mod Moment
 pub mod Name
 pub mod NameBytes
+pub mod Numbers
+pub mod Periods
 pub mod Persons
 pub mod Places
 pub mod Role

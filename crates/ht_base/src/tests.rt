@@ -1,6 +1,7 @@
 use crate::{
     Bytes, Command, Event, IndexFault, Kind, LAST, Moment, Name, Names, Op, Person, Persons, Query,
-    Record, Role, Roles, State, StateSet, TaskId, Txt, Value, Values, index, name_places,
+    Record, Role, Roles, State, StateSet, TaskId, Txt, Value, Values, index, name_places, number,
+    period,
 };
 use std::alloc::AllocError;
 use std::test::Fail;
@@ -73,6 +74,61 @@ fn sets_hold_what_was_put_in(rt: HostRuntime) {
 fn the_last_moment_is_the_end_of_9999(rt: HostRuntime) {
     // 2932896 is the day number of 9999-12-31.
     assert_eq!(rt; Moment(LAST), Moment(2_932_896 * 86_400_000 + 86_399_999));
+}
+
+#[test]
+fn numbers_have_one_to_six_digits(rt: HostRuntime) {
+    let table: [(&[u8], Option<u32>); 9] = [
+        (b"0", Some(0)),
+        (b"007", Some(7)),
+        (b"2026", Some(2026)),
+        (b"999999", Some(999_999)),
+        (b"1000000", None),
+        (b"", None),
+        (b"-1", None),
+        (b"+1", None),
+        (b"1a", None),
+    ];
+    for (bytes, value) in table {
+        assert_eq!(rt; number(bytes), value, "{bytes:?}");
+    }
+}
+
+#[test]
+fn periods_are_read(rt: HostRuntime) {
+    let table = [
+        ("P1D", Some(86_400_000)),
+        ("P01D", Some(86_400_000)),
+        ("PT1H", Some(3_600_000)),
+        ("PT1M", Some(60_000)),
+        ("PT1S", Some(1_000)),
+        ("P1DT2H3M4S", Some(93_784_000)),
+        ("PT2H4S", Some(7_204_000)),
+        ("P0D", Some(0)),
+        ("P999999DT999999H999999M999999S", Some(90_060_909_939_000)),
+        ("", None),
+        ("P", None),
+        ("PT", None),
+        ("P1DT", None),
+        ("PT4S3M", None),
+        ("PT1D", None),
+        ("P1H", None),
+        ("P1M", None),
+        ("PT1H1H", None),
+        ("P1234567D", None),
+        ("PD", None),
+        ("PT1", None),
+        ("P1D ", None),
+        (" P1D", None),
+        ("p1d", None),
+        ("P-1D", None),
+        ("P1.5D", None),
+        ("P1D\u{e9}", None),
+        ("P\u{661}D", None),
+    ];
+    for (text, millis) in table {
+        assert_eq!(rt; period(text), millis, "{text}");
+    }
 }
 
 #[test]
