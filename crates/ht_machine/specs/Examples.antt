@@ -28,35 +28,13 @@ use Rattle.ht_rules.specs.Judging.{needed}
 use Rattle.ht_rules.specs.Sets.{roles_of, states_of}
 use Rattle.ht_tree.specs.declared.row.Row.{Row}
 use Rattle.ht_tree.specs.Creating.{new_row}
+use Rattle.ht_tree.specs.Examples.{office, shut, unit}
 use Rattle.ht_tree.specs.Tables.{TablesOf, empty_tables}
 
 -- ---- an office
 
-abbrev person : List ℕ → PersonEntry
-person name = record { name = name; operator = false }
-
--- anna, ben, cora, dan and root, who is an operator, and the clerks anna and ben
-abbrev office : DirectoryOf
-office = record {
-  persons = person (codes "anna") ∷ person (codes "ben") ∷ person (codes "cora") ∷ person (codes "dan") ∷ record { name = codes "root"; operator = true } ∷ [];
-  groups = record { name = codes "clerks"; members = 0 ∷ 1 ∷ [] } ∷ [];
-}
-
-abbrev unit : ModelOf
-unit = record {
-  name = codes "unit";
-  potential_owners = group (codes "clerks");
-  excluded_owners = nobody;
-  administrators = Some (user (codes "cora"));
-  stakeholders = None;
-  size = 1;
-}
-
 abbrev solo : ModelOf
 solo = record unit { name = codes "solo"; potential_owners = user (codes "anna"); administrators = None }
-
-abbrev shut : ModelOf
-shut = record unit { name = codes "shut"; potential_owners = user (codes "anna"); excluded_owners = user (codes "anna") }
 
 abbrev nothing_yet : TablesOf
 nothing_yet = empty_tables (unit ∷ solo ∷ shut ∷ []) office

@@ -122,13 +122,6 @@ pub length-fold : (t : TablesOf) (rows puts : List Row) → Follow t rows puts �
 length-fold t rows [] f = refl
 length-fold t rows (p ∷ puts) f = length-fold t (put_in rows p) puts f.2 ∙ ap (λ n. fold (λ n row. max n row.task.0) n puts) (length-put_in rows p f.0)
 
-pub few_put : (t : TablesOf) (rows puts : List Row) → Follow t rows puts → length rows ≤ length (fold put_in rows puts)
-few_put t rows [] f = omega arith
-few_put t rows (p ∷ puts) f =
-    let more = few_put t (put_in rows p) puts f.2 in
-    let long = length-put_in rows p f.0 in
-    omega arith
-
 put_more_fits : (t : TablesOf) (p : PlanOf) (row : Row) → IsPlanOf t p → IsNext (planned t p).rows row → Fits t row → IsPlanOf t (put_more p row)
 put_more_fits t p row fit next fits = record {
   changes_fit = follow_push t t.rows (p.changes).rows row fit.changes_fit next fits;
@@ -165,6 +158,9 @@ few_fold count rows (p ∷ puts) f =
 pub can_put : (t : TablesOf) (rows puts : List Row) → Follow t rows puts → CanPut (length t.models) rows puts
 can_put t rows [] f = tt
 can_put t rows (p ∷ puts) f = (f.0, ((f.1).filed).model, can_put t (put_in rows p) puts f.2)
+
+pub few_put : (t : TablesOf) (rows puts : List Row) → Follow t rows puts → length rows ≤ length (fold put_in rows puts)
+few_put t rows puts f = few_fold (length t.models) rows puts (can_put t rows puts f)
 
 pub models_put : (count : ℕ) (rows : List Row) (row : Row) → IsNext rows row → row.model < count → HaveModels count rows → HaveModels count (put_in rows row)
 models_put count rows row next h have i r at = here (row.task.0 == suc i) (sym (row_at-put_in rows row (suc i) next) ∙ at)

@@ -23,7 +23,7 @@ abbrev person : List ℕ → PersonEntry
 person name = record { name = name; operator = false }
 
 -- anna, ben, cora, dan and root, who is an operator, and the clerks anna and ben
-abbrev office : DirectoryOf
+abbrev pub office : DirectoryOf
 office = record {
   persons = person (codes "anna") ∷ person (codes "ben") ∷ person (codes "cora") ∷ person (codes "dan") ∷ record { name = codes "root"; operator = true } ∷ [];
   groups = record { name = codes "clerks"; members = 0 ∷ 1 ∷ [] } ∷ [];
@@ -72,7 +72,7 @@ one_excluded = refl
 
 -- ---- a new task
 
-abbrev shut : ModelOf
+abbrev pub shut : ModelOf
 shut = record {
   name = codes "shut";
   potential_owners = user (codes "anna");
@@ -82,7 +82,7 @@ shut = record {
   size = 1;
 }
 
-abbrev unit : ModelOf
+abbrev pub unit : ModelOf
 unit = record shut { name = codes "unit"; potential_owners = group (codes "clerks"); excluded_owners = nobody }
 
 abbrev at : ℕ → Moment
