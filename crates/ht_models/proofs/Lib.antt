@@ -1,7 +1,10 @@
 mod Assignments
 mod BuiltIn
+mod Days
 mod Examples
 mod Firsts
+mod InstantExamples
+mod InstantTexts
 mod Lookups
 mod ModelLists
 mod Passing

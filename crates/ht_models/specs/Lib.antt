@@ -3,6 +3,7 @@ pub mod BuiltIn
 pub mod Codes
 pub mod DocumentRefusals
 pub mod Examples
+pub mod Instants
 pub mod Kept
 pub mod Model
 pub mod ModelsText

@@ -5,6 +5,7 @@
 mod assigning;
 mod entries;
 mod index;
+mod instants;
 mod laws;
 mod model;
 mod model_text;
@@ -13,6 +14,7 @@ mod refusal;
 #[cfg(test)]
 mod tests;
 
+pub use instants::instant;
 pub use laws::built_in_text_reads;
 pub use model::Model;
 pub use models::Models;

@@ -1,5 +1,5 @@
-use crate::{Models, ModelsRefusal, built_in_text_reads};
-use ht_base::Name;
+use crate::{Models, ModelsRefusal, built_in_text_reads, instant};
+use ht_base::{Moment, Name};
 use ht_expr::Assign;
 use std::alloc::{AllocError, Global};
 use std::process::Abort;
@@ -293,4 +293,56 @@ fn refusals_are_told(rt: HostRuntime) -> Result<(), Fail> {
         "model 3: a name that stands twice; out of memory"
     );
     Ok(())
+}
+
+#[test]
+fn instants_are_read(rt: HostRuntime) {
+    let table = [
+        ("1970-01-01T00:00:00Z", 0),
+        ("2026-03-02T09:00:00Z", 1_772_442_000_000),
+        ("2000-02-28T00:00:00Z", 951_696_000_000),
+        ("2000-02-29T00:00:00Z", 951_782_400_000),
+        ("2023-02-28T12:34:56Z", 1_677_587_696_000),
+        ("2024-02-28T00:00:00Z", 1_709_078_400_000),
+        ("2024-02-29T23:59:59Z", 1_709_251_199_000),
+        ("2100-02-28T00:00:00Z", 4_107_456_000_000),
+        ("9999-12-31T23:59:59Z", 253_402_300_799_000),
+    ];
+    for (text, moment) in table {
+        assert_eq!(rt; instant(text), Some(Moment(moment)), "{text}");
+    }
+}
+
+#[test]
+fn other_texts_are_no_instants(rt: HostRuntime) {
+    let table = [
+        "",
+        "2023-02-29T00:00:00Z",
+        "2100-02-29T00:00:00Z",
+        "2026-04-31T00:00:00Z",
+        "2026-00-01T00:00:00Z",
+        "2026-13-01T00:00:00Z",
+        "2026-01-00T00:00:00Z",
+        "2026-01-32T00:00:00Z",
+        "1969-12-31T23:59:59Z",
+        "2026-03-02T24:00:00Z",
+        "2026-03-02T09:60:00Z",
+        "2026-03-02T09:00:60Z",
+        "2026-03-02t09:00:00Z",
+        "2026-03-02T09:00:00z",
+        "2026-03-02 09:00:00Z",
+        "2026/03/02T09:00:00Z",
+        "2026-03-02T09.00.00Z",
+        "2026-03-02T09:00:0Z",
+        "2026-03-02T09:00:000Z",
+        "2026-03-02T09:00:00ZZ",
+        "2026-03-02T09:00:00",
+        "+026-03-02T09:00:00Z",
+        "2026-+3-02T09:00:00Z",
+        "2026-03-02T09:00:\u{e9}Z",
+        "2026-03-02T09:00+00Z",
+    ];
+    for text in table {
+        assert_eq!(rt; instant(text), None, "{text}");
+    }
 }
