@@ -142,7 +142,7 @@ index_at {K} cmp exact ks i k old new o at is found none set q =
     rw put (index_more cmp exact (take i ks) k old new is (sym found ∙ none_from o none) (λ q. set q ∙ ap (λ (n : ℕ). cond (is_eq (cmp k q)) (Some n) (old q)) (sym long)) q)
 
 -- over names, by their bytes
-names_found : (name : List ℕ) (names : List (List ℕ)) → place_by (slice_cmp nat_cmp) name names ≡ place_in name names
+pub names_found : (name : List ℕ) (names : List (List ℕ)) → place_by (slice_cmp nat_cmp) name names ≡ place_in name names
 names_found name [] = refl
 names_found name (n ∷ ns) = rw (is_eq-slice_cmp n name, names_found name ns) refl
 

@@ -2,7 +2,9 @@ mod Amounts
 mod Ascending
 mod Digits
 mod Examples
+mod Finding
 mod Indexing
+mod Leasts
 mod Naming
 mod PeriodTexts
 pub mod PublicLaws

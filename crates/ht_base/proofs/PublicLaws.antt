@@ -1,2 +1,5 @@
--- Laws of lists, for the proofs of crates above: what stands in the front of a list.
+-- Laws of lists, for the proofs of crates above: what stands in the front of a list, where a name is
+-- found, and the least place at which something holds.
+pub use Rattle.ht_base.proofs.Finding.{found_there, found_within, own_place}
 pub use Rattle.ht_base.proofs.Indexing.{front_has, in_front_of}
+pub use Rattle.ht_base.proofs.Leasts.{least_behind, least_here, least_in_front, neither}

@@ -1,0 +1,4 @@
+mod Chains
+mod Meeting
+pub mod PublicLaws
+mod Reaching
