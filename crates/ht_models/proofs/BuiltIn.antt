@@ -1,5 +1,5 @@
 -- What the built-in text reads to.
-use Rattle.std.proofs.Common.{arith, ◌≡◌, ◌≢◌, ◌⊎◌, inl, inr, Result, Ok, Err, List, [], ◌∷◌, Some, None, codes, ap, refl}
+use Rattle.std.proofs.Common.{arith, ◌≡◌, ◌≢◌, ◌⊎◌, inl, inr, Result, Ok, Err, List, [], ◌∷◌, Some, None, codes, refl}
 use Rattle.std.specs.Str.{IsUtf8}
 use lib.Utf8.{encode}
 use Rattle.toml.specs.Data.{Members, array, item, member, no_items, no_members, string, table}
@@ -13,9 +13,9 @@ use Rattle.ht_models.specs.declared.refusal.ModelsRefusal.TheVariants.{Syntax, F
 use Rattle.ht_models.specs.Model.{ModelOf}
 use Rattle.ht_models.specs.BuiltIn.{built_in_text, unit}
 use Rattle.ht_models.specs.ModelsText.{ModelText}
-use Rattle.ht_models.specs.Reading.{IsModel, IsOnly, IsRead}
+use Rattle.ht_models.specs.Reading.{IsModel, Reads}
 use Rattle.ht_models.specs.Refusals.{IsModelsText}
-use Rattle.ht_models.proofs.Passing.{reads_one}
+use Rattle.ht_models.proofs.Passing.{one_answer, reads_one}
 
 abbrev document : Members
 document =
@@ -54,28 +54,21 @@ model = record {
   size = refl;
 }
 
-pub built_in : IsRead built_in_text (unit ∷ [])
+pub built_in : Reads built_in_text (Ok (unit ∷ []))
 built_in = reads_one built_in_text entry unit shape model
 
--- an answer is want of memory, or any other
-memory_or_not : (e : ModelsRefusal) → (e ≡ Memory) ⊎ (e ≢ Memory)
-memory_or_not Memory = inl refl
-memory_or_not Syntax = inr (λ h. cc)
-memory_or_not (Field p) = inr (λ h. cc)
-memory_or_not (Twice p) = inr (λ h. cc)
-memory_or_not (UnknownModel p) = inr (λ h. cc)
-memory_or_not (Cycle p) = inr (λ h. cc)
-memory_or_not (Expression p) = inr (λ h. cc)
-memory_or_not (Limit p) = inr (λ h. cc)
-memory_or_not (Contradiction p) = inr (λ h. cc)
+-- an answer is want of memory, or it is this one
+is_memory : (answer : Result (List ModelOf) ModelsRefusal) → (answer ≡ Err Memory) ⊎ (answer ≢ Err Memory)
+is_memory (Ok models) = inr (λ h. cc)
+is_memory (Err Memory) = inl refl
+is_memory (Err Syntax) = inr (λ h. cc)
+is_memory (Err (Field p)) = inr (λ h. cc)
+is_memory (Err (Twice p)) = inr (λ h. cc)
+is_memory (Err (UnknownModel p)) = inr (λ h. cc)
+is_memory (Err (Cycle p)) = inr (λ h. cc)
+is_memory (Err (Expression p)) = inr (λ h. cc)
+is_memory (Err (Limit p)) = inr (λ h. cc)
+is_memory (Err (Contradiction p)) = inr (λ h. cc)
 
-pub built_in_answered : (answer : Result (List ModelOf) ModelsRefusal) → IsOnly built_in_text answer → (answer ≡ Err Memory) ⊎ (answer ≡ Ok (unit ∷ []))
-built_in_answered (Ok models) exact = inr (exact (Ok (unit ∷ [])) built_in (λ h. cc) (λ h. cc))
-built_in_answered (Err e) exact =
-    elim (memory_or_not e) [
-      | inl is ↦ inl (ap (λ (x : ModelsRefusal). Err x) is)
-      | inr other ↦ absurd (refused (exact (Ok (unit ∷ [])) built_in (λ h. other (cc)) (λ h. cc)))
-    ]
-  where
-    refused : ◌≡◌ {A = Result (List ModelOf) ModelsRefusal} (Err e) (Ok (unit ∷ [])) → ⊥
-    refused h = cc
+pub built_in_answered : (answer : Result (List ModelOf) ModelsRefusal) → Reads built_in_text answer → (answer ≡ Err Memory) ⊎ (answer ≡ Ok (unit ∷ []))
+built_in_answered answer reads = elim (is_memory answer) [ inl is ↦ inl is | inr some ↦ inr (one_answer built_in_text answer (Ok (unit ∷ [])) reads built_in some (λ h. cc)) ]

@@ -1,5 +1,5 @@
 -- Worked examples of whole texts. A wrong reading of one fails the check.
-use Rattle.std.proofs.Common.{◌≡◌, ◌≤◌, zero, suc, Err, lit<, arith, List, ℕ, [], ◌∷◌, Some, None, codes, refl}
+use Rattle.std.proofs.Common.{◌≡◌, ◌≤◌, zero, suc, Err, Ok, lit<, arith, List, ℕ, [], ◌∷◌, Some, None, codes, refl}
 use Rattle.std.specs.Str.{IsUtf8}
 use lib.Utf8.{encode}
 use Rattle.toml.specs.Parse.{parse_document}
@@ -12,11 +12,10 @@ use Rattle.ht_expr.proofs.PublicLaws.{tree_row}
 use Rattle.ht_models.specs.declared.refusal.ModelsRefusal.TheVariants.{Field, Twice}
 use Rattle.ht_models.specs.Model.{ModelOf}
 use Rattle.ht_models.specs.ModelsText.{ModelText}
-use Rattle.ht_models.specs.Reading.{IsModel, IsRead, Reads}
+use Rattle.ht_models.specs.Reading.{IsModel, Reads}
 use Rattle.ht_models.specs.Refusals.{IsModelsText, names_of}
-use Rattle.ht_models.proofs.Firsts.{field_reads, twice_reads}
 use Rattle.ht_models.proofs.Shapes.{least_top}
-use Rattle.ht_models.proofs.Passing.{reads_one}
+use Rattle.ht_models.proofs.Passing.{field_told, reads_one, twice_told}
 
 -- a model from which its only potential owner is excluded
 abbrev shut_text : List ℕ
@@ -72,7 +71,7 @@ shut_model = record {
   size = refl;
 }
 
-shut_reads : IsRead shut_text (shut ∷ [])
+shut_reads : Reads shut_text (Ok (shut ∷ []))
 shut_reads = reads_one shut_text shut_entry shut shut_shape shut_model
 
 -- the empty document has no models
@@ -84,7 +83,7 @@ unfolding toml_on_literals
 nothing_is_read = refl
 
 nothing_is_refused : Reads [] (Err (Field 0))
-nothing_is_refused = field_reads [] no_members (Field 0) (nothing_is_text, nothing_is_read) (λ _. (0, refl, least_top no_members refl))
+nothing_is_refused = field_told [] no_members (nothing_is_text, nothing_is_read) (Field 0) (λ _. (0, refl, least_top no_members refl))
 
 -- the second of two models of one name is told
 abbrev two_text : List ℕ
@@ -114,4 +113,4 @@ two_repeated = record { holds = (0, lit< tt, codes "a", refl, refl); least = lea
     least (suc place) (j, before, name, first, second) = omega arith
 
 two_are_refused : Reads two_text (Err (Twice 1))
-two_are_refused = twice_reads two_text (plain ∷ plain ∷ []) (Twice 1) (two_document, (two_is_text, two_is_read), refl) (λ _. (1, refl, two_repeated))
+two_are_refused = twice_told two_text two_document (two_is_text, two_is_read) (plain ∷ plain ∷ []) refl (Twice 1) (λ _. (1, refl, two_repeated))

@@ -2,7 +2,6 @@ mod Assignments
 mod BuiltIn
 mod Days
 mod Examples
-mod Firsts
 mod InstantExamples
 mod InstantTexts
 mod Lookups

@@ -1,42 +1,19 @@
 -- Where a name stands among models of distinct names.
-use Rattle.std.proofs.Common.{◌≡◌, ℕ, ◌+◌, ◌<◌, zero, suc, Bool, true, false, if◌then◌else◌, List, [], ◌∷◌, length, map, Some, None, Option, option_map, bytes_eq, get_or, ap, sym, ◌∙◌, refl, arith}
+use Rattle.std.proofs.Common.{◌≡◌, ℕ, ◌<◌, List, [], ◌∷◌, length, map, Some, None, Option, option_map, get_or, ap, sym, ◌∙◌, refl, arith}
 use Rattle.std.specs.Prelude.{All, slice_get}
 use Rattle.std.specs.BTreeMap.{get}
 use Rattle.std.specs.Cmp.Lexicographic.{slice_cmp}
 use Rattle.std.specs.Ordering.{nat_cmp}
 use Rattle.std.proofs.lemmas.List.{length-map}
 use Rattle.std.proofs.lemmas.Option.{get_or_from_slice_get, slice_get-map, slice_get_read, slice_get_within}
-use Rattle.std.proofs.lemmas.Slice.Eq.{bytes_eq-Decides}
-use Rattle.ht_base.specs.Places.{IsRepeated, place_in}
+use Rattle.ht_base.proofs.PublicLaws as found
+use Rattle.ht_base.proofs.PublicLaws.{own_place}
+use Rattle.ht_base.specs.Places.{place_in}
 use Rattle.ht_models.specs.declared.model.Model.{Model}
 use Rattle.ht_models.specs.declared.models.Models.TheInside.{Inside}
 use Rattle.ht_models.specs.Kept.{IsKept, kept_names}
 use Rattle.ht_models.specs.Model.{ModelOf, names}
 use Rattle.ht_models.specs.Shown.{model_of}
-
--- a place is within the list
-place_within : (name : List ℕ) (ns : List (List ℕ)) (i : ℕ) → place_in name ns ≡ Some i → i < length ns
-place_within name [] i e = cc
-place_within name (x ∷ ns) i e = here (bytes_eq x name) (place_in name ns) e (λ j is. place_within name ns j is)
-  where
-    here : (first : Bool) (o : Option ℕ) → (if first then Some 0 else option_map (λ i. i + 1) o) ≡ Some i → ((j : ℕ) → o ≡ Some j → j < length ns) → i < suc (length ns)
-    here true o e rest = let same : 0 ≡ i = cc in omega arith
-    here false None e rest = cc
-    here false (Some j) e rest = let same : j + 1 ≡ i = cc in let low = rest j refl in omega arith
-
--- where no name is repeated, each is found at its own place
-own_place : (name : List ℕ) (ns : List (List ℕ)) (i : ℕ) → ((p : ℕ) → IsRepeated ns p → ⊥) → slice_get ns i ≡ Some name → place_in name ns ≡ Some i
-own_place name [] i distinct at = cc
-own_place name (x ∷ ns) zero distinct at =
-    let same : x ≡ name = cc in
-    let first : bytes_eq x name ≡ true = (bytes_eq-Decides x name).1 same in
-    rw first refl
-own_place name (x ∷ ns) (suc i) distinct at =
-    here (bytes_eq x name) refl (own_place name ns i (λ p again. distinct (suc p) (suc again.0, (let low = again.1 in omega arith), again.2, again.3, again.4)) at)
-  where
-    here : (first : Bool) → bytes_eq x name ≡ first → place_in name ns ≡ Some i → (if first then Some 0 else option_map (λ i. i + 1) (place_in name ns)) ≡ Some (suc i)
-    here true is rest = absurd (distinct (suc i) (0, omega arith, name, ap (λ n. Some n) ((bytes_eq-Decides x name).0 is), at))
-    here false is rest = rw rest (let e : i + 1 ≡ suc i = omega arith in ap (λ n. Some n) e)
 
 names-map : (ms : List Model) → names (map model_of ms) ≡ map (λ m. m.name) ms
 names-map [] = refl
@@ -52,7 +29,7 @@ indexed m models name kept view =
 -- a place is that of a model
 pub found_within : (m : Inside) (models : List ModelOf) (name : List ℕ) (i : ℕ) → IsKept m → map model_of m.models.items ≡ models → get (slice_cmp nat_cmp) m.places name ≡ Some i → i < length models
 found_within m models name i kept view is =
-    let within = place_within name (kept_names m) i (sym (kept.index name) ∙ is) in
+    let within = found.found_within name (kept_names m) i (sym (kept.index name) ∙ is) in
     let names = length-map m.models.items (λ m. m.name) in
     let same = length-map m.models.items model_of in
     let long = ap (λ (ms : List ModelOf). length ms) view in
@@ -73,7 +50,7 @@ found_there m models i one kept view within is =
     let same = length-map m.models.items model_of in
     let at : slice_get m.models.items i ≡ Some one = slice_get_read m.models.items (length m.models.items) i one refl (omega arith) is in
     let there : slice_get (kept_names m) i ≡ Some one.name = slice_get-map (λ (m : Model). m.name) m.models.items i ∙ ap (option_map (λ (m : Model). m.name)) at in
-    let own = own_place one.name (kept_names m) i kept.distinct there in
+    let own = own_place one.name (kept_names m) i there (kept.distinct i) in
     rw (← view, names-map) own
 
 -- each model is a tree of one task

@@ -9,10 +9,10 @@ use Rattle.ht_models.specs.declared.model.Model.{Model}
 use Rattle.ht_models.specs.Assigning.{HasRefused, IsRefused, SpellsIfAny, SpellsOrNobody}
 use Rattle.ht_models.specs.Model.{ModelOf}
 use Rattle.ht_models.specs.ModelsText.{ModelText}
-use Rattle.ht_models.specs.Passes.{IsTheOne}
 use Rattle.ht_models.specs.Reading.{AreModels, IsModel}
 use Rattle.ht_models.specs.Refusals.{IsUnreadable, names_of}
 use Rattle.ht_models.specs.Shown.{model_of}
+use Rattle.ht_models.proofs.Assignments.{one_if_any, one_or_nobody}
 
 -- ---- one more model
 
@@ -22,41 +22,29 @@ are_push [] t (x ∷ ms) m are is = absurd are
 are_push (y ∷ ts) t [] m are is = absurd are
 are_push (y ∷ ts) t (x ∷ ms) m are is = (are.0, are_push ts t ms m are.1 is)
 
--- models of entries, of which the last is cut off
-record Cut (ts : List ModelText) (t : ModelText) (all : List ModelOf) : Type 0 where
-  front : List ModelOf
-  last : ModelOf
-  whole : all ≡ front ++ last ∷ []
-  are : AreModels ts front
-  is : IsModel t last
-
-cut : (ts : List ModelText) (t : ModelText) (all : List ModelOf) → AreModels (ts ++ t ∷ []) all → Cut ts t all
-cut [] t [] are = absurd are
-cut [] t (m ∷ []) are = record { front = []; last = m; whole = refl; are = tt; is = are.0 }
-cut [] t (m ∷ n ∷ ms) are = absurd are.1
-cut (y ∷ ts) t [] are = absurd are
-cut (y ∷ ts) t (m ∷ ms) are =
-    let rest = cut ts t ms are.1 in
-    record { front = m ∷ rest.front; last = rest.last; whole = ap (λ (l : List ModelOf). m ∷ l) rest.whole; are = (are.0, rest.are); is = rest.is }
-
-push_one : (ts : List ModelText) (t : ModelText) (ms : List ModelOf) (m : ModelOf) → IsTheOne (AreModels ts) ms → IsTheOne (IsModel t) m → IsTheOne (AreModels (ts ++ t ∷ [])) (ms ++ m ∷ [])
-push_one ts t ms m are is = record {
-  is = are_push ts t ms m are.is is.is;
-  only = λ other spells.
-      let c = cut ts t other spells in
-      ap (λ (l : List ModelOf). l ++ m ∷ []) (are.only c.front c.are) ∙ ap (λ (x : ModelOf). c.front ++ x ∷ []) (is.only c.last c.is) ∙ sym c.whole;
-}
-
-pub one_more : (ts : List ModelText) (i : ℕ) (t : ModelText) (ms : List ModelOf) (m : ModelOf) → slice_get ts i ≡ Some t → IsTheOne (AreModels (take i ts)) ms → IsTheOne (IsModel t) m → IsTheOne (AreModels (take (i + 1) ts)) (ms ++ m ∷ [])
+pub one_more : (ts : List ModelText) (i : ℕ) (t : ModelText) (ms : List ModelOf) (m : ModelOf) → slice_get ts i ≡ Some t → AreModels (take i ts) ms → IsModel t m → AreModels (take (i + 1) ts) (ms ++ m ∷ [])
 one_more ts i t ms m at are is =
-    rw (take_more ts i t (slice_get_within ts i t at), get_or_from_slice_get ts i t t at) (push_one (take i ts) t ms m are is)
+    rw (take_more ts i t (slice_get_within ts i t at), get_or_from_slice_get ts i t t at) (are_push (take i ts) t ms m are is)
 
-pub no_models : IsTheOne (AreModels []) []
-no_models = record { is = tt; only = only }
-  where
-    only : (other : List ModelOf) → AreModels [] other → [] ≡ other
-    only [] are = refl
-    only (m ∷ ms) are = absurd are
+-- ---- the models of a text are one list
+
+one_model : (t : ModelText) (m n : ModelOf) → IsModel t m → IsModel t n → m ≡ n
+one_model t m n a b =
+    let name = a.name ∙ sym b.name in
+    let potential_owners = one_or_nobody t.potential_owners m.potential_owners n.potential_owners a.potential_owners b.potential_owners in
+    let excluded_owners = one_or_nobody t.excluded_owners m.excluded_owners n.excluded_owners a.excluded_owners b.excluded_owners in
+    let administrators = one_if_any t.administrators m.administrators n.administrators a.administrators b.administrators in
+    let stakeholders = one_if_any t.stakeholders m.stakeholders n.stakeholders a.stakeholders b.stakeholders in
+    let size = a.size ∙ sym b.size in
+    λ i. record { name = name i; potential_owners = potential_owners i; excluded_owners = excluded_owners i; administrators = administrators i; stakeholders = stakeholders i; size = size i }
+
+pub one_list : (ts : List ModelText) (ms ns : List ModelOf) → AreModels ts ms → AreModels ts ns → ms ≡ ns
+one_list [] [] [] a b = refl
+one_list [] [] (n ∷ ns) a b = absurd b
+one_list [] (m ∷ ms) ns a b = absurd a
+one_list (t ∷ ts) [] ns a b = absurd a
+one_list (t ∷ ts) (m ∷ ms) [] a b = absurd b
+one_list (t ∷ ts) (m ∷ ms) (n ∷ ns) a b = λ i. one_model t m n a.0 b.0 i ∷ one_list ts ms ns a.1 b.1 i
 
 -- ---- what was read is not refused
 

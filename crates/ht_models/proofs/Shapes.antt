@@ -1,23 +1,23 @@
 -- Which entries of a document have another shape.
-use Rattle.std.proofs.Common.{◌≡◌, ℕ, ◌≤◌, Bool, true, false, ◌&&◌, if◌then◌else◌, List, [], ◌∷◌, length, map, Some, None, Option, is_some, option_map, unwrap_or, codes, subst, refl, inl, inr, arith}
+use Rattle.std.proofs.Common.{◌≡◌, ℕ, ◌≤◌, Bool, true, false, ◌&&◌, if◌then◌else◌, List, [], ◌∷◌, length, Some, None, Option, option_map, unwrap_or, codes, subst, refl, inl, inr, arith}
 use Rattle.std.specs.Option.{option_and_then}
-use Rattle.std.specs.Prelude.{slice_get}
 use Rattle.toml.specs.Data.{Data, Members}
 use Rattle.ht_base.specs.Places.{IsLeast}
-use Rattle.ht_toml.specs.Entries.{IsFirstMissing, each}
+use Rattle.ht_toml.specs.Entries as shape
+use Rattle.ht_toml.specs.Entries.{each}
 use Rattle.ht_toml.specs.Tables.{array_at, has_only}
 use Rattle.ht_toml.proofs.PublicLaws.{all_there}
-use Rattle.ht_models.specs.ModelsText.{IsMisshapen, ModelText, entries, has_entry, is_top, model_of_value, models_text, shapes}
+use Rattle.ht_models.specs.ModelsText.{IsMisshapen, ModelText, entries, has_entry, is_top, model_of_value, models_text}
 
 -- under a document of its shape, the first entry of another shape is the least place
-pub least_misshapen : (ms : Members) (ds : List Data) (place : ℕ) → is_top ms ≡ true → ds ≡ entries ms → IsFirstMissing (map (λ d. is_some (model_of_value d)) ds) place → IsLeast (IsMisshapen ms) place
+pub least_misshapen : (ms : Members) (ds : List Data) (place : ℕ) → is_top ms ≡ true → ds ≡ entries ms → IsLeast (shape.IsMisshapen model_of_value ds) place → IsLeast (IsMisshapen ms) place
 least_misshapen ms ds place top same found =
-    let first : IsFirstMissing (shapes ms) place = subst (λ (ds : List Data). IsFirstMissing (map (λ d. is_some (model_of_value d)) ds) place) same found in
-    record { holds = inr first.missing; least = λ other bad. here first other bad }
+    let first : IsLeast (shape.IsMisshapen model_of_value (entries ms)) place = subst (λ (ds : List Data). IsLeast (shape.IsMisshapen model_of_value ds) place) same found in
+    record { holds = inr first.holds; least = λ other bad. here first other bad }
   where
-    here : IsFirstMissing (shapes ms) place → (other : ℕ) → IsMisshapen ms other → place ≤ other
+    here : IsLeast (shape.IsMisshapen model_of_value (entries ms)) place → (other : ℕ) → IsMisshapen ms other → place ≤ other
     here first other (inl (bad, zero)) = cc
-    here first other (inr missing) = first.first other missing
+    here first other (inr bad) = first.least other bad
 
 -- a document of another shape is wrong at 0
 pub least_top : (ms : Members) → is_top ms ≡ false → IsLeast (IsMisshapen ms) 0
@@ -27,14 +27,13 @@ least_top ms bad = record { holds = inl (bad, refl); least = λ other _. omega a
 pub none_misshapen : (ms : Members) (t : List ModelText) → models_text ms ≡ Some t → (place : ℕ) → IsMisshapen ms place → ⊥
 none_misshapen ms t is place bad = here (is_top ms) refl is bad
   where
-    entry : each model_of_value (entries ms) ≡ Some t → slice_get (shapes ms) place ≡ Some false → ⊥
-    entry is missing =
-        all_there model_of_value (entries ms) t is place missing
-
     here : (top : Bool) → is_top ms ≡ top → (if top then each model_of_value (entries ms) else None) ≡ Some t → IsMisshapen ms place → ⊥
     here true top is (inl (bad, zero)) = cc
-    here true top is (inr missing) = entry is missing
+    here true top is (inr bad) = all_there model_of_value (entries ms) t is place bad
     here false top is bad = cc
+
+pub read_whole : (ms : Members) (ds : List Data) (t : List ModelText) → is_top ms ≡ true → ds ≡ entries ms → each model_of_value ds ≡ Some t → models_text ms ≡ Some t
+read_whole ms ds t top same read = rw (top, ← same) read
 
 -- a document of its shape has an entry
 pub some_entry : (ms : Members) (t : List ModelText) → models_text ms ≡ Some t → 1 ≤ length t

@@ -1,14 +1,13 @@
 -- Worked examples of the definitions. A wrong reading of one fails the check.
 use Rattle.std.specs.Prelude.{◌≡◌, ℕ, refl, List, [], ◌∷◌, length, Some, None, codes, true, false}
-use Rattle.std.proofs.Common.{inl, inr, lit<, lit≤}
+use Rattle.std.proofs.Common.{inr, lit<}
 use Rattle.toml.specs.Data.{Data, Members, Items, array, boolean, item, member, no_items, no_members, string, table}
 use Rattle.ht_base.specs.Places.{IsRepeated}
 use Rattle.ht_expr.specs.Assignments.{nobody}
-use Rattle.ht_models.specs.declared.refusal.ModelsRefusal.TheVariants.{Expression, Field, Limit, Syntax, Twice}
 use Rattle.ht_models.specs.Assigning.{SpellsIfAny, SpellsOrNobody}
 use Rattle.ht_models.specs.BuiltIn.{built_in_text}
-use Rattle.ht_models.specs.ModelsText.{ModelText, is_top, model_in, models_text, shapes}
-use Rattle.ht_models.specs.Refusals.{IsNoLater, names_of}
+use Rattle.ht_models.specs.ModelsText.{ModelText, is_top, model_in, IsMisshapen, models_text}
+use Rattle.ht_models.specs.Refusals.{names_of}
 
 -- ---- one model
 
@@ -71,8 +70,8 @@ one_table = refl
 another_key : is_top (member (codes "calendar") (array no_items) (models (item (plain (codes "a")) no_items))) ≡ false
 another_key = refl
 
-second_misshapen : shapes (models (item (plain (codes "a")) (item (boolean true) no_items))) ≡ true ∷ false ∷ []
-second_misshapen = refl
+second_misshapen : IsMisshapen (models (item (plain (codes "a")) (item (boolean true) no_items))) 1
+second_misshapen = inr (boolean true, refl, refl)
 
 -- ---- missing assignments
 
@@ -82,19 +81,7 @@ missing_is_nobody = refl
 missing_is_none : SpellsIfAny None None
 missing_is_none = refl
 
--- ---- the order of refusals
-
-lower_number_first : IsNoLater (Twice 7) (Expression 0)
-lower_number_first = inl (lit< tt)
-
-limit_behind : IsNoLater (Expression 7) (Limit 0)
-limit_behind = inl (lit< tt)
-
-syntax_first : IsNoLater Syntax (Field 0)
-syntax_first = inl (lit< tt)
-
-lower_place_first : IsNoLater (Field 1) (Field 2)
-lower_place_first = inr (refl, lit≤ tt)
+-- ---- names that stand twice
 
 third_repeated : IsRepeated (names_of (plain_text (codes "a") ∷ plain_text (codes "b") ∷ plain_text (codes "a") ∷ [])) 2
 third_repeated = (0, lit< tt, codes "a", refl, refl)

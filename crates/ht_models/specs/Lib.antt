@@ -7,7 +7,6 @@ pub mod Instants
 pub mod Kept
 pub mod Model
 pub mod ModelsText
-pub mod Passes
 pub mod Reading
 pub mod Refusals
 pub mod Shown

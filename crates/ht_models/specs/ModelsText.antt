@@ -1,8 +1,9 @@
 -- What a models text says, by the shape of its document: task models, each with the texts of its
 -- people assignments (WS-HumanTask 1.1, 3.1).
-use Rattle.std.specs.Prelude.{◌≡◌, ◌⊎◌, ℕ, ◌&&◌, Bool, true, false, List, [], ◌∷◌, map, Option, Some, None, is_some, option_map, unwrap_or, slice_get, codes, if◌then◌else◌}
+use Rattle.std.specs.Prelude.{◌≡◌, ◌⊎◌, ℕ, ◌&&◌, Bool, true, false, List, [], ◌∷◌, Option, Some, None, option_map, unwrap_or, codes, if◌then◌else◌}
 use Rattle.std.specs.Option.{option_and_then}
 use Rattle.toml.specs.Data.{Data, Members, as_str, as_table, get_member}
+use Rattle.ht_toml.specs.Entries as shape
 use Rattle.ht_toml.specs.Entries.{each}
 use Rattle.ht_toml.specs.Tables.{array_at, has_only, name_at}
 
@@ -77,10 +78,6 @@ entries ms = unwrap_or (array_at (codes "model") ms) []
 abbrev pub models_text : Members → Option (List ModelText)
 models_text ms = if is_top ms then each model_of_value (entries ms) else None
 
--- whether the entry at each place has its shape
-abbrev pub shapes : Members → List Bool
-shapes ms = map (λ d. is_some (model_of_value d)) (entries ms)
-
 -- an entry has another shape, or at place 0 the document
 abbrev pub IsMisshapen : Members → ℕ → Type 0
-IsMisshapen ms place = ((is_top ms ≡ false) × (place ≡ 0)) ⊎ (slice_get (shapes ms) place ≡ Some false)
+IsMisshapen ms place = ((is_top ms ≡ false) × (place ≡ 0)) ⊎ shape.IsMisshapen model_of_value (entries ms) place

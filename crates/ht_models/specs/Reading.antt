@@ -1,12 +1,13 @@
 -- What a models text is read to: its models, where nothing is wrong with it, and else the first
 -- refusal that holds of it.
-use Rattle.std.specs.Prelude.{◌≡◌, ◌≢◌, ℕ, List, [], ◌∷◌, Result, Ok, Err}
+use Rattle.std.specs.Prelude.{◌≡◌, ℕ, List, [], ◌∷◌, Result}
+use Rattle.ht_toml.specs.Refusals as text_reads
 use Rattle.ht_models.specs.declared.refusal.ModelsRefusal.{ModelsRefusal}
 use Rattle.ht_models.specs.declared.refusal.ModelsRefusal.TheVariants.{Memory}
 use Rattle.ht_models.specs.Assigning.{SpellsIfAny, SpellsOrNobody}
 use Rattle.ht_models.specs.Model.{ModelOf}
 use Rattle.ht_models.specs.ModelsText.{ModelText}
-use Rattle.ht_models.specs.Refusals.{Holds, IsModelsText, IsNoLater}
+use Rattle.ht_models.specs.Refusals.{IsModelsText, refusals}
 
 -- the model that an entry says. Its tree is one task
 pub record IsModel (t : ModelText) (m : ModelOf) : Type 0 where
@@ -24,22 +25,10 @@ AreModels [] (m ∷ ms) = ⊥
 AreModels (t ∷ ts) [] = ⊥
 AreModels (t ∷ ts) (m ∷ ms) = IsModel t m × AreModels ts ms
 
--- the first that holds
-pub record IsFirst (text : List ℕ) (refusal : ModelsRefusal) : Type 0 where
-  pub holds : Holds text refusal
-  pub first : (other : ModelsRefusal) → Holds text other → IsNoLater refusal other
-
-pub record IsRead (text : List ℕ) (models : List ModelOf) : Type 0 where
-  pub text_is : List ModelText
-  pub shape : IsModelsText text text_is
-  pub models_are : AreModels text_is models
-  pub right : (refusal : ModelsRefusal) → Holds text refusal → ⊥
+-- the models that the text says
+abbrev pub IsModels : List ℕ → List ModelOf → Type 0
+IsModels text models = (t : List ModelText) × IsModelsText text t × AreModels t models
 
 -- want of memory says nothing of the text
 abbrev pub Reads : List ℕ → Result (List ModelOf) ModelsRefusal → Type 0
-Reads text (Ok models) = IsRead text models
-Reads text (Err refusal) = (refusal ≢ Memory) → IsFirst text refusal
-
--- and nothing else is answered: what the text reads to, unless there is no memory
-abbrev pub IsOnly : List ℕ → Result (List ModelOf) ModelsRefusal → Type 0
-IsOnly text answer = (other : Result (List ModelOf) ModelsRefusal) → Reads text other → answer ≢ Err Memory → other ≢ Err Memory → answer ≡ other
+Reads text answer = text_reads.Reads Memory (refusals text) (IsModels text) answer

@@ -1,9 +1,10 @@
 ghost use Rattle.std.specs.Prelude.{◌≡◌, ◌≢◌, IfErr, IfOk, Some, map, option_map};
 ghost use Rattle.ht_expr.specs.Shown.{shown};
+ghost use Rattle.ht_toml.specs.Refusals.{Passes, refused};
 ghost use Rattle.ht_models.specs.Assigning.{HasRefused, IsRefused};
 ghost use Rattle.ht_models.specs.Assigning.{Spells, SpellsIfAny, SpellsOrNobody};
-ghost use Rattle.ht_models.specs.Passes.{IsTheOne, TellsExpression};
 ghost use Rattle.ht_models.specs.Reading.{AreModels, IsModel};
+ghost use Rattle.ht_models.specs.Refusals.{IsUnreadable};
 ghost use Rattle.ht_models.specs.Shown.{model_of};
 
 use crate::model_text::ModelText;
@@ -14,8 +15,8 @@ use std::alloc::Global;
 
 /// The models of all entries, or the first that has an assignment which is refused.
 pub fn models_of(alloc: Global, entries: &[ModelText]) -> Result<Vec<Model>, ModelsRefusal>
-    ensures ok { IfOk result (λ models. IsTheOne (AreModels entries.now) (map model_of models.items)) }
-    ensures expression { IfErr result (TellsExpression entries.now) }
+    ensures ok { IfOk result (λ models. AreModels entries.now (map model_of models.items)) }
+    ensures passes { Passes ModelsRefusal.Memory (refused ModelsRefusal.Expression (IsUnreadable entries.now)) result }
 {
     let mut models = Vec::new(alloc);
     for (place, entry) in entries.iter().enumerate() {
@@ -38,7 +39,7 @@ fn refused_at(place: usize, refusal: ExprRefusal) -> ModelsRefusal
 }
 
 fn model(alloc: Global, entry: &ModelText) -> Result<Model, ExprRefusal>
-    ensures ok { IfOk result (λ model. IsTheOne (IsModel entry.now) (model_of model)) }
+    ensures ok { IfOk result (λ model. IsModel entry.now (model_of model)) }
     ensures refused { IfErr result (λ e. e ≢ ExprRefusal.Memory → HasRefused entry.now) }
 {
     let kinds = Kinds::new(alloc);
@@ -58,7 +59,7 @@ fn assignment_or_nobody(
     text: &Option<Txt>,
     kinds: &Kinds,
 ) -> Result<Assign, ExprRefusal>
-    ensures ok { IfOk result (λ a. IsTheOne (SpellsOrNobody text.now) (shown a)) }
+    ensures ok { IfOk result (λ a. SpellsOrNobody text.now (shown a)) }
     ensures refused { IfErr result (λ e. e ≢ ExprRefusal.Memory → IsRefused text.now) }
 {
     match text {
@@ -73,7 +74,7 @@ fn assignment_if_any(
     text: &Option<Txt>,
     kinds: &Kinds,
 ) -> Result<Option<Assign>, ExprRefusal>
-    ensures ok { IfOk result (λ a. IsTheOne (SpellsIfAny text.now) (option_map shown a)) }
+    ensures ok { IfOk result (λ a. SpellsIfAny text.now (option_map shown a)) }
     ensures refused { IfErr result (λ e. e ≢ ExprRefusal.Memory → IsRefused text.now) }
 {
     match text {
@@ -84,7 +85,7 @@ fn assignment_if_any(
 
 // A model has no inputs and its expressions have no values yet, so one that looks at them is refused.
 fn assignment(alloc: Global, text: &str, kinds: &Kinds) -> Result<Assign, ExprRefusal>
-    ensures ok { IfOk result (λ a. IsTheOne (Spells text.now) (shown a)) }
+    ensures ok { IfOk result (λ a. Spells text.now (shown a)) }
     ensures refused { IfErr result (λ e. e ≢ ExprRefusal.Memory → IsRefused (Some text.now)) }
 {
     let assign = Assign::read(alloc, text, kinds)?;

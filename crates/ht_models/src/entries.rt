@@ -1,8 +1,8 @@
 ghost use Rattle.std.specs.Prelude.{◌≡◌, true, false, IfErr, IfNone, IfOk, IfSome, Some, map};
 ghost use Rattle.toml.specs.View.{table_view, view};
 ghost use Rattle.ht_models.specs.ModelsText as spec;
-ghost use Rattle.ht_models.specs.ModelsText.{is_top, models_text};
-ghost use Rattle.ht_models.specs.Passes.{TellsField};
+ghost use Rattle.ht_models.specs.ModelsText.{IsMisshapen, is_top, models_text};
+ghost use Rattle.ht_toml.specs.Refusals.{Passes, refused};
 
 use crate::ModelsRefusal;
 use crate::model_text::ModelText;
@@ -13,7 +13,7 @@ use toml::{Table, Value};
 /// What a document says, or the first entry that has another shape.
 pub fn entries_of(alloc: Global, document: &Table) -> Result<Vec<ModelText>, ModelsRefusal>
     ensures ok { IfOk result (λ entries. models_text (table_view document.now) ≡ Some entries.items) }
-    ensures field { IfErr result (TellsField (table_view document.now)) }
+    ensures passes { Passes ModelsRefusal.Memory (refused ModelsRefusal.Field (IsMisshapen (table_view document.now))) result }
 {
     let Some(values) = values_of(document) else {
         return Err(ModelsRefusal::Field(0));

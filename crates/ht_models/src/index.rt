@@ -1,7 +1,7 @@
 ghost use Rattle.std.specs.Prelude.{◌≡◌, ℕ, IfErr, IfOk, OnOk};
 ghost use Rattle.ht_base.specs.Indexes.{IsIndex};
 ghost use Rattle.ht_base.specs.Places.{IsRepeated};
-ghost use Rattle.ht_models.specs.Passes.{TellsTwice};
+ghost use Rattle.ht_toml.specs.Refusals.{Passes, refused};
 ghost use Rattle.ht_models.specs.Refusals as spec;
 
 use crate::ModelsRefusal;
@@ -16,8 +16,7 @@ pub fn places_of(
     entries: &[ModelText],
 ) -> Result<BTreeMap<Name, usize>, ModelsRefusal>
     ensures ok { IfOk result (λ places. IsIndex places (spec.names_of entries.now)) }
-    ensures distinct { OnOk result ((place : ℕ) → IsRepeated (spec.names_of entries.now) place → ⊥) }
-    ensures twice { IfErr result (TellsTwice entries.now) }
+    ensures passes { Passes ModelsRefusal.Memory (refused ModelsRefusal.Twice (IsRepeated (spec.names_of entries.now))) result }
 {
     let names = names_of(alloc, entries)?;
     match name_places(alloc, &names) {

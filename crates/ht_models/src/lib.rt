@@ -15,7 +15,7 @@ mod refusal;
 mod tests;
 
 pub use instants::instant;
-pub use laws::built_in_text_reads;
+pub use laws::{a_models_text_has_one_answer, built_in_text_reads};
 pub use model::Model;
 pub use models::Models;
 pub use refusal::ModelsRefusal;

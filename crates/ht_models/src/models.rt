@@ -1,7 +1,7 @@
 ghost use Rattle.std.specs.Prelude.{◌≡◌, ◌≤◌, ◌<◌, ℕ, IfSome, Some, length, slice_get};
 ghost use Rattle.ht_base.specs.Places.{place_in};
 ghost use Rattle.ht_models.specs.Model.{ModelOf, names};
-ghost use Rattle.ht_models.specs.Reading.{IsOnly, Reads};
+ghost use Rattle.ht_models.specs.Reading.{Reads};
 ghost use Rattle.ht_models.specs.Shown.{model_of};
 
 use crate::assigning::models_of;
@@ -52,8 +52,7 @@ impl Models {
     ///
     /// [`Assign::read`]: ht_expr::Assign::read
     pub fn read(alloc: Global, text: &[u8]) -> Result<Models, ModelsRefusal>
-        ensures reads { Reads text.now result }
-        ensures exact { IsOnly text.now result }
+        ensures { Reads text.now result }
     {
         let document = document(alloc, text)?;
         let entries = entries_of(alloc, &document)?;

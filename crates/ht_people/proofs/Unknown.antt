@@ -1,24 +1,27 @@
 -- The members of a group by their places, and those that are unknown.
-use Rattle.std.proofs.Common.{◌≡◌, ◌∙◌, ◌+◌, ◌<◌, ◌≤◌, ℕ, List, [], ◌∷◌, ◌++◌, Option, Some, None, ap, arith, length, map, subst, take, unwrap_or}
-use Rattle.std.specs.Prelude.{slice_get}
-use Rattle.std.proofs.lemmas.List.{take_all}
-use Rattle.std.proofs.lemmas.Option.{slice_get_within}
+use Rattle.std.proofs.Common.{◌≡◌, ◌∙◌, ◌+◌, ◌<◌, ◌≤◌, ℕ, List, [], ◌∷◌, ◌++◌, Option, Some, None, ap, arith, length, subst, take}
+use Rattle.std.specs.Prelude.{filter_map, slice_get}
+use Rattle.std.specs.List.{cons_option}
+use Rattle.std.proofs.lemmas.List.{take_all, take_more}
+use Rattle.std.proofs.lemmas.List.Elements.{filter_map-append}
+use Rattle.std.proofs.lemmas.Option.{get_or_from_slice_get, slice_get_within}
 use Rattle.ht_people.specs.declared.entries.MemberName.{MemberName}
 use Rattle.ht_people.specs.Directory.{GroupOf, group_from, place_of}
 use Rattle.ht_people.specs.PeopleText.{GroupText, PeopleTextOf}
 use Rattle.ht_people.specs.Refusals.{HasUnknown, HasUnknownMember}
-use Rattle.ht_people.proofs.Mapped.{mapped_more}
 
 module _ (t : PeopleTextOf) where
   abbrev pub places_of : List MemberName → List ℕ
-  places_of ms = map (λ m. unwrap_or (place_of t m) 0) ms
+  places_of ms = filter_map (place_of t) ms
 
   -- the member at a place is unknown
   abbrev pub IsUnknown : List MemberName → ℕ → Type 0
   IsUnknown ms j = (m : MemberName) × (slice_get ms j ≡ Some m) × (place_of t m ≡ None)
 
   pub places_more : (ms : List MemberName) (i : ℕ) (m : MemberName) (place : ℕ) → slice_get ms i ≡ Some m → place_of t m ≡ Some place → places_of (take (i + 1) ms) ≡ places_of (take i ms) ++ place ∷ []
-  places_more ms i m place at is = mapped_more (λ m. unwrap_or (place_of t m) 0) ms i m place at (ap (λ (o : Option ℕ). unwrap_or o 0) is)
+  places_more ms i m place at is =
+      let put : take (i + 1) ms ≡ take i ms ++ m ∷ [] = take_more ms i m (slice_get_within ms i m at) ∙ ap (λ (x : MemberName). take i ms ++ x ∷ []) (get_or_from_slice_get ms i m m at) in
+      ap places_of put ∙ filter_map-append (place_of t) (take i ms) (m ∷ []) ∙ ap (λ (o : Option ℕ). places_of (take i ms) ++ cons_option o []) is
 
   pub not_unknown : (ms : List MemberName) (i : ℕ) (m : MemberName) (place : ℕ) → slice_get ms i ≡ Some m → place_of t m ≡ Some place → IsUnknown ms i → ⊥
   not_unknown ms i m place at is u = let one : u.0 ≡ m = let other = u.1 in cc in let none = u.2 in let P : place_of t u.0 ≡ place_of t m = ap (place_of t) one in cc

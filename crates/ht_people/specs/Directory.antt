@@ -1,6 +1,6 @@
 -- The directory: persons and groups, each named by its place, persons first and then groups (people
 -- assignment, WS-HumanTask 1.1, 3.5).
-use Rattle.std.specs.Prelude.{ℕ, ◌+◌, ◌-◌, nat_lt, List, [], length, map, Option, option_map, unwrap_or, slice_get, if◌then◌else◌}
+use Rattle.std.specs.Prelude.{ℕ, ◌+◌, ◌-◌, nat_lt, List, [], length, map, Option, option_map, filter_map, slice_get, if◌then◌else◌}
 use Rattle.std.specs.Option.{option_map_or}
 use Rattle.ht_base.specs.Places.{place_in}
 use Rattle.ht_people.specs.declared.entries.MemberName.{MemberName}
@@ -30,10 +30,10 @@ abbrev pub place_of : PeopleTextOf → MemberName → Option ℕ
 place_of t (member.Person name) = place_in name (person_names t)
 place_of t (member.Group name) = option_map (λ i. length t.persons + i) (place_in name (group_names t))
 
+-- an unknown member is a member of nobody
 abbrev pub group_from : PeopleTextOf → GroupText → GroupOf
-group_from t g = record { name = g.name; members = map (λ m. unwrap_or (place_of t m) 0) g.members }
+group_from t g = record { name = g.name; members = filter_map (place_of t) g.members }
 
--- the directory of a text, each of whose members is known
 abbrev pub directory_of : PeopleTextOf → DirectoryOf
 directory_of t = record { persons = t.persons; groups = map (group_from t) t.groups }
 
@@ -46,6 +46,10 @@ find name d = place_in name (map (λ p. p.name) d.persons)
 -- the place of the group with this name
 abbrev pub find_group : List ℕ → DirectoryOf → Option ℕ
 find_group name d = option_map (λ i. length d.persons + i) (place_in name (map (λ g. g.name) d.groups))
+
+-- how many places there are
+abbrev pub places : DirectoryOf → ℕ
+places d = length d.persons + length d.groups
 
 -- the members of the group at a place, of which a person has none
 abbrev pub members_at : DirectoryOf → ℕ → List ℕ

@@ -4,10 +4,9 @@ use Rattle.std.specs.Fmt.{digits}
 use Rattle.toml.specs.Data.{no_members, member, string, boolean, table}
 use Rattle.ht_people.specs.declared.entries.MemberName.TheVariants.{Person, Group}
 use Rattle.ht_people.specs.BuiltIn.{built_in_people, built_in_text}
-use Rattle.ht_people.specs.Directory.{DirectoryOf, GroupOf, directory_of, find, find_group}
-use Rattle.ht_people.specs.Chains.{leads}
+use Rattle.ht_people.specs.Directory.{DirectoryOf, GroupOf, directory_of, find, find_group, members_at}
+use Rattle.ht_graph.specs.Graphs.{leads}
 use Rattle.ht_people.specs.Membership.{members}
-use Rattle.ht_people.specs.Ranks.{falls, rises}
 use Rattle.ht_people.specs.PeopleText.{PeopleTextOf, group_of, is_top, member_of_text, person_of, person_with, text_of}
 
 -- ---- shapes
@@ -82,38 +81,26 @@ abbrev nested : DirectoryOf
 nested = record { persons = person_with (codes "p0") false ∷ []; groups = link 2 ∷ link 3 ∷ link 4 ∷ link 5 ∷ link 6 ∷ link 7 ∷ link 8 ∷ link 9 ∷ link 0 ∷ [] }
 
 -- nine memberships lead from the first group to p0, and eight from the second
-nine_lead : leads nested 9 1 0 ≡ true
+nine_lead : leads (members_at nested) 9 1 0 ≡ true
 nine_lead = refl
 
-eight_do_not : leads nested 8 1 0 ≡ false
+eight_do_not : leads (members_at nested) 8 1 0 ≡ false
 eight_do_not = refl
 
-eight_lead : leads nested 8 2 0 ≡ true
+eight_lead : leads (members_at nested) 8 2 0 ≡ true
 eight_lead = refl
 
 -- a group that is its own member
-itself : leads (record { persons = []; groups = link 0 ∷ [] }) 1 0 0 ≡ true
+itself : leads (members_at (record { persons = []; groups = link 0 ∷ [] })) 1 0 0 ≡ true
 itself = refl
 
--- ---- ranks
+-- an unknown member is a member of nobody, and isn't the first group
+unknown_text : PeopleTextOf
+unknown_text = record { persons = []; groups = record { name = codes "g"; members = Person (codes "x") ∷ [] } ∷ [] }
 
--- p0; group 1 with p0; groups 2 and 3, which have each other; and group 4 with 2
-abbrev in_a_ring : DirectoryOf
-in_a_ring = record { persons = person_with (codes "p0") false ∷ []; groups = link 0 ∷ link 3 ∷ link 2 ∷ link 2 ∷ [] }
-
-falls_into_it : falls in_a_ring (0 ∷ 1 ∷ 2 ∷ 2 ∷ 3 ∷ []) 4 ≡ true
-falls_into_it = refl
-
--- an equal rank is no lower one, and no higher one
-no_fall : falls in_a_ring (0 ∷ 1 ∷ 2 ∷ 2 ∷ 3 ∷ []) 2 ≡ false
-no_fall = refl
-
-no_rise : rises in_a_ring (0 ∷ 1 ∷ 2 ∷ 2 ∷ 3 ∷ []) 2 ≡ false
-no_rise = refl
-
--- where the ranks in a cycle differ, one membership rises
-a_rise : rises in_a_ring (0 ∷ 1 ∷ 2 ∷ 3 ∷ 4 ∷ []) 2 ≡ true
-a_rise = refl
+unknown_is_nobody : members_at (directory_of unknown_text) 0 ≡ []
+unfolding unknown_text
+unknown_is_nobody = refl
 
 -- ---- the text that is built in
 

@@ -1,15 +1,10 @@
 pub mod BuiltIn
-pub mod Chains
 pub mod Directory
 pub mod Examples
 pub mod Indexes
 pub mod Kept
-pub mod Least
 pub mod Membership
 pub mod PeopleText
-pub mod Ranking
-pub mod Ranks
 pub mod Reading
 pub mod Refusals
 pub mod Sets
-pub mod Walking

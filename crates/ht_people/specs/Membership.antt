@@ -1,16 +1,20 @@
 -- Who is in a group: the persons to whom a chain of at most eight memberships leads from it.
 use Rattle.std.specs.Prelude.{ℕ, Bool, false, List, length, filter, Option, Some, None}
-use Rattle.std.specs.List.{list_any, range_with_len}
-use Rattle.ht_people.specs.Chains.{leads, longest_chain}
-use Rattle.ht_people.specs.Directory.{DirectoryOf, find_group}
+use Rattle.std.specs.List.{range_with_len}
+use Rattle.ht_graph.specs.Graphs.{is_near}
+use Rattle.ht_people.specs.Directory.{DirectoryOf, find_group, members_at}
 
 -- every person, in ascending order
 abbrev pub everybody : DirectoryOf → List ℕ
 everybody d = range_with_len 0 (length d.persons)
 
+-- the most memberships of a chain
+abbrev pub longest_chain : ℕ
+longest_chain = 8
+
 -- a chain of one to eight memberships leads to the person
 abbrev pub is_reached : DirectoryOf → ℕ → ℕ → Bool
-is_reached d place person = list_any (λ n. leads d n place person) (range_with_len 1 longest_chain)
+is_reached d place person = is_near (members_at d) longest_chain place person
 
 -- the person is in the group of this name. An unknown group is empty
 abbrev pub is_in : DirectoryOf → Option ℕ → ℕ → Bool

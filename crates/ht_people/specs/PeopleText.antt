@@ -1,9 +1,11 @@
 -- What a people text says, by the shape of its document: persons, and groups with their members
 -- (people assignment, WS-HumanTask 1.1, 3.5).
-use Rattle.std.specs.Prelude.{◌≡◌, ◌⊎◌, ℕ, ◌==◌, ◌&&◌, Bool, false, List, [], ◌∷◌, ◌++◌, map, Option, Some, None, is_some, option_map, unwrap_or, slice_get, codes, if◌then◌else◌}
+use Rattle.std.specs.Prelude.{◌≡◌, ◌⊎◌, ℕ, ◌==◌, ◌&&◌, Bool, false, List, [], ◌∷◌, length, Option, None, is_some, option_map, unwrap_or, codes, if◌then◌else◌}
 use Rattle.std.specs.Option.{option_and_then}
 use Rattle.toml.specs.Data.{Data, Members, as_str, as_table}
 use Rattle.ht_base.specs.Name.{name_of}
+use Rattle.ht_base.specs.Places.{Behind}
+use Rattle.ht_toml.specs.Entries as shape
 use Rattle.ht_toml.specs.Entries.{each}
 use Rattle.ht_toml.specs.Tables.{array_at, entries_at, has_only, name_at, truth_at}
 use Rattle.ht_people.specs.declared.entries.MemberName.{MemberName}
@@ -77,13 +79,10 @@ read_entries persons groups = option_and_then (λ ps. option_map (people_text ps
 abbrev pub text_of : Members → Option PeopleTextOf
 text_of ms = if is_top ms then read_entries (person_entries ms) (group_entries ms) else None
 
--- whether the entry at each place has its shape, persons first and then groups
-abbrev pub shapes_of : List Data → List Data → List Bool
-shapes_of persons groups = map (λ d. is_some (person_of d)) persons ++ map (λ d. is_some (group_of d)) groups
+-- an entry has another shape, persons first and then groups
+abbrev pub HasShapeFault : List Data → List Data → ℕ → Type 0
+HasShapeFault persons groups place = shape.IsMisshapen person_of persons place ⊎ Behind (length persons) (shape.IsMisshapen group_of groups) place
 
-abbrev pub shapes : Members → List Bool
-shapes ms = shapes_of (person_entries ms) (group_entries ms)
-
--- an entry has another shape, or at place 0 the document
+-- or at place 0 the document has
 abbrev pub IsMisshapen : Members → ℕ → Type 0
-IsMisshapen ms place = ((is_top ms ≡ false) × (place ≡ 0)) ⊎ (slice_get (shapes ms) place ≡ Some false)
+IsMisshapen ms place = ((is_top ms ≡ false) × (place ≡ 0)) ⊎ HasShapeFault (person_entries ms) (group_entries ms) place

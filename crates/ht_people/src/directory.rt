@@ -3,11 +3,10 @@ ghost use Rattle.std.specs.List.{range_with_len};
 ghost use Rattle.ht_people.specs.Directory as spec;
 ghost use Rattle.ht_people.specs.Membership as membership;
 
-use crate::entries::PersonEntry;
-use crate::groups::Group;
+use crate::people::People;
 use crate::places::Places;
-use crate::walking::{is_marked, reached_from};
 use ht_base::{Memory, Name, Person, Persons};
+use ht_graph::{is_marked, reached_from};
 use std::alloc::Global;
 use std::marker::Model;
 
@@ -15,8 +14,7 @@ use std::marker::Model;
 /// 8 memberships.
 #[derive(Drop)]
 pub struct Directory {
-    pub(crate) persons: Vec<PersonEntry>,
-    pub(crate) groups: Vec<Group>,
+    pub(crate) people: People,
     pub(crate) places: Places,
 }
 
@@ -25,9 +23,9 @@ impl Model for Directory {
 
     ghost Value = { DirectoryOf };
 
-    ghost use Rattle.ht_people.specs.Kept.{directory_in, IsKept};
+    ghost use Rattle.ht_people.specs.Kept.{IsKept};
 
-    ghost view = { directory_in };
+    ghost view = { λ d. d.people };
 
     ghost invariant = { IsKept };
 }
@@ -50,7 +48,7 @@ impl Directory {
         ensures value { slice_get (map (λ p. p.name) self.now.persons) person ≡ Some result }
         ensures found { spec.find result self.now ≡ Some person }
     {
-        self.persons[person.0 as usize].name
+        self.people.person(person.0 as usize).name
     }
 
     /// Whether the person operates the server.
@@ -58,7 +56,7 @@ impl Directory {
         requires { person < length self.now.persons }
         ensures { slice_get (map (λ p. p.operator) self.now.persons) person ≡ Some result }
     {
-        self.persons[person.0 as usize].operator
+        self.people.person(person.0 as usize).operator
     }
 
     /// How many persons there are, at most 1,024.
@@ -66,7 +64,7 @@ impl Directory {
         ensures value { result ≡ length self.now.persons }
         ensures few { result ≤ 1024 }
     {
-        self.persons.len() as u32
+        self.people.person_count() as u32
     }
 
     /// How many groups there are, at most 256.
@@ -74,7 +72,7 @@ impl Directory {
         ensures value { result ≡ length self.now.groups }
         ensures few { result ≤ 256 }
     {
-        self.groups.len() as u32
+        self.people.group_count() as u32
     }
 
     /// The persons to whom memberships lead from the group with this name. An unknown group is
@@ -85,9 +83,9 @@ impl Directory {
         let Some(i) = self.places.groups.get(&group) else {
             return Ok(Persons::new(alloc));
         };
-        let place = self.persons.len() + *i;
-        let reached = reached_from(alloc, &self.persons, &self.groups, place)?;
-        marked_persons(alloc, &reached, self.persons.len())
+        let place = self.people.person_count() + *i;
+        let reached = reached_from(alloc, &self.people, place)?;
+        marked_persons(alloc, &reached, self.people.person_count())
     }
 }
 

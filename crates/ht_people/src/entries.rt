@@ -1,8 +1,8 @@
-ghost use Rattle.std.specs.Prelude.{◌≡◌, ◌<◌, ◌^◌, IfOk, IfErr, Some, false, length, map, slice_get};
+ghost use Rattle.std.specs.Prelude.{◌≡◌, ◌<◌, ◌^◌, IfOk, Some, length, map};
 ghost use Rattle.toml.specs.View.{table_view, view};
-ghost use Rattle.ht_people.specs.Least.{IsLeastFault};
+ghost use Rattle.ht_toml.specs.Refusals.{Passes, refused};
 ghost use Rattle.ht_people.specs.PeopleText as spec;
-ghost use Rattle.ht_people.specs.PeopleText.{IsMisshapen};
+ghost use Rattle.ht_people.specs.PeopleText.{HasShapeFault, IsMisshapen};
 
 use crate::PeopleRefusal;
 use ht_base::{Key, Name};
@@ -71,7 +71,7 @@ impl Model for PeopleText {
 /// The entries of a document, or the first that has another shape.
 pub(crate) fn people_text(alloc: Global, document: &Table) -> Result<PeopleText, PeopleRefusal>
     ensures ok { IfOk result (λ text. spec.text_of (table_view document.now) ≡ Some text) }
-    ensures refused { IfErr result (IsLeastFault PeopleRefusal.Field (IsMisshapen (table_view document.now))) }
+    ensures passes { Passes PeopleRefusal.Memory (refused PeopleRefusal.Field (IsMisshapen (table_view document.now))) result }
 {
     if !has_only(document, &["person", "group"]) {
         return Err(PeopleRefusal::Field(0));
@@ -93,7 +93,7 @@ fn entries_text(
     requires persons { length persons.now < 2 ^ 63 }
     requires groups { length groups.now < 2 ^ 63 }
     ensures ok { IfOk result (λ text. spec.read_entries (map view persons.now) (map view groups.now) ≡ Some text) }
-    ensures refused { IfErr result (IsLeastFault PeopleRefusal.Field (λ place. slice_get (spec.shapes_of (map view persons.now) (map view groups.now)) place ≡ Some false)) }
+    ensures passes { Passes PeopleRefusal.Memory (refused PeopleRefusal.Field (HasShapeFault (map view persons.now) (map view groups.now))) result }
 {
     let count = persons.len();
     let persons = match each(alloc, persons) {

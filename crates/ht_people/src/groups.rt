@@ -1,9 +1,10 @@
-ghost use Rattle.std.specs.Prelude.{◌≡◌, ℕ, IfOk, IfErr, OnOk, None, Some, map};
+ghost use Rattle.std.specs.Prelude.{◌≡◌, IfOk, None, Some, length, map};
 ghost use Rattle.ht_people.specs.Directory as spec;
 ghost use Rattle.ht_people.specs.Directory.{group_from, group_names, person_names};
 ghost use Rattle.ht_people.specs.Indexes.{ArePlaces};
-ghost use Rattle.ht_people.specs.Least.{IsLeastFault};
-ghost use Rattle.ht_people.specs.Refusals.{AtGroup, HasUnknown, HasUnknownMember};
+ghost use Rattle.ht_base.specs.Places.{Behind};
+ghost use Rattle.ht_toml.specs.Refusals.{Passes, refused};
+ghost use Rattle.ht_people.specs.Refusals.{HasUnknown, HasUnknownMember};
 
 use crate::PeopleRefusal;
 use crate::entries::{GroupEntry, MemberName, PeopleText};
@@ -36,8 +37,7 @@ pub(crate) fn groups_of(
 ) -> Result<Vec<Group>, PeopleRefusal>
     requires { ArePlaces places.now (person_names text.now) (group_names text.now) }
     ensures ok { IfOk result (λ groups. groups.items ≡ map (group_from text.now) text.now.groups) }
-    ensures known { OnOk result ((i : ℕ) → HasUnknown text.now i → ⊥) }
-    ensures refused { IfErr result (IsLeastFault PeopleRefusal.UnknownMember (AtGroup text.now (HasUnknown text.now))) }
+    ensures passes { Passes PeopleRefusal.Memory (refused PeopleRefusal.UnknownMember (Behind (length text.now.persons) (HasUnknown text.now))) result }
 {
     let mut groups = Vec::new(alloc);
     for (i, entry) in text.groups.iter().enumerate() {

@@ -2,23 +2,20 @@
 //! (people assignment, WS-HumanTask 1.1, 3.5).
 #![tactic(auto)]
 
-mod chains;
 mod directory;
 mod entries;
 mod groups;
 mod laws;
+mod people;
 mod places;
-mod ranking;
-mod ranks;
 mod reading;
 mod refusal;
 mod sets;
 #[cfg(test)]
 mod tests;
-mod walking;
 
 pub use directory::Directory;
 pub use entries::{MemberName, PersonEntry};
-pub use laws::built_in_text_reads;
+pub use laws::{a_people_text_has_one_answer, built_in_text_reads};
 pub use refusal::PeopleRefusal;
 pub use sets::{except, intersect, union};

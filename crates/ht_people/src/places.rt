@@ -3,7 +3,7 @@ ghost use Rattle.ht_people.specs.Directory.{group_names, person_names};
 ghost use Rattle.ht_base.specs.Indexes.{IsIndex};
 ghost use Rattle.ht_base.specs.Places.{IsLeast, IsRepeated};
 ghost use Rattle.ht_people.specs.Indexes.{ArePlaces};
-ghost use Rattle.ht_people.specs.Least.{IsLeastFault};
+ghost use Rattle.ht_toml.specs.Refusals.{Passes, refused};
 ghost use Rattle.ht_people.specs.Refusals.{HasTwiceMember, IsTwice, IsTwiceGroup};
 
 use crate::PeopleRefusal;
@@ -22,8 +22,7 @@ pub(crate) struct Places {
 /// The places of a text's names, or the first entry that stands twice.
 pub(crate) fn places_of(alloc: Global, text: &PeopleText) -> Result<Places, PeopleRefusal>
     ensures ok { IfOk result (λ places. ArePlaces places (person_names text.now) (group_names text.now)) }
-    ensures distinct { OnOk result ((place : ℕ) → IsTwice text.now place → ⊥) }
-    ensures refused { IfErr result (IsLeastFault PeopleRefusal.Twice (IsTwice text.now)) }
+    ensures passes { Passes PeopleRefusal.Memory (refused PeopleRefusal.Twice (IsTwice text.now)) result }
 {
     let persons = match person_places(alloc, &text.persons) {
         Ok(persons) => persons,

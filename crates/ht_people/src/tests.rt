@@ -1,6 +1,3 @@
-use crate::groups::Group;
-use crate::ranking::ranks;
-use crate::ranks::{falls, never_rises};
 use crate::{Directory, PeopleRefusal, built_in_text_reads, except, intersect, union};
 use ht_base::{Name, Person, Persons};
 use ht_samples::PEOPLE;
@@ -162,52 +159,35 @@ const REFUSED: [(&[u8], PeopleRefusal); 42] = [
     ),
 ];
 
-// The members of each group, which are groups; those in a cycle; and what is told.
-const CYCLES: [(&[&[usize]], &[usize], Option<PeopleRefusal>); 13] = [
-    (&[&[1, 2], &[3], &[3], &[]], &[], None),
+// The members of each group, which are groups, and what is told.
+const CYCLES: [(&[&[usize]], Option<PeopleRefusal>); 13] = [
+    (&[&[1, 2], &[3], &[3], &[]], None),
     (
         &[&[1], &[2], &[3], &[4], &[5], &[6], &[7], &[8], &[9], &[]],
-        &[],
         Some(PeopleRefusal::Limit),
     ),
     (
         &[&[1], &[2], &[3], &[4], &[5], &[6], &[7], &[8], &[9], &[9]],
-        &[9],
         Some(PeopleRefusal::Cycle(9)),
     ),
-    (&[&[0]], &[0], Some(PeopleRefusal::Cycle(0))),
-    (&[&[], &[2], &[1]], &[1, 2], Some(PeopleRefusal::Cycle(1))),
-    (&[&[1], &[2], &[1]], &[1, 2], Some(PeopleRefusal::Cycle(1))),
-    (&[&[1], &[], &[0, 2]], &[2], Some(PeopleRefusal::Cycle(2))),
-    (
-        &[&[1], &[0, 2], &[3], &[]],
-        &[0, 1],
-        Some(PeopleRefusal::Cycle(0)),
-    ),
+    (&[&[0]], Some(PeopleRefusal::Cycle(0))),
+    (&[&[], &[2], &[1]], Some(PeopleRefusal::Cycle(1))),
+    (&[&[1], &[2], &[1]], Some(PeopleRefusal::Cycle(1))),
+    (&[&[1], &[], &[0, 2]], Some(PeopleRefusal::Cycle(2))),
+    (&[&[1], &[0, 2], &[3], &[]], Some(PeopleRefusal::Cycle(0))),
     // ---- more than one
     (
         &[&[1], &[2], &[5], &[4, 0], &[3], &[6], &[5]],
-        &[3, 4, 5, 6],
         Some(PeopleRefusal::Cycle(3)),
     ),
     (
         &[&[1], &[2], &[3], &[2], &[5, 0], &[4]],
-        &[2, 3, 4, 5],
         Some(PeopleRefusal::Cycle(2)),
     ),
-    (
-        &[&[1, 2], &[1], &[1, 0]],
-        &[0, 1, 2],
-        Some(PeopleRefusal::Cycle(0)),
-    ),
-    (
-        &[&[], &[2, 3], &[1], &[1]],
-        &[1, 2, 3],
-        Some(PeopleRefusal::Cycle(1)),
-    ),
+    (&[&[1, 2], &[1], &[1, 0]], Some(PeopleRefusal::Cycle(0))),
+    (&[&[], &[2, 3], &[1], &[1]], Some(PeopleRefusal::Cycle(1))),
     (
         &[&[1, 3], &[2], &[0], &[4], &[2]],
-        &[0, 1, 2, 3, 4],
         Some(PeopleRefusal::Cycle(0)),
     ),
 ];
@@ -388,34 +368,10 @@ fn grouped(alloc: Global, groups: &[&[usize]]) -> Result<String, AllocError> {
 
 #[test]
 fn the_least_group_of_a_cycle_is_told(rt: HostRuntime) -> Result<(), Fail> {
-    for (groups, _, refusal) in CYCLES {
+    for (groups, refusal) in CYCLES {
         let text = grouped(rt.alloc(), groups)?;
         let read = Directory::read(rt.alloc(), text.as_bytes());
         assert_eq!(rt; read.err(), refusal, "{groups:?}");
-    }
-    Ok(())
-}
-
-// No clause says that the ranks are of use. With others each group would be walked from.
-#[test]
-fn ranks_fall_outside_cycles_alone(rt: HostRuntime) -> Result<(), Fail> {
-    for (rows, in_cycles, _) in CYCLES {
-        let mut groups = Vec::new(rt.alloc());
-        for members in rows {
-            let name = Name::of(b"g").ok_or("a name")?;
-            let members = members.to_vec(rt.alloc())?;
-            groups.push(Group { name, members })?;
-        }
-        let ranks = ranks(rt.alloc(), &[], &groups)?;
-        assert!(rt; never_rises(&[], &groups, &ranks), "{rows:?}");
-        for place in 0..groups.len() {
-            let outside = !in_cycles.contains(&place);
-            assert_eq!(rt;
-                falls(&[], &groups, &ranks, place),
-                outside,
-                "{rows:?} {place}"
-            );
-        }
     }
     Ok(())
 }

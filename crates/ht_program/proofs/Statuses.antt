@@ -12,6 +12,9 @@ use Rattle.ht_program.specs.declared.words.Words.{Words}
 use Rattle.ht_program.proofs.Options.{bytes_of}
 use Rattle.ht_program.specs.Inputs.{IsAnswered}
 use Rattle.ht_program.specs.Named.{pair_of}
+use Rattle.ht_models.specs.Refusals as models_wrong
+use Rattle.ht_people.specs.Refusals as people_wrong
+use Rattle.ht_toml.proofs.PublicLaws.{first_holds, none_holds}
 use Rattle.ht_program.specs.Opening.{AreWrong, Judges, Opens, OpensText, fault_status, text_limit}
 use Rattle.ht_program.specs.Running.{Streams, ending_status}
 use Rattle.ht_program.specs.Serving.{HasCauses}
@@ -98,8 +101,8 @@ both_read m p t (inr (short, inr judged)) = (short, judged.0, judged.1)
 right : (m p : List ℕ) (t : RoomyTables) → OpensText m p (Ok t) → AreWrong m p → ⊥
 right m p t opens (inl (inl long)) = let short = (both_read m p t opens).0 in omega arith
 right m p t opens (inl (inr long)) = let short = (both_read m p t opens).1 in omega arith
-right m p t opens (inr (inl holds)) = (both_read m p t opens).2.2.right holds.0 holds.1
-right m p t opens (inr (inr holds)) = (both_read m p t opens).2.3.right holds.0 holds.1
+right m p t opens (inr (inl holds)) = none_holds (models_wrong.refusals m) holds.0 (both_read m p t opens).2.2.1 holds.1
+right m p t opens (inr (inr holds)) = none_holds (people_wrong.refusals p) holds.0 (both_read m p t opens).2.3.1 holds.1
 
 -- the two texts are those that are told
 these_texts : (text : List ℕ → List ℕ) (names : List ℕ × List ℕ) (result : Result RoomyTables TextsFault) → Opens (Some names) (Some text) result → OpensText (text names.0) (text names.1) result
@@ -121,10 +124,10 @@ is_wrong m p (TooLong w) (inr (short, inl missing)) four = inl (inr missing.1)
 is_wrong m p (TooLong w) (inr (short, inr judged)) four = absurd judged.1
 is_wrong m p (Models why) (inl missing) four = absurd missing
 is_wrong m p (Models why) (inr (short, inl missing)) four = absurd missing
-is_wrong m p (Models why) (inr (short, inr judged)) four = inr (inl (why, judged.1.holds))
+is_wrong m p (Models why) (inr (short, inr judged)) four = inr (inl (why, first_holds (models_wrong.refusals m) why judged.1))
 is_wrong m p (People why) (inl missing) four = absurd missing
 is_wrong m p (People why) (inr (short, inl missing)) four = absurd missing
-is_wrong m p (People why) (inr (short, inr judged)) four = inr (inr (why, judged.1.2.holds))
+is_wrong m p (People why) (inr (short, inr judged)) four = inr (inr (why, first_holds (people_wrong.refusals p) why judged.1.2))
 is_wrong m p Memory opens four = absurd (omega arith)
 
 is_four : (why : TextsFault) → fault_status why ≢ 3 → fault_status why ≢ 8 → fault_status why ≡ 4

@@ -15,6 +15,7 @@ use Rattle.ht_people.specs.declared.refusal.PeopleRefusal.TheVariants as people
 use Rattle.ht_people.specs.Directory.{DirectoryOf}
 use Rattle.ht_people.specs.Reading as people_text
 use Rattle.ht_people.specs.Refusals as people_wrong
+use Rattle.ht_toml.specs.Refusals.{Holds, IsFirst}
 use Rattle.ht_tree.specs.Tables.{RoomyTables, empty_tables}
 use Rattle.ht_program.specs.declared.opening.TextsFault.{TextsFault}
 use Rattle.ht_program.specs.declared.opening.TextsFault.TheVariants.{Unread, TooLong, Models, People, Memory}
@@ -44,11 +45,11 @@ Gives w text result = MatchResult result (λ bytes. (bytes.items ≡ text) × (l
 
 -- first the models text is judged, and then the people text
 abbrev pub Judges : List ℕ → List ℕ → Result RoomyTables TextsFault → Type 0
-Judges m p (Ok t) = (models : List ModelOf) × (people : DirectoryOf) × models_text.IsRead m models × people_text.IsRead p people × (t.tables ≡ empty_tables models people)
+Judges m p (Ok t) = (models : List ModelOf) × (people : DirectoryOf) × models_text.Reads m (Ok models) × people_text.Reads p (Ok people) × (t.tables ≡ empty_tables models people)
 Judges m p (Err (Unread w)) = ⊥
 Judges m p (Err (TooLong w)) = ⊥
-Judges m p (Err (Models why)) = models_text.IsFirst m why
-Judges m p (Err (People why)) = (models : List ModelOf) × models_text.IsRead m models × people_text.IsFirst p why
+Judges m p (Err (Models why)) = IsFirst (models_wrong.refusals m) why
+Judges m p (Err (People why)) = (models : List ModelOf) × models_text.Reads m (Ok models) × IsFirst (people_wrong.refusals p) why
 Judges m p (Err Memory) = ⊤
 
 -- Both are read before they are judged, the models text first: the models text is missing; or else
@@ -122,7 +123,7 @@ AsksFor (Some names) old new result = Asks names old new result
 abbrev pub AreWrong : List ℕ → List ℕ → Type 0
 AreWrong m p =
     ((text_limit < length m) ⊎ (text_limit < length p))
-    ⊎ (((why : ModelsRefusal) × models_wrong.Holds m why) ⊎ ((why : PeopleRefusal) × people_wrong.Holds p why))
+    ⊎ (((why : ModelsRefusal) × Holds (models_wrong.refusals m) why) ⊎ ((why : PeopleRefusal) × Holds (people_wrong.refusals p) why))
 
 -- ---- the fault of a refusal
 

@@ -1,3 +1,4 @@
 pub mod PublicLaws
 mod ReadEntries
+mod Refusing
 mod Views

@@ -1,4 +1,5 @@
 pub mod Documents
 pub mod Entries
 pub mod Examples
+pub mod Refusals
 pub mod Tables

@@ -1,8 +1,9 @@
-ghost use Rattle.std.specs.Prelude.{◌≡◌, ◌≢◌, ◌<◌, ℕ, IfOk, IfErr, OnOk, None, Option, Some, false, is_some, length, map, slice_get};
+ghost use Rattle.std.specs.Prelude.{◌≡◌, ◌<◌, ℕ, IfOk, IfErr, None, Option, Some, length, map};
 ghost use Rattle.toml.specs.Data.{Data};
 ghost use Rattle.toml.specs.View.{view};
 ghost use Rattle.ht_toml.specs.Entries as spec;
-ghost use Rattle.ht_toml.specs.Entries.{IsFirstMissing};
+ghost use Rattle.ht_toml.specs.Entries.{IsMisshapen};
+ghost use Rattle.ht_toml.specs.Refusals.{Passes, refused};
 
 use std::alloc::{AllocError, AllocFailed, Global};
 use thiserror::Error;
@@ -52,9 +53,8 @@ impl<T: Drop> From<AllocFailed<T>> for EntriesFault {
 /// Reads every entry of an array, or tells the first that has another shape.
 pub fn each<E: Shape>(alloc: Global, values: &[Value]) -> Result<Vec<E>, EntriesFault>
     ensures all { IfOk result (λ entries. spec.each E.of (map view values.now) ≡ Some entries.items) }
-    ensures whole { OnOk result ((place : ℕ) → slice_get (map (λ d. is_some (E.of d)) (map view values.now)) place ≢ Some false) }
+    ensures passes { Passes EntriesFault.Memory (refused EntriesFault.Misshapen (IsMisshapen E.of (map view values.now))) result }
     ensures none { IfErr result (λ fault. (place : ℕ) → fault ≡ EntriesFault.Misshapen place → spec.each E.of (map view values.now) ≡ None) }
-    ensures first { IfErr result (λ fault. (place : ℕ) → fault ≡ EntriesFault.Misshapen place → IsFirstMissing (map (λ d. is_some (E.of d)) (map view values.now)) place) }
     ensures within { IfErr result (λ fault. (place : ℕ) → fault ≡ EntriesFault.Misshapen place → place < length values.now) }
 {
     let mut entries = Vec::new(alloc);

@@ -1,5 +1,4 @@
 use Rattle.std.proofs.lemmas.Result.{err_from_is_err_and}
-use Rattle.ht_models.proofs.Assignments.{one_if_any}
 use Rattle.ht_models.proofs.assigning.assignment_if_any.Goals as goal
 
 pub returns-in_err-assignment-in-Some-clause-refused :
@@ -10,4 +9,4 @@ returns-in_err-assignment-in-Some-clause-refused c =
 
 pub returns-in_ok-assignment-in-Some-clause-ok : goal.returns-in_ok-assignment-in-Some-clause-ok
 returns-in_ok-assignment-in-Some-clause-ok c =
-    rw c.in-Some.is (one_if_any _ _ (rw c.as_str.ensures at c.in_ok-assignment-in-Some.ensures.ok))
+    rw c.in-Some.is (rw c.as_str.ensures at c.in_ok-assignment-in-Some.ensures.ok)

@@ -1,6 +1,6 @@
 use Rattle.std.proofs.Common.{◌∙◌, ap, arith, length, sym}
 use Rattle.std.proofs.lemmas.List.{length-map}
-use Rattle.ht_people.proofs.Names.{found_within}
+use Rattle.ht_base.proofs.PublicLaws.{found_within}
 use Rattle.ht_people.specs.Directory.{group_names}
 use Rattle.ht_people.specs.PeopleText.{PeopleTextOf}
 use Rattle.ht_people.proofs.groups.place_of.Goals as goal

@@ -2,7 +2,7 @@ use Rattle.std.proofs.Common.{◌∙◌, ap, arith, below_more, length, refl}
 use Rattle.std.proofs.lemmas.Option.{slice_get_read, slice_get_within}
 use Rattle.ht_people.specs.PeopleText.{GroupText}
 use Rattle.ht_people.specs.Refusals.{HasTwiceMember}
-use Rattle.ht_people.proofs.Least.{least_here}
+use Rattle.ht_base.proofs.PublicLaws.{least_here}
 use Rattle.ht_people.proofs.Twice.{not_twice_at, twice_at}
 use Rattle.ht_people.proofs.places.first_twice_member.Goals as goal
 

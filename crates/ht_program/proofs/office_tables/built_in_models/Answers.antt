@@ -12,7 +12,7 @@ the_same : (models others : List ModelOf) → ◌≡◌ {A = Result (List ModelO
 the_same models others e = cc
 
 pub returns-in-Ok : goal.returns-in-Ok
-returns-in-Ok c = elim (c.built_in_text_reads.ensures.answered (Ok c.in-Ok.models) c.in-Ok.ensures.exact) [
+returns-in-Ok c = elim (c.built_in_text_reads.ensures.answered (Ok c.in-Ok.models) c.in-Ok.ensures) [
   | inl none ↦ absurd (not_memory c.in-Ok.models none)
   | inr same ↦ the_same c.in-Ok.models (unit ∷ []) same
 ]

@@ -14,7 +14,7 @@ the_same people others e = cc
 
 pub returns-in-Ok : goal.returns-in-Ok
 unfolding built_in_text digits
-returns-in-Ok c = elim (c.built_in_text_reads.ensures.answered (Ok c.in-Ok.people) c.in-Ok.ensures.exact) [
+returns-in-Ok c = elim (c.built_in_text_reads.ensures.answered (Ok c.in-Ok.people) c.in-Ok.ensures) [
   | inl none ↦ absurd (not_memory c.in-Ok.people none)
   | inr same ↦ the_same c.in-Ok.people built_in_people same
 ]
