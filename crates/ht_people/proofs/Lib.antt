@@ -1,5 +1,6 @@
 mod BuiltIn
 mod Closed
+mod Examples
 mod Filtering
 mod Mapped
 mod Membership
