@@ -1,8 +1,8 @@
 -- The form of a tree: a number that its first token tells, by which two trees are compared.
 use Rattle.std.proofs.Common.{◌≡◌, ℕ, Bool, true, false, List, [], ◌++◌, Option, Some, None, refl}
 use Rattle.std.specs.Prelude.{◌==◌, if◌then◌else◌}
-use Rattle.ht_expr.specs.declared.expression.Count.{Count}
-use Rattle.ht_expr.specs.declared.expression.Count.TheVariants.{Made, Finished, Done}
+use Rattle.ht_expr.specs.declared.node.Count.{Count}
+use Rattle.ht_expr.specs.declared.node.Count.TheVariants.{Made, Finished, Done}
 use Rattle.ht_expr.specs.declared.keyword.Keyword.{Keyword}
 use Rattle.ht_expr.specs.declared.keyword.Keyword.TheVariants as keyword
 use Rattle.ht_expr.specs.declared.kinds.Side.{Side}

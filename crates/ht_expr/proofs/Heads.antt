@@ -4,7 +4,7 @@ use Rattle.std.specs.Prelude.{⊤}
 use Rattle.ht_expr.specs.declared.expected.Behind.{Behind}
 use Rattle.ht_expr.specs.declared.expected.Behind.TheVariants as behind
 use Rattle.ht_expr.specs.declared.expected.Opening.{Opening}
-use Rattle.ht_expr.specs.declared.expression.Count.TheVariants.{Made, Finished, Done}
+use Rattle.ht_expr.specs.declared.node.Count.TheVariants.{Made, Finished, Done}
 use Rattle.ht_expr.specs.declared.keyword.Keyword.{Keyword}
 use Rattle.ht_expr.specs.declared.keyword.Keyword.TheVariants as keyword
 use Rattle.ht_expr.specs.declared.kinds.Side.TheVariants.{Input, Output}

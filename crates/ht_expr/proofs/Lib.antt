@@ -1,5 +1,7 @@
+mod Agreeing
 mod Answering
 mod Checking
+mod Clamping
 mod Computing
 mod Examples
 mod Firsts

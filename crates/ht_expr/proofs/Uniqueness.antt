@@ -1,8 +1,8 @@
 -- Tokens are one tree at most.
 use Rattle.std.proofs.Common.{◌≡◌, ℕ, ◌+◌, ◌≤◌, Bool, true, false, List, [], ◌∷◌, ◌++◌, drop, Option, Some, None, refl, ap, sym, subst, ◌∙◌, append_assoc, arith}
 use Rattle.std.specs.Prelude.{⊤}
-use Rattle.ht_expr.specs.declared.expression.Count.{Count}
-use Rattle.ht_expr.specs.declared.expression.Count.TheVariants.{Made, Finished, Done}
+use Rattle.ht_expr.specs.declared.node.Count.{Count}
+use Rattle.ht_expr.specs.declared.node.Count.TheVariants.{Made, Finished, Done}
 use Rattle.ht_expr.specs.declared.keyword.Keyword.{Keyword}
 use Rattle.ht_expr.specs.declared.keyword.Keyword.TheVariants as keyword
 use Rattle.ht_expr.specs.declared.kinds.Side.{Side}

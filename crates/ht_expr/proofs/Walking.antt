@@ -10,7 +10,9 @@ use Rattle.ht_expr.specs.declared.expected.Symbol.{Symbol}
 use Rattle.ht_expr.specs.declared.refusal.ExprRefusal.{ExprRefusal}
 use Rattle.ht_expr.specs.declared.refusal.ExprRefusal.TheVariants as refusal
 use Rattle.ht_expr.specs.Expected.{Breaks, is_done, next, run}
-use Rattle.ht_expr.specs.Reading.{bare, most_tokens, HasTokens, Reads}
+use Rattle.ht_expr.specs.Kinds.{Declared}
+use Rattle.ht_expr.specs.KindTable.{kinds_fit}
+use Rattle.ht_expr.specs.Reading.{bare, most_tokens, HasTokens, IsWritten, Reads}
 use Rattle.ht_expr.specs.Tokens.{Placed, blank, AreBefore, AreTokens, HasNoTokenAt}
 use Rattle.ht_expr.specs.Trees.{Tree, Fits, tokens_of}
 use Rattle.ht_expr.proofs.Checking.{run_more}
@@ -52,8 +54,8 @@ wrong_at p tokens end = walk tokens (start p) end
 wrong_is : (p : ℕ) (tokens : List Placed) (end : ℕ) (found : Option ℕ) → wrong_at p tokens end ≡ found → IsWalk p tokens end found
 wrong_is p tokens end found is = subst (IsWalk p tokens end) is (walked p tokens [] (start p) end refl)
 
-abbrev pub HasAnswer : ℕ → List ℕ → Type 0
-HasAnswer p text = (answer : Result Tree ExprRefusal) × Reads p text answer × (answer ≢ Err refusal.Memory)
+abbrev pub HasAnswer : Declared → ℕ → List ℕ → Type 0
+HasAnswer kinds p text = (answer : Result Tree ExprRefusal) × Reads kinds p text answer × (answer ≢ Err refusal.Memory)
 
 abbrev place_in : Option ℕ → ℕ
 place_in None = 0
@@ -77,47 +79,67 @@ no_token text ts None at found is = absurd (cc)
 no_token text ts (Some place) at (n, rest, before, (dark, none, there)) is =
     let same : place ≡ at = same_place place at is in (ts, n, rest, before, dark, none, omega (arith, there, same))
 
-wrong_shape : (p : ℕ) (text : List ℕ) (ts : List Placed) (at : ℕ) → p ≤ 9 → IsUtf8 text → HasTokens text ts → wrong_at p ts (length text) ≡ Some at → Reads p text (Err (refusal.Shape at))
-wrong_shape p text ts at le utf8 has is = (ts, has, shape_fault p ts (length text) at le (text_written text ts utf8 has.0) (wrong_is p ts (length text) (Some at) is))
+wrong_shape : (kinds : Declared) (p : ℕ) (text : List ℕ) (ts : List Placed) (at : ℕ) → p ≤ 9 → IsUtf8 text → HasTokens text ts → wrong_at p ts (length text) ≡ Some at → Reads kinds p text (Err (refusal.Shape at))
+wrong_shape kinds p text ts at le utf8 has is = (ts, has, shape_fault p ts (length text) at le (text_written text ts utf8 has.0) (wrong_is p ts (length text) (Some at) is))
 
-by_shape : (p : ℕ) (text : List ℕ) (ts : List Placed) (wrong : Option ℕ) → p ≤ 9 → IsUtf8 text → HasTokens text ts → wrong_at p ts (length text) ≡ wrong → HasAnswer p text
-by_shape p text ts None le utf8 has is =
+by_kinds : (kinds : Declared) (p : ℕ) (text : List ℕ) (a : Tree) (fit : Bool) → IsWritten p text a → kinds_fit kinds p a ≡ fit → HasAnswer kinds p text
+by_kinds kinds p text a true written fits = (Ok a, (written, fits), λ e. absurd (cc))
+by_kinds kinds p text a false written fits = (Err refusal.BadKind, (a, written, fits), λ e. absurd (cc))
+
+by_shape : (kinds : Declared) (p : ℕ) (text : List ℕ) (ts : List Placed) (wrong : Option ℕ) → p ≤ 9 → IsUtf8 text → HasTokens text ts → wrong_at p ts (length text) ≡ wrong → HasAnswer kinds p text
+by_shape kinds p text ts None le utf8 has is =
     let (st, there, done) = wrong_is p ts (length text) None is in
-    let tree = whole_tree p (bare ts) st le there done in (Ok tree.0, (ts, has, text_written text ts utf8 has.0, tree.1), λ e. absurd (cc))
-by_shape p text ts (Some at) le utf8 has is = (Err (refusal.Shape at), wrong_shape p text ts at le utf8 has is, λ e. absurd (cc))
+    let tree = whole_tree p (bare ts) st le there done in by_kinds kinds p text tree.0 _ (ts, has, text_written text ts utf8 has.0, tree.1) refl
+by_shape kinds p text ts (Some at) le utf8 has is = (Err (refusal.Shape at), wrong_shape kinds p text ts at le utf8 has is, λ e. absurd (cc))
 
-by_length : (p : ℕ) (text : List ℕ) (ts : List Placed) → p ≤ 9 → IsUtf8 text → AreTokens text ts → (most_tokens < length ts) ⊎ (length ts ≤ most_tokens) → HasAnswer p text
-by_length p text ts le utf8 tokens (inl lt) = (Err refusal.TooLong, (ts, tokens, lt), λ e. absurd (cc))
-by_length p text ts le utf8 tokens (inr few) = by_shape p text ts _ le utf8 (tokens, few) refl
+by_length : (kinds : Declared) (p : ℕ) (text : List ℕ) (ts : List Placed) → p ≤ 9 → IsUtf8 text → AreTokens text ts → (most_tokens < length ts) ⊎ (length ts ≤ most_tokens) → HasAnswer kinds p text
+by_length kinds p text ts le utf8 tokens (inl lt) = (Err refusal.TooLong, (ts, tokens, lt), λ e. absurd (cc))
+by_length kinds p text ts le utf8 tokens (inr few) = by_shape kinds p text ts _ le utf8 (tokens, few) refl
 
-by_scan : (p : ℕ) (text : List ℕ) (ts : List Placed) (found : Option ℕ) → p ≤ 9 → IsUtf8 text → IsScan 0 text (ts, found) → HasAnswer p text
-by_scan p text ts None le utf8 is = let tokens = whole_tokens text ts None is refl in by_length p text ts le utf8 tokens (cases_lt most_tokens (length ts))
-by_scan p text ts (Some at) le utf8 is = (Err (refusal.Token at), no_token text ts (Some at) at is refl, λ e. absurd (cc))
+by_scan : (kinds : Declared) (p : ℕ) (text : List ℕ) (ts : List Placed) (found : Option ℕ) → p ≤ 9 → IsUtf8 text → IsScan 0 text (ts, found) → HasAnswer kinds p text
+by_scan kinds p text ts None le utf8 is = let tokens = whole_tokens text ts None is refl in by_length kinds p text ts le utf8 tokens (cases_lt most_tokens (length ts))
+by_scan kinds p text ts (Some at) le utf8 is = (Err (refusal.Token at), no_token text ts (Some at) at is refl, λ e. absurd (cc))
 
 -- each text has an answer
-pub some_answer : (p : ℕ) (text : List ℕ) → p ≤ 9 → IsUtf8 text → HasAnswer p text
-some_answer p text le utf8 = by_scan p text _ _ le utf8 (is_scan text)
+pub some_answer : (kinds : Declared) (p : ℕ) (text : List ℕ) → p ≤ 9 → IsUtf8 text → HasAnswer kinds p text
+some_answer kinds p text le utf8 = by_scan kinds p text _ _ le utf8 (is_scan text)
 
 -- the answer of a given text
-pub record IsAnswer (p : ℕ) (text : List ℕ) (answer : Result Tree ExprRefusal) : Type 0 where
-  pub reads : Reads p text answer
+pub record IsAnswer (kinds : Declared) (p : ℕ) (text : List ℕ) (answer : Result Tree ExprRefusal) : Type 0 where
+  pub reads : Reads kinds p text answer
 
 -- by computing
-pub token_row : (p : ℕ) (text : List ℕ) (at : ℕ) → (scan_of text).1 ≡ Some at → IsAnswer p text (Err (refusal.Token at))
-token_row p text at is = record { reads = no_token text _ _ at (is_scan text) is }
+pub token_row : (kinds : Declared) (p : ℕ) (text : List ℕ) (at : ℕ) → (scan_of text).1 ≡ Some at → IsAnswer kinds p text (Err (refusal.Token at))
+token_row kinds p text at is = record { reads = no_token text _ _ at (is_scan text) is }
 
-pub long_row : (p : ℕ) (text : List ℕ) → (scan_of text).1 ≡ None → nat_lt most_tokens (length (scan_of text).0) ≡ true → IsAnswer p text (Err refusal.TooLong)
-long_row p text is more = record { reads = ((scan_of text).0, whole_tokens text _ _ (is_scan text) is, ltb-true _ _ more) }
+pub long_row : (kinds : Declared) (p : ℕ) (text : List ℕ) → (scan_of text).1 ≡ None → nat_lt most_tokens (length (scan_of text).0) ≡ true → IsAnswer kinds p text (Err refusal.TooLong)
+long_row kinds p text is more = record { reads = ((scan_of text).0, whole_tokens text _ _ (is_scan text) is, ltb-true _ _ more) }
 
 few : (text : List ℕ) → (scan_of text).1 ≡ None → nat_le (length (scan_of text).0) most_tokens ≡ true → HasTokens text (scan_of text).0
 few text is le = (whole_tokens text _ _ (is_scan text) is, leb-true _ _ le)
 
-pub shape_row : (p : ℕ) (text : List ℕ) (at : ℕ) → p ≤ 9 → list_all (λ b. nat_lt b 128) text ≡ true → (scan_of text).1 ≡ None → nat_le (length (scan_of text).0) most_tokens ≡ true
-    → wrong_at p (scan_of text).0 (length text) ≡ Some at → IsAnswer p text (Err (refusal.Shape at))
-shape_row p text at le ascii is small wrong = record { reads = wrong_shape p text (scan_of text).0 at le (IsUtf8-from_ascii text (low_ascii (λ b. nat_lt b 128) text (λ b h. ltb-true b 128 h) ascii)) (few text is small) wrong }
+abbrev is_ascii : List ℕ → Bool
+is_ascii text = list_all (λ b. nat_lt b 128) text
 
-pub tree_row : (p : ℕ) (text : List ℕ) (a : Tree) → Fits p a → list_all (λ b. nat_lt b 128) text ≡ true → (scan_of text).1 ≡ None → nat_le (length (scan_of text).0) most_tokens ≡ true → tokens_of a ≡ bare (scan_of text).0 → IsAnswer p text (Ok a)
-tree_row p text a fits ascii is small spelled =
+ascii_text : (text : List ℕ) → is_ascii text ≡ true → IsUtf8 text
+ascii_text text ascii = IsUtf8-from_ascii text (low_ascii (λ b. nat_lt b 128) text (λ b h. ltb-true b 128 h) ascii)
+
+pub shape_row : (kinds : Declared) (p : ℕ) (text : List ℕ) (at : ℕ) → p ≤ 9 → is_ascii text ≡ true → (scan_of text).1 ≡ None → nat_le (length (scan_of text).0) most_tokens ≡ true
+    → wrong_at p (scan_of text).0 (length text) ≡ Some at → IsAnswer kinds p text (Err (refusal.Shape at))
+shape_row kinds p text at le ascii is small wrong = record { reads = wrong_shape kinds p text (scan_of text).0 at le (ascii_text text ascii) (few text is small) wrong }
+
+-- the text is written as this tree
+pub record IsSpelled (p : ℕ) (text : List ℕ) (a : Tree) : Type 0 where
+  pub written : IsWritten p text a
+
+pub spelled_row : (p : ℕ) (text : List ℕ) (a : Tree) → Fits p a → is_ascii text ≡ true → (scan_of text).1 ≡ None → nat_le (length (scan_of text).0) most_tokens ≡ true → tokens_of a ≡ bare (scan_of text).0
+    → IsSpelled p text a
+spelled_row p text a fits ascii is small spelled =
     let has = few text is small in
-    let utf8 = IsUtf8-from_ascii text (low_ascii (λ b. nat_lt b 128) text (λ b h. ltb-true b 128 h) ascii) in
-    record { reads = ((scan_of text).0, has, text_written text (scan_of text).0 utf8 has.0, (fits, spelled)) }
+    record { written = ((scan_of text).0, has, text_written text (scan_of text).0 (ascii_text text ascii) has.0, (fits, spelled)) }
+
+pub tree_row : (kinds : Declared) (p : ℕ) (text : List ℕ) (a : Tree) → IsSpelled p text a → kinds_fit kinds p a ≡ true → IsAnswer kinds p text (Ok a)
+tree_row kinds p text a is fits = record { reads = (is.written, fits) }
+
+pub kind_row : (kinds : Declared) (p : ℕ) (text : List ℕ) (a : Tree) → IsSpelled p text a → kinds_fit kinds p a ≡ false → IsAnswer kinds p text (Err refusal.BadKind)
+kind_row kinds p text a is misfit = record { reads = (a, is.written, misfit) }

@@ -6,7 +6,9 @@ use Rattle.ht_expr.specs.declared.building.ReadAssign.{ReadAssign}
 use Rattle.ht_expr.specs.declared.token.Mark.TheVariants.{Open, Close, Comma}
 use Rattle.ht_expr.specs.declared.token.Placed.{Placed as BorrowedPlaced}
 use Rattle.ht_expr.specs.Scanning.{seen}
-use Rattle.ht_expr.specs.Shown.{shown, shown_expr}
+use Rattle.ht_expr.specs.Kinds.{Declared}
+use Rattle.ht_expr.specs.Nodes.{shown_node}
+use Rattle.ht_expr.specs.Shown.{shown, AreDeclared}
 use Rattle.ht_expr.specs.Tokens.{Token, mark}
 use Rattle.ht_expr.specs.Trees.{Fits, Holds, least, most, tokens_of}
 
@@ -24,13 +26,15 @@ IsAt tokens at token = (at < length tokens) × (drop at (all tokens) ≡ token �
 
 -- an expression was read where this level was asked for
 abbrev pub ReadsExpression : List BorrowedPlaced → ℕ → ℕ → Read → Type 0
-ReadsExpression tokens at p r = let e = shown_expr r.expr in
+ReadsExpression tokens at p r = let e = shown_node r.node in
     Spans tokens at (tokens_of e) r.next × (p ≤ r.level) × (r.level ≡ most e) × (least e ≡ 0) × Holds e
 
-abbrev pub ReadsAssignment : List BorrowedPlaced → ℕ → ReadAssign → Type 0
-ReadsAssignment tokens at r = Spans tokens at (tokens_of (shown r.assign)) r.next × Fits 9 (shown r.assign)
+-- an assignment was read, with these declared parts
+abbrev pub ReadsAssignment : Declared → List BorrowedPlaced → ℕ → ReadAssign → Type 0
+ReadsAssignment kinds tokens at r = Spans tokens at (tokens_of (shown r.assign)) r.next × Fits 9 (shown r.assign) × AreDeclared kinds r.assign
 
 -- two assignments in brackets
-abbrev pub ReadsOperands : List BorrowedPlaced → ℕ → Both → Type 0
-ReadsOperands tokens at r = let a = shown r.first.value in let b = shown r.second.value in
+abbrev pub ReadsOperands : Declared → List BorrowedPlaced → ℕ → Both → Type 0
+ReadsOperands kinds tokens at r = let a = shown r.first.value in let b = shown r.second.value in
     Spans tokens at (mark Open ∷ (tokens_of a ++ (mark Comma ∷ (tokens_of b ++ (mark Close ∷ []))))) r.next × Fits 9 a × Fits 9 b
+    × AreDeclared kinds r.first.value × AreDeclared kinds r.second.value

@@ -1,9 +1,11 @@
 -- What reading a text answers.
-use Rattle.std.specs.Prelude.{◌≡◌, ◌≢◌, ◌⊎◌, ◌<◌, ◌≤◌, ℕ, IsTrue, List, [], ◌∷◌, ◌++◌, ⊤, length, map, Result, Ok, Err}
+use Rattle.std.specs.Prelude.{◌≡◌, ◌≢◌, ◌⊎◌, ◌<◌, ◌≤◌, ℕ, true, false, IsTrue, List, [], ◌∷◌, ◌++◌, ⊤, length, map, Result, Ok, Err}
 use Rattle.std.specs.List.{list_all}
 use Rattle.std.specs.Str.{IsUtf8}
 use Rattle.ht_expr.specs.declared.refusal.ExprRefusal.{ExprRefusal}
 use Rattle.ht_expr.specs.declared.refusal.ExprRefusal.TheVariants as refusal
+use Rattle.ht_expr.specs.KindTable.{kinds_fit}
+use Rattle.ht_expr.specs.Kinds.{Declared}
 use Rattle.ht_expr.specs.Tokens.{Token, Placed, number, quoted, word, mark, greatest_number, is_text_byte, is_word, AreTokens, HasNoTokenAt}
 use Rattle.ht_expr.specs.Trees.{Tree, AreTree}
 
@@ -53,19 +55,22 @@ HasShapeFault IsWhole tokens end at = StopsBefore IsWhole tokens at ⊎ (EndsEar
 abbrev pub HasTokens : List ℕ → List Placed → Type 0
 HasTokens text tokens = AreTokens text tokens × (length tokens ≤ most_tokens)
 
--- the text is this tree, or is refused so: the first cause, in this order, that it has. Want of memory is free, and
--- kinds are not looked at
-abbrev pub Reads : ℕ → List ℕ → Result Tree ExprRefusal → Type 0
-Reads level text (Ok tree) = (tokens : List Placed) × HasTokens text tokens × AreWritable (bare tokens) × AreTree level (bare tokens) tree
-Reads level text (Err (refusal.Token at)) = HasNoTokenAt text at
-Reads level text (Err refusal.TooLong) = (tokens : List Placed) × AreTokens text tokens × (most_tokens < length tokens)
-Reads level text (Err (refusal.Shape at)) =
+-- the text is written as this tree of this level, whatever its kinds
+abbrev pub IsWritten : ℕ → List ℕ → Tree → Type 0
+IsWritten level text tree = (tokens : List Placed) × HasTokens text tokens × AreWritable (bare tokens) × AreTree level (bare tokens) tree
+
+-- the text is this tree, or is refused so: the first cause, in this order, that it has. Want of memory is free
+abbrev pub Reads : Declared → ℕ → List ℕ → Result Tree ExprRefusal → Type 0
+Reads kinds level text (Ok tree) = IsWritten level text tree × (kinds_fit kinds level tree ≡ true)
+Reads kinds level text (Err (refusal.Token at)) = HasNoTokenAt text at
+Reads kinds level text (Err refusal.TooLong) = (tokens : List Placed) × AreTokens text tokens × (most_tokens < length tokens)
+Reads kinds level text (Err (refusal.Shape at)) =
     (tokens : List Placed) × HasTokens text tokens × HasShapeFault (IsText level) tokens (length text) at
-Reads level text (Err refusal.BadKind) = ⊥
-Reads level text (Err refusal.Memory) = ⊤
+Reads kinds level text (Err refusal.BadKind) = (tree : Tree) × IsWritten level text tree × (kinds_fit kinds level tree ≡ false)
+Reads kinds level text (Err refusal.Memory) = ⊤
 
 -- whatever else the text is, it is the same, unless one of the two is want of memory
-abbrev pub IsOnly : ℕ → List ℕ → Result Tree ExprRefusal → Type 0
-IsOnly level text answer =
-    (other : Result Tree ExprRefusal) → Reads level text other
+abbrev pub IsOnly : Declared → ℕ → List ℕ → Result Tree ExprRefusal → Type 0
+IsOnly kinds level text answer =
+    (other : Result Tree ExprRefusal) → Reads kinds level text other
     → answer ≢ Err refusal.Memory → other ≢ Err refusal.Memory → answer ≡ other

@@ -1,8 +1,8 @@
 -- Expressions and people assignments (WS-HumanTask 1.1, 3.5): their trees, the tokens of a tree, and where a tree may
 -- stand.
 use Rattle.std.specs.Prelude.{◌≡◌, ℕ, ◌+◌, ◌≤◌, Bool, true, false, if◌then◌else◌, List, [], ◌∷◌, ◌++◌, ⊤}
-use Rattle.ht_expr.specs.declared.expression.Count.{Count}
-use Rattle.ht_expr.specs.declared.expression.Count.TheVariants.{Made, Finished, Done}
+use Rattle.ht_expr.specs.declared.node.Count.{Count}
+use Rattle.ht_expr.specs.declared.node.Count.TheVariants.{Made, Finished, Done}
 use Rattle.ht_expr.specs.declared.keyword.Keyword.{Keyword}
 use Rattle.ht_expr.specs.declared.keyword.Keyword.TheVariants as keyword
 use Rattle.ht_expr.specs.declared.kinds.Side.{Side}

@@ -1,11 +1,14 @@
 ghost use Rattle.std.specs.Prelude.{◌≡◌, IfOk};
 ghost use Rattle.ht_expr.specs.Assignments.{is_individual, is_plain};
 ghost use Rattle.ht_expr.specs.Reading.{IsOnly, Reads};
-ghost use Rattle.ht_expr.specs.Shown.{shown, shown_answer};
+ghost use Rattle.ht_expr.specs.KindTable as table;
+ghost use Rattle.ht_expr.specs.Kinds.{Declared};
+ghost use Rattle.ht_expr.specs.Shown.{shown, shown_answer, AreDeclared};
 ghost use Rattle.ht_expr.specs.Trees.{an_assignment};
 
-use crate::{Expr, ExprRefusal, Kinds, building, expected};
-use ht_base::{Memory, Txt};
+use crate::kinding::{is_of_kind, kind_of};
+use crate::{Expr, ExprRefusal, Kinds, Side, building, expected};
+use ht_base::{Kind, Memory, Txt};
 use std::alloc::Global;
 
 /// A people assignment (WS-HumanTask 1.1, 3.5): who is found. A contract sees it by `shown`, as a
@@ -38,13 +41,47 @@ impl Assign {
     /// `union(nobody, initiator)`, and `when` of an expression and two assignments. Blanks may stand
     /// between its tokens, of which there are at most 128. A name is any text without `'` and without
     /// bytes below 32. Of the causes of a refusal the first in the order of [`ExprRefusal`] is
-    /// answered. The kinds of parts and values are not looked at.
-    pub fn read(alloc: Global, text: &str, _kinds: &Kinds) -> Result<Assign, ExprRefusal>
-        ensures reads { Reads an_assignment text.now (shown_answer result) }
-        ensures exact { IsOnly an_assignment text.now (shown_answer result) }
+    /// answered. The parts are declared by `kinds`: each is a person, and the expression of `when`
+    /// a truth.
+    pub fn read(alloc: Global, text: &str, kinds: &Kinds) -> Result<Assign, ExprRefusal>
+        ensures reads { Reads kinds.now an_assignment text.now (shown_answer result) }
+        ensures exact { IsOnly kinds.now an_assignment text.now (shown_answer result) }
+        ensures kinds { IfOk result (AreDeclared kinds.now) }
     {
         let tokens = expected::whole_tokens(alloc, text, 9)?;
-        Ok(building::assignment_of(alloc, &tokens)?)
+        let assign = building::assignment_of(alloc, &tokens, kinds)?;
+        if assign.kinds_fit(kinds) {
+            Ok(assign)
+        } else {
+            Err(ExprRefusal::BadKind)
+        }
+    }
+
+    // Whether its parts are persons, and its tests truths.
+    fn kinds_fit(&self, kinds: &Kinds) -> bool
+        ensures { result ≡ table.assigns kinds.now (shown self.now) }
+    {
+        match self {
+            Assign::Nobody
+            | Assign::Everybody
+            | Assign::Initiator
+            | Assign::User(_)
+            | Assign::Group(_) => true,
+            Assign::In(name) => {
+                is_of_kind(
+                    Kind::Person,
+                    kinds.kind(Side::Input, name.as_str().as_bytes()),
+                )
+            }
+            Assign::Union(first, second)
+            | Assign::Intersect(first, second)
+            | Assign::Except(first, second) => first.kinds_fit(kinds) && second.kinds_fit(kinds),
+            Assign::When(test, first, second) => {
+                is_of_kind(Kind::Truth, kind_of(&test.node, kinds))
+                    && first.kinds_fit(kinds)
+                    && second.kinds_fit(kinds)
+            }
+        }
     }
 
     /// Whether the persons are named one by one: neither `group` nor `everybody` stands anywhere in
@@ -81,7 +118,8 @@ impl Assign {
 
     /// The same assignment once more.
     pub fn copy(&self, alloc: Global) -> Result<Assign, Memory>
-        ensures { IfOk result (λ a. shown a ≡ shown self.now) }
+        ensures tree { IfOk result (λ a. shown a ≡ shown self.now) }
+        ensures kinds { IfOk result (λ a. (kinds : Declared) → AreDeclared kinds self.now → AreDeclared kinds a) }
     {
         match self {
             Assign::Nobody => Ok(Assign::Nobody),

@@ -5,33 +5,40 @@ ghost use Rattle.ht_expr.specs.Keywords.{said};
 ghost use Rattle.ht_expr.specs.declared.keyword.Keyword.TheVariants as keyword;
 ghost use Rattle.ht_expr.specs.declared.token.Mark.TheVariants.{Open, Close, Dot};
 ghost use Rattle.ht_expr.specs.Scanning.{seen};
-ghost use Rattle.ht_expr.specs.Shown.{shown, shown_expr};
+ghost use Rattle.ht_expr.specs.Nodes.{shown_node};
+ghost use Rattle.ht_expr.specs.Shown.{shown, AreDeclared};
 ghost use Rattle.ht_expr.specs.Tokens.{mark, quoted, word};
 ghost use Rattle.ht_expr.specs.Trees.{an_assignment, an_expression, AreTree, count_word, side_word};
 
 use crate::expected::{is_said, is_sign, operator_for};
 use crate::keyword::Keyword;
+use crate::node::Node;
 use crate::token::{Mark, Placed, Token};
-use crate::{Assign, Count, Expr, Side};
+use crate::{Assign, Count, Expr, Kinds, Side};
 use ht_base::{Memory, Txt};
 use std::alloc::Global;
 
 /// The expression that these tokens are.
-pub(crate) fn expression_of(alloc: Global, tokens: &[Placed<'_>]) -> Result<Expr, Memory>
-    ensures { IfOk result (λ e. AreTree an_expression (all tokens.now) (shown_expr e)) }
+pub(crate) fn expression_of(alloc: Global, tokens: &[Placed<'_>]) -> Result<Node, Memory>
+    ensures { IfOk result (λ e. AreTree an_expression (all tokens.now) (shown_node e)) }
 {
     let read = expression(alloc, tokens, 0, 0)?;
     if read.next < tokens.len() {
         return Err(Memory);
     }
-    Ok(read.expr)
+    Ok(read.node)
 }
 
-/// The assignment that these tokens are.
-pub(crate) fn assignment_of(alloc: Global, tokens: &[Placed<'_>]) -> Result<Assign, Memory>
-    ensures { IfOk result (λ a. AreTree an_assignment (all tokens.now) (shown a)) }
+/// The assignment that these tokens are, with these declared parts.
+pub(crate) fn assignment_of(
+    alloc: Global,
+    tokens: &[Placed<'_>],
+    kinds: &Kinds,
+) -> Result<Assign, Memory>
+    ensures tree { IfOk result (λ a. AreTree an_assignment (all tokens.now) (shown a)) }
+    ensures kinds { IfOk result (AreDeclared kinds.now) }
 {
-    let read = assignment(alloc, tokens, 0)?;
+    let read = assignment(alloc, tokens, kinds, 0)?;
     if read.next < tokens.len() {
         return Err(Memory);
     }
@@ -41,16 +48,16 @@ pub(crate) fn assignment_of(alloc: Global, tokens: &[Placed<'_>]) -> Result<Assi
 /// What was read, the highest level where it may stand, and the place of the next token.
 #[derive(Drop)]
 struct Read {
-    expr: Expr,
+    node: Node,
     level: u8,
     next: usize,
 }
 
 impl Read {
-    fn new(expr: Expr, level: u8, next: usize) -> Read
-        ensures { result ≡ record { expr = expr; level = level; next = next } }
+    fn new(node: Node, level: u8, next: usize) -> Read
+        ensures { result ≡ record { node = node; level = level; next = next } }
     {
-        Read { expr, level, next }
+        Read { node, level, next }
     }
 }
 
@@ -81,9 +88,9 @@ fn expression(alloc: Global, tokens: &[Placed<'_>], at: usize, level: u8) -> Res
         };
         let own = operator.level();
         let right = expression(alloc, tokens, read.next + 1, own + 1)?;
-        let left = Box::new(alloc, read.expr)?;
+        let left = Box::new(alloc, read.node)?;
         read = Read {
-            expr: Expr::Binary(operator, left, Box::new(alloc, right.expr)?),
+            node: Node::Binary(operator, left, Box::new(alloc, right.node)?),
             level: own,
             next: right.next,
         };
@@ -100,8 +107,8 @@ fn operand(alloc: Global, tokens: &[Placed<'_>], at: usize, level: u8) -> Result
         return Err(Memory);
     };
     match first {
-        Token::Number(number) => Ok(Read::new(Expr::Number(number), 8, at + 1)),
-        Token::Quoted(text) => Ok(Read::new(Expr::Text(Txt::of(alloc, text)?), 8, at + 1)),
+        Token::Number(number) => Ok(Read::new(Node::Number(number), 8, at + 1)),
+        Token::Quoted(text) => Ok(Read::new(Node::Text(Txt::of(alloc, text)?), 8, at + 1)),
         Token::Word(text) => match Keyword::of(text) {
             Some(keyword) => worded(alloc, tokens, at, level, keyword),
             None => Err(Memory),
@@ -109,7 +116,7 @@ fn operand(alloc: Global, tokens: &[Placed<'_>], at: usize, level: u8) -> Result
         Token::Mark(Mark::Minus) => {
             let operand = expression(alloc, tokens, at + 1, 7)?;
             Ok(Read::new(
-                Expr::Negative(Box::new(alloc, operand.expr)?),
+                Node::Negative(Box::new(alloc, operand.node)?),
                 7,
                 operand.next,
             ))
@@ -117,7 +124,7 @@ fn operand(alloc: Global, tokens: &[Placed<'_>], at: usize, level: u8) -> Result
         Token::Mark(Mark::Open) => {
             let inner = expression(alloc, tokens, at + 1, 0)?;
             Ok(Read::new(
-                Expr::Brackets(Box::new(alloc, inner.expr)?),
+                Node::Brackets(Box::new(alloc, inner.node)?),
                 8,
                 sign(tokens, inner.next, Mark::Close)?,
             ))
@@ -145,7 +152,7 @@ fn worded(
                 return Err(Memory);
             }
             let operand = expression(alloc, tokens, at + 1, 3)?;
-            Ok(Read::new(Expr::Not(Box::new(alloc, operand.expr)?), 3, operand.next))
+            Ok(Read::new(Node::Not(Box::new(alloc, operand.node)?), 3, operand.next))
         }
         Keyword::If => {
             if 0 < level {
@@ -156,10 +163,10 @@ fn worded(
             let then = expression(alloc, tokens, next, 0)?;
             let next = behind(tokens, then.next, "else")?;
             let other = expression(alloc, tokens, next, 0)?;
-            let test = Box::new(alloc, test.expr)?;
-            let then = Box::new(alloc, then.expr)?;
+            let test = Box::new(alloc, test.node)?;
+            let then = Box::new(alloc, then.node)?;
             Ok(Read::new(
-                Expr::If(test, then, Box::new(alloc, other.expr)?),
+                Node::If(test, then, Box::new(alloc, other.node)?),
                 0,
                 other.next,
             ))
@@ -175,17 +182,17 @@ fn atom(alloc: Global, tokens: &[Placed<'_>], at: usize, keyword: Keyword) -> Re
 {
     let next = at + 1;
     match keyword {
-        Keyword::True => Ok(Read::new(Expr::Truth(true), 8, next)),
-        Keyword::False => Ok(Read::new(Expr::Truth(false), 8, next)),
-        Keyword::Priority => Ok(Read::new(Expr::Priority, 8, next)),
-        Keyword::Initiator => Ok(Read::new(Expr::Initiator, 9, next)),
+        Keyword::True => Ok(Read::new(Node::Truth(true), 8, next)),
+        Keyword::False => Ok(Read::new(Node::Truth(false), 8, next)),
+        Keyword::Priority => Ok(Read::new(Node::Priority, 8, next)),
+        Keyword::Initiator => Ok(Read::new(Node::Initiator, 9, next)),
         Keyword::In => {
             let (name, next) = name(alloc, tokens, next)?;
-            Ok(Read::new(Expr::Part(Side::Input, name), 9, next))
+            Ok(Read::new(Node::Part(Side::Input, name), 9, next))
         }
         Keyword::Out => {
             let (name, next) = name(alloc, tokens, next)?;
-            Ok(Read::new(Expr::Part(Side::Output, name), 8, next))
+            Ok(Read::new(Node::Part(Side::Output, name), 8, next))
         }
         Keyword::Set => is_set(alloc, tokens, at),
         Keyword::Made => counted(tokens, at, Count::Made),
@@ -194,7 +201,7 @@ fn atom(alloc: Global, tokens: &[Placed<'_>], at: usize, keyword: Keyword) -> Re
         Keyword::CountText => count_text(alloc, tokens, at),
         Keyword::CountTrue => {
             let (part, next) = text(alloc, tokens, next)?;
-            Ok(Read::new(Expr::CountTrue(part), 8, next))
+            Ok(Read::new(Node::CountTrue(part), 8, next))
         }
         _ => Err(Memory),
     }
@@ -205,7 +212,7 @@ fn counted(tokens: &[Placed<'_>], at: usize, count: Count) -> Result<Read, Memor
     ensures { IfOk result (λ r. ReadsExpression tokens.now at 7 r) }
 {
     let next = sign(tokens, at + 1, Mark::Open)?;
-    Ok(Read::new(Expr::Count(count), 8, sign(tokens, next, Mark::Close)?))
+    Ok(Read::new(Node::Count(count), 8, sign(tokens, next, Mark::Close)?))
 }
 
 fn is_set(alloc: Global, tokens: &[Placed<'_>], at: usize) -> Result<Read, Memory>
@@ -215,7 +222,7 @@ fn is_set(alloc: Global, tokens: &[Placed<'_>], at: usize) -> Result<Read, Memor
     let next = sign(tokens, at + 1, Mark::Open)?;
     let side = side(tokens, next)?;
     let (name, next) = name(alloc, tokens, next + 1)?;
-    Ok(Read::new(Expr::IsSet(side, name), 8, sign(tokens, next, Mark::Close)?))
+    Ok(Read::new(Node::IsSet(side, name), 8, sign(tokens, next, Mark::Close)?))
 }
 
 fn count_text(alloc: Global, tokens: &[Placed<'_>], at: usize) -> Result<Read, Memory>
@@ -227,15 +234,20 @@ fn count_text(alloc: Global, tokens: &[Placed<'_>], at: usize) -> Result<Read, M
     let next = sign(tokens, next + 1, Mark::Comma)?;
     let text = quoted(alloc, tokens, next)?;
     Ok(Read::new(
-        Expr::CountText(part, text),
+        Node::CountText(part, text),
         8,
         sign(tokens, next + 1, Mark::Close)?,
     ))
 }
 
 #[cycle(assignments)]
-fn assignment(alloc: Global, tokens: &[Placed<'_>], at: usize) -> Result<ReadAssign, Memory>
-    ensures { IfOk result (λ r. ReadsAssignment tokens.now at r) }
+fn assignment(
+    alloc: Global,
+    tokens: &[Placed<'_>],
+    kinds: &Kinds,
+    at: usize,
+) -> Result<ReadAssign, Memory>
+    ensures { IfOk result (λ r. ReadsAssignment kinds.now tokens.now at r) }
 {
     let Some(Token::Word(word)) = token_at(tokens, at) else {
         return Err(Memory);
@@ -258,18 +270,18 @@ fn assignment(alloc: Global, tokens: &[Placed<'_>], at: usize) -> Result<ReadAss
             Ok(ReadAssign::new(Assign::Group(name), next))
         }
         Some(Keyword::Union) => {
-            let both = operands(alloc, tokens, next)?;
+            let both = operands(alloc, tokens, kinds, next)?;
             Ok(ReadAssign::new(Assign::Union(both.first, both.second), both.next))
         }
         Some(Keyword::Intersect) => {
-            let both = operands(alloc, tokens, next)?;
+            let both = operands(alloc, tokens, kinds, next)?;
             Ok(ReadAssign::new(Assign::Intersect(both.first, both.second), both.next))
         }
         Some(Keyword::Except) => {
-            let both = operands(alloc, tokens, next)?;
+            let both = operands(alloc, tokens, kinds, next)?;
             Ok(ReadAssign::new(Assign::Except(both.first, both.second), both.next))
         }
-        Some(Keyword::When) => branches(alloc, tokens, at),
+        Some(Keyword::When) => branches(alloc, tokens, kinds, at),
         _ => Err(Memory),
     }
 }
@@ -282,13 +294,13 @@ struct Both {
 }
 
 #[cycle(assignments)]
-fn operands(alloc: Global, tokens: &[Placed<'_>], at: usize) -> Result<Both, Memory>
-    ensures { IfOk result (λ r. ReadsOperands tokens.now at r) }
+fn operands(alloc: Global, tokens: &[Placed<'_>], kinds: &Kinds, at: usize) -> Result<Both, Memory>
+    ensures { IfOk result (λ r. ReadsOperands kinds.now tokens.now at r) }
 {
     let next = sign(tokens, at, Mark::Open)?;
-    let first = assignment(alloc, tokens, next)?;
+    let first = assignment(alloc, tokens, kinds, next)?;
     let next = sign(tokens, first.next, Mark::Comma)?;
-    let second = assignment(alloc, tokens, next)?;
+    let second = assignment(alloc, tokens, kinds, next)?;
     Ok(Both {
         next: sign(tokens, second.next, Mark::Close)?,
         first: Box::new(alloc, first.assign)?,
@@ -297,18 +309,27 @@ fn operands(alloc: Global, tokens: &[Placed<'_>], at: usize) -> Result<Both, Mem
 }
 
 #[cycle(assignments)]
-fn branches(alloc: Global, tokens: &[Placed<'_>], at: usize) -> Result<ReadAssign, Memory>
+fn branches(
+    alloc: Global,
+    tokens: &[Placed<'_>],
+    kinds: &Kinds,
+    at: usize,
+) -> Result<ReadAssign, Memory>
     requires { IsAt tokens.now at (said keyword.When) }
-    ensures { IfOk result (λ r. ReadsAssignment tokens.now at r) }
+    ensures { IfOk result (λ r. ReadsAssignment kinds.now tokens.now at r) }
 {
     let next = sign(tokens, at + 1, Mark::Open)?;
     let test = expression(alloc, tokens, next, 0)?;
     let next = sign(tokens, test.next, Mark::Comma)?;
-    let then = assignment(alloc, tokens, next)?;
+    let then = assignment(alloc, tokens, kinds, next)?;
     let next = sign(tokens, then.next, Mark::Comma)?;
-    let other = assignment(alloc, tokens, next)?;
+    let other = assignment(alloc, tokens, kinds, next)?;
     let next = sign(tokens, other.next, Mark::Close)?;
-    let test = Box::new(alloc, test.expr)?;
+    let test = Expr {
+        node: test.node,
+        kinds: kinds.copy(alloc)?,
+    };
+    let test = Box::new(alloc, test)?;
     let then = Box::new(alloc, then.assign)?;
     Ok(ReadAssign::new(
         Assign::When(test, then, Box::new(alloc, other.assign)?),

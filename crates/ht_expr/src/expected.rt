@@ -4,6 +4,7 @@ ghost use Rattle.ht_expr.specs.Expected.{Checks, if_some, is_done, is_said, is_s
 ghost use Rattle.ht_expr.specs.Expected.{on_opening, on_part, opening_in, opening_of_mark, opening_of_word, operator_for, symbols};
 ghost use Rattle.ht_expr.specs.Trees as trees;
 ghost use Rattle.ht_expr.specs.Trees.{sign_of};
+ghost use Rattle.ht_expr.specs.Kinds.{Declared};
 ghost use Rattle.ht_expr.specs.Reading.{HasTokens, Reads};
 ghost use Rattle.ht_expr.specs.Scanning.{placed, seen};
 
@@ -121,7 +122,7 @@ pub(crate) fn whole_tokens(
 ) -> Result<Vec<Placed<'_>>, ExprRefusal>
     requires { level ≤ 9 }
     ensures tokens { IfOk result (λ tokens. HasTokens text.now (map placed tokens.items)) }
-    ensures refused { IfErr result (λ e. Reads level text.now (Err e)) }
+    ensures refused { IfErr result (λ e. (kinds : Declared) → Reads kinds level text.now (Err e)) }
 {
     let tokens = scanning::tokens(alloc, text)?;
     check(alloc, &tokens, text.len(), level)?;

@@ -1,90 +1,108 @@
-ghost use Rattle.std.specs.Prelude.{◌≡◌, IfOk};
+ghost use Rattle.std.specs.Prelude.{◌≡◌, IfOk, IsSome, IsTrue, Some};
+ghost use Rattle.ht_base.specs.declared.kind.Kind.TheVariants.{Int, Truth};
+ghost use Rattle.ht_expr.specs.Environment.{has_parts};
+ghost use Rattle.ht_expr.specs.KindTable.{kind_of};
 ghost use Rattle.ht_expr.specs.Reading.{IsOnly, Reads};
-ghost use Rattle.ht_expr.specs.Shown.{expr_answer, shown_expr};
+ghost use Rattle.ht_expr.specs.Shown.{expr_answer};
 ghost use Rattle.ht_expr.specs.Trees.{an_expression};
+ghost use Rattle.ht_expr.specs.Values as values;
 
-use crate::{ExprRefusal, Kinds, Operator, Side, building, expected};
-use ht_base::{Memory, Txt};
+use crate::node::Node;
+use crate::operating::{number, truth};
+use crate::{Env, ExprRefusal, Kinds, building, evaluating, expected, kinding};
+use ht_base::{Kind, Memory};
 use std::alloc::Global;
+use std::fmt;
+use std::fmt::{Debug, Formatter};
+use std::marker::Model;
 
-/// Which sub tasks are counted.
-#[derive(Clone, Copy, Debug)]
-pub enum Count {
-    Made,
-    Finished,
-    Done,
+/// An expression, as it is written, with the parts that are declared for it. A contract sees both.
+#[derive(Drop)]
+pub struct Expr {
+    pub(crate) node: Node,
+    pub(crate) kinds: Kinds,
 }
 
-/// An expression, as it is written. A contract sees it by `shown_expr`, as a tree of the grammar.
-#[derive(Debug, Drop)]
-pub enum Expr {
-    /// A whole number, up to 9,223,372,036,854,775,807.
-    Number(u64),
-    Text(Txt),
-    Truth(bool),
-    /// The task's priority.
-    Priority,
-    /// The task's initiator.
-    Initiator,
-    /// The value of a part.
-    Part(Side, Txt),
-    /// Whether a part has a value.
-    IsSet(Side, Txt),
-    /// The number of sub tasks.
-    Count(Count),
-    /// The number of completed sub tasks whose output part of this name is this text.
-    CountText(Txt, Txt),
-    /// The number of completed sub tasks whose output part of this name is true.
-    CountTrue(Txt),
-    Brackets(Box<Expr>),
-    Negative(Box<Expr>),
-    Not(Box<Expr>),
-    Binary(Operator, Box<Expr>, Box<Expr>),
-    /// The second where the first is true, and else the third.
-    If(Box<Expr>, Box<Expr>, Box<Expr>),
+impl Model for Expr {
+    ghost use Rattle.std.specs.Coded.{codes};
+    ghost use Rattle.ht_expr.specs.Codes.{coded_tree};
+    ghost use Rattle.ht_expr.specs.Nodes.{ExprOf, shown_node};
+
+    ghost Value = { ExprOf };
+
+    ghost coded = { Prim.hlevel (codes, coded_tree) };
+
+    ghost view = { λ e. record { tree = shown_node e.node; kinds = e.kinds } };
+}
+
+impl Debug for Expr {
+    fn fmt<W: fmt::Write>(&self, f: &mut Formatter<W>) -> fmt::Result {
+        self.node.fmt(f)
+    }
 }
 
 impl Expr {
     /// Reads an expression from its text. Blanks may stand between its tokens, of which there are at
-    /// most 128. Of the causes of a refusal the first in the order of [`ExprRefusal`] is answered.
-    /// The kinds of parts and values are not looked at.
-    pub fn read(alloc: Global, text: &str, _kinds: &Kinds) -> Result<Expr, ExprRefusal>
-        ensures reads { Reads an_expression text.now (expr_answer result) }
-        ensures exact { IsOnly an_expression text.now (expr_answer result) }
+    /// most 128. Its parts are declared by `kinds`. Of the causes of a refusal the first in the order
+    /// of [`ExprRefusal`] is answered.
+    pub fn read(alloc: Global, text: &str, kinds: &Kinds) -> Result<Expr, ExprRefusal>
+        ensures reads { Reads kinds.now an_expression text.now (expr_answer result) }
+        ensures exact { IsOnly kinds.now an_expression text.now (expr_answer result) }
+        ensures kinds { IfOk result (λ e. e.kinds ≡ kinds.now) }
+        ensures kind { IfOk result (λ e. IsSome (kind_of e.kinds e.tree)) }
     {
         let tokens = expected::whole_tokens(alloc, text, 0)?;
-        Ok(building::expression_of(alloc, &tokens)?)
+        let node = building::expression_of(alloc, &tokens)?;
+        match kinding::kind_of(&node, kinds) {
+            Some(_) => Ok(Expr {
+                node,
+                kinds: kinds.copy(alloc)?,
+            }),
+            None => Err(ExprRefusal::BadKind),
+        }
+    }
+
+    /// The kind of its values, by the table of forms and kinds. One that was read has a kind.
+    pub fn kind(&self) -> Kind
+        ensures { IsSome (kind_of self.now.kinds self.now.tree) → kind_of self.now.kinds self.now.tree ≡ Some result }
+    {
+        match kinding::kind_of(&self.node, &self.kinds) {
+            Some(kind) => kind,
+            None => Kind::Truth,
+        }
+    }
+
+    /// The value of an expression of kind Int. It takes no memory.
+    pub fn int(&self, env: &Env) -> i64
+        requires kind { kind_of self.now.kinds self.now.tree ≡ Some Int }
+        requires parts { IsTrue (has_parts self.now.kinds env.now) }
+        ensures { values.value self.now.kinds env.now self.now.tree ≡ values.a_number result }
+    {
+        match number(evaluating::value(&self.node, &self.kinds, env)) {
+            Some(number) => number,
+            None => 0,
+        }
+    }
+
+    /// The value of an expression of kind Truth. It takes no memory.
+    pub fn truth(&self, env: &Env) -> bool
+        requires kind { kind_of self.now.kinds self.now.tree ≡ Some Truth }
+        requires parts { IsTrue (has_parts self.now.kinds env.now) }
+        ensures { values.value self.now.kinds env.now self.now.tree ≡ values.a_truth result }
+    {
+        match truth(evaluating::value(&self.node, &self.kinds, env)) {
+            Some(truth) => truth,
+            None => false,
+        }
     }
 
     /// The same expression once more.
     pub fn copy(&self, alloc: Global) -> Result<Expr, Memory>
-        ensures { IfOk result (λ e. shown_expr e ≡ shown_expr self.now) }
+        ensures { IfOk result (λ e. e ≡ self.now) }
     {
-        match self {
-            Expr::Number(number) => Ok(Expr::Number(*number)),
-            Expr::Text(text) => Ok(Expr::Text(text.copy(alloc)?)),
-            Expr::Truth(truth) => Ok(Expr::Truth(*truth)),
-            Expr::Priority => Ok(Expr::Priority),
-            Expr::Initiator => Ok(Expr::Initiator),
-            Expr::Part(side, name) => Ok(Expr::Part(*side, name.copy(alloc)?)),
-            Expr::IsSet(side, name) => Ok(Expr::IsSet(*side, name.copy(alloc)?)),
-            Expr::Count(count) => Ok(Expr::Count(*count)),
-            Expr::CountText(part, text) => {
-                Ok(Expr::CountText(part.copy(alloc)?, text.copy(alloc)?))
-            }
-            Expr::CountTrue(part) => Ok(Expr::CountTrue(part.copy(alloc)?)),
-            Expr::Brackets(inner) => Ok(Expr::Brackets(Box::new(alloc, inner.copy(alloc)?)?)),
-            Expr::Negative(operand) => Ok(Expr::Negative(Box::new(alloc, operand.copy(alloc)?)?)),
-            Expr::Not(operand) => Ok(Expr::Not(Box::new(alloc, operand.copy(alloc)?)?)),
-            Expr::Binary(operator, left, right) => {
-                let left = Box::new(alloc, left.copy(alloc)?)?;
-                Ok(Expr::Binary(*operator, left, Box::new(alloc, right.copy(alloc)?)?))
-            }
-            Expr::If(test, then, other) => {
-                let test = Box::new(alloc, test.copy(alloc)?)?;
-                let then = Box::new(alloc, then.copy(alloc)?)?;
-                Ok(Expr::If(test, then, Box::new(alloc, other.copy(alloc)?)?))
-            }
-        }
+        Ok(Expr {
+            node: self.node.copy(alloc)?,
+            kinds: self.kinds.copy(alloc)?,
+        })
     }
 }

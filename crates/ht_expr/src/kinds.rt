@@ -1,4 +1,5 @@
-ghost use Rattle.std.specs.Prelude.{◌≡◌, [], ◌∷◌, ◌++◌, OnOk, OnErr};
+ghost use Rattle.std.specs.Prelude.{◌≡◌, [], ◌∷◌, ◌++◌, IfOk, OnOk, OnErr};
+ghost use Rattle.ht_expr.specs.Kinds.{declared_kind, same_side};
 
 use ht_base::{Kind, Memory, Name};
 use std::alloc::Global;
@@ -11,8 +12,25 @@ pub enum Side {
     Output,
 }
 
+impl Side {
+    pub(crate) fn is(self, other: Side) -> bool
+        ensures { result ≡ same_side self other }
+    {
+        match self {
+            Side::Input => match other {
+                Side::Input => true,
+                Side::Output => false,
+            },
+            Side::Output => match other {
+                Side::Input => false,
+                Side::Output => true,
+            },
+        }
+    }
+}
+
 /// The declared parts of a task, each with its side, its name and the kind of its values. A contract
-/// sees them as the list of these.
+/// sees them as the list of these. Of several declarations of one part the first counts.
 #[derive(Drop)]
 pub struct Kinds {
     parts: Vec<(Side, Name, Kind)>,
@@ -49,5 +67,25 @@ impl Kinds {
     {
         self.parts.push((side, name, kind))?;
         Ok(())
+    }
+
+    pub fn copy(&self, alloc: Global) -> Result<Kinds, Memory>
+        ensures { IfOk result (λ k. k ≡ self.now) }
+    {
+        Ok(Kinds {
+            parts: self.parts.to_vec(alloc)?,
+        })
+    }
+
+    /// The kind of a part, if it is declared.
+    pub fn kind(&self, side: Side, name: &[u8]) -> Option<Kind>
+        ensures { result ≡ declared_kind self.now side name.now }
+    {
+        for (declared, part, kind) in &self.parts {
+            if declared.is(side) && part.as_bytes() == name {
+                return Some(*kind);
+            }
+        }
+        None
     }
 }

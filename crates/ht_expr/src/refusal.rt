@@ -17,8 +17,8 @@ pub enum ExprRefusal {
     /// end comes too early, it is the text's length.
     #[error("what stands at byte {0} can't stand there")]
     Shape(usize),
-    /// The text speaks of a part that isn't declared, or of a value of another kind. Nothing answers
-    /// it yet.
+    /// The text speaks of a part that isn't declared, or of a value of another kind than can stand
+    /// there, even in a branch that is never taken.
     #[error("a part that isn't declared, or a value of another kind")]
     BadKind,
     #[error("out of memory")]

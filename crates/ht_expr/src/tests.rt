@@ -5,12 +5,35 @@ use ht_base::{Kind, Memory, Name};
 use std::alloc::Global;
 use std::test::Fail;
 
+// Parts of which the texts of these tests speak.
+fn declared(alloc: Global) -> Result<Kinds, Memory> {
+    let mut kinds = Kinds::new(alloc);
+    let table = [
+        (Side::Input, "a", Kind::Person),
+        (Side::Input, "b", Kind::Person),
+        (Side::Input, "owner", Kind::Person),
+        (Side::Input, "in", Kind::Person),
+        (Side::Input, "amount", Kind::Int),
+        (Side::Input, "if", Kind::Text),
+        (Side::Input, "set", Kind::Instant),
+        (Side::Output, "a", Kind::Int),
+        (Side::Output, "in", Kind::Truth),
+        (Side::Output, "amount", Kind::Int),
+    ];
+    for (side, name, kind) in table {
+        if let Some(name) = Name::of(name.as_bytes()) {
+            kinds.push(side, name, kind)?;
+        }
+    }
+    Ok(kinds)
+}
+
 fn read(alloc: Global, text: &str) -> Result<Assign, ExprRefusal> {
-    Assign::read(alloc, text, &Kinds::new(alloc))
+    Assign::read(alloc, text, &declared(alloc)?)
 }
 
 fn read_expr(alloc: Global, text: &str) -> Result<Expr, ExprRefusal> {
-    Expr::read(alloc, text, &Kinds::new(alloc))
+    Expr::read(alloc, text, &declared(alloc)?)
 }
 
 fn repeated(alloc: Global, text: &str, times: usize) -> Result<String, Fail> {
@@ -94,7 +117,10 @@ fn expressions_are_read(rt: HostRuntime) -> Result<(), Fail> {
         ("(1)", "Brackets(Number(1))"),
         ("-1", "Negative(Number(1))"),
         ("not true", "Not(Truth(true))"),
-        ("if 1 then 2 else 3", "If(Number(1), Number(2), Number(3))"),
+        (
+            "if true then 2 else 3",
+            "If(Truth(true), Number(2), Number(3))",
+        ),
         // Each level beside its neighbour.
         (
             "1 - 2 - 3",
@@ -105,12 +131,12 @@ fn expressions_are_read(rt: HostRuntime) -> Result<(), Fail> {
             "Binary(Times, Binary(Times, Number(1), Number(2)), Number(3))",
         ),
         (
-            "1 or 2 or 3",
-            "Binary(Or, Binary(Or, Number(1), Number(2)), Number(3))",
+            "true or true or false",
+            "Binary(Or, Binary(Or, Truth(true), Truth(true)), Truth(false))",
         ),
         (
-            "1 and 2 and 3",
-            "Binary(And, Binary(And, Number(1), Number(2)), Number(3))",
+            "true and true and false",
+            "Binary(And, Binary(And, Truth(true), Truth(true)), Truth(false))",
         ),
         (
             "1 - (2 - 3)",
@@ -144,28 +170,34 @@ fn expressions_are_read(rt: HostRuntime) -> Result<(), Fail> {
             "not in.a == in.b",
             "Not(Binary(Equal, Part(Input, Txt { text: \"a\" }), Part(Input, Txt { text: \"b\" })))",
         ),
-        ("not not 1", "Not(Not(Number(1)))"),
-        ("not 1 and 2", "Binary(And, Not(Number(1)), Number(2))"),
-        ("1 and not 2", "Binary(And, Number(1), Not(Number(2)))"),
+        ("not not true", "Not(Not(Truth(true)))"),
         (
-            "1 or 2 and 3",
-            "Binary(Or, Number(1), Binary(And, Number(2), Number(3)))",
+            "not true and false",
+            "Binary(And, Not(Truth(true)), Truth(false))",
         ),
         (
-            "1 and 2 or 3",
-            "Binary(Or, Binary(And, Number(1), Number(2)), Number(3))",
+            "true and not false",
+            "Binary(And, Truth(true), Not(Truth(false)))",
         ),
         (
-            "if 1 or 2 then 3 else 4 or 5",
-            "If(Binary(Or, Number(1), Number(2)), Number(3), Binary(Or, Number(4), Number(5)))",
+            "true or true and false",
+            "Binary(Or, Truth(true), Binary(And, Truth(true), Truth(false)))",
         ),
         (
-            "if 1 then if 2 then 3 else 4 else if 5 then 6 else 7",
-            "If(Number(1), If(Number(2), Number(3), Number(4)), If(Number(5), Number(6), Number(7)))",
+            "true and true or false",
+            "Binary(Or, Binary(And, Truth(true), Truth(true)), Truth(false))",
         ),
         (
-            "1 + (if 2 then 3 else 4)",
-            "Binary(Plus, Number(1), Brackets(If(Number(2), Number(3), Number(4))))",
+            "if true or false then true else true or false",
+            "If(Binary(Or, Truth(true), Truth(false)), Truth(true), Binary(Or, Truth(true), Truth(false)))",
+        ),
+        (
+            "if true then if false then 3 else 4 else if out.in then 6 else 7",
+            "If(Truth(true), If(Truth(false), Number(3), Number(4)), If(Part(Output, Txt { text: \"in\" }), Number(6), Number(7)))",
+        ),
+        (
+            "1 + (if true then 3 else 4)",
+            "Binary(Plus, Number(1), Brackets(If(Truth(true), Number(3), Number(4))))",
         ),
         (
             "1 + 2 < 3 * 4 and true or false",
@@ -248,7 +280,7 @@ fn cut_texts_end_too_early(rt: HostRuntime) -> Result<(), Fail> {
         ("- | 1", false),
         ("not | true", false),
         ("out | . | a", false),
-        ("if | 1 | then | 2 | else | 3", false),
+        ("if | true | then | 2 | else | 3", false),
         ("in | . | a", true),
         ("user | ( | 'a' | )", true),
         ("group | ( | 'a' | )", true),
@@ -433,22 +465,6 @@ fn assignments_are_copied(rt: HostRuntime) -> Result<(), Fail> {
             .as_str()
             .contains("Except(User(Txt { text: \"anna\" })")
     );
-    Ok(())
-}
-
-#[test]
-fn kinds_are_kept_in_order(rt: HostRuntime) -> Result<(), Fail> {
-    let mut kinds = Kinds::new(rt.alloc());
-    let amount = Name::of(b"amount").ok_or("a name")?;
-    let owner = Name::of(b"owner").ok_or("a name")?;
-    kinds.push(Side::Input, amount, Kind::Int)?;
-    kinds.push(Side::Output, owner, Kind::Person)?;
-    let parts = kinds.as_slice();
-    assert_eq!(rt; parts.len(), 2);
-    assert!(rt; parts[0].0 == Side::Input && parts[0].1 == amount && parts[0].2 == Kind::Int);
-    assert!(rt; parts[1].0 == Side::Output && parts[1].1 == owner && parts[1].2 == Kind::Person);
-    let assign = Assign::read(rt.alloc(), "user('anna')", &kinds)?;
-    assert!(rt; assign.individual());
     Ok(())
 }
 

@@ -7,7 +7,7 @@ use Rattle.toml.specs.Parse.{parse_document}
 use Rattle.toml.proofs.OnLiterals.{toml_on_literals}
 use Rattle.ht_expr.specs.Assignments.{everybody}
 use Rattle.ht_expr.specs.Trees.{an_assignment}
-use Rattle.ht_expr.proofs.PublicLaws.{tree_row}
+use Rattle.ht_expr.proofs.PublicLaws.{spelled_row, tree_row}
 use Rattle.ht_models.specs.declared.refusal.ModelsRefusal.{ModelsRefusal}
 use Rattle.ht_models.specs.declared.refusal.ModelsRefusal.TheVariants.{Syntax, Field, Twice, UnknownModel, Cycle, Expression, Limit, Contradiction, Memory}
 use Rattle.ht_models.specs.Model.{ModelOf}
@@ -47,7 +47,7 @@ shape = (document, (is_text, is_read), refl)
 model : IsModel entry unit
 model = record {
   name = refl;
-  potential_owners = ((tree_row an_assignment (codes "everybody") everybody (omega arith, omega arith, tt) refl refl refl refl).reads, refl);
+  potential_owners = ((tree_row [] an_assignment (codes "everybody") everybody (spelled_row an_assignment (codes "everybody") everybody (omega arith, omega arith, tt) refl refl refl refl) refl).reads, refl);
   excluded_owners = refl;
   administrators = refl;
   stakeholders = refl;

@@ -8,7 +8,7 @@ use Rattle.toml.specs.Data.{Members, array, item, member, no_items, no_members, 
 use Rattle.ht_base.specs.Places.{IsLeast, IsRepeated}
 use Rattle.ht_expr.specs.Assignments.{user}
 use Rattle.ht_expr.specs.Trees.{an_assignment}
-use Rattle.ht_expr.proofs.PublicLaws.{tree_row}
+use Rattle.ht_expr.proofs.PublicLaws.{spelled_row, tree_row}
 use Rattle.ht_models.specs.declared.refusal.ModelsRefusal.TheVariants.{Field, Twice}
 use Rattle.ht_models.specs.Model.{ModelOf}
 use Rattle.ht_models.specs.ModelsText.{ModelText}
@@ -64,9 +64,9 @@ shut_shape = (shut_document, (shut_is_text, shut_is_read), refl)
 shut_model : IsModel shut_entry shut
 shut_model = record {
   name = refl;
-  potential_owners = ((tree_row an_assignment (codes "user('anna')") (user (codes "anna")) (omega arith, omega arith, tt) refl refl refl refl).reads, refl);
-  excluded_owners = ((tree_row an_assignment (codes "user('anna')") (user (codes "anna")) (omega arith, omega arith, tt) refl refl refl refl).reads, refl);
-  administrators = ((tree_row an_assignment (codes "user('cora')") (user (codes "cora")) (omega arith, omega arith, tt) refl refl refl refl).reads, refl);
+  potential_owners = ((tree_row [] an_assignment (codes "user('anna')") (user (codes "anna")) (spelled_row an_assignment (codes "user('anna')") (user (codes "anna")) (omega arith, omega arith, tt) refl refl refl refl) refl).reads, refl);
+  excluded_owners = ((tree_row [] an_assignment (codes "user('anna')") (user (codes "anna")) (spelled_row an_assignment (codes "user('anna')") (user (codes "anna")) (omega arith, omega arith, tt) refl refl refl refl) refl).reads, refl);
+  administrators = ((tree_row [] an_assignment (codes "user('cora')") (user (codes "cora")) (spelled_row an_assignment (codes "user('cora')") (user (codes "cora")) (omega arith, omega arith, tt) refl refl refl refl) refl).reads, refl);
   stakeholders = refl;
   size = refl;
 }

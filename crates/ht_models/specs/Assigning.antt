@@ -1,13 +1,13 @@
 -- What the texts of a model's people assignments are.
-use Rattle.std.specs.Prelude.{◌≡◌, ◌⊎◌, ℕ, IsTrue, List, Option, Some, None, Ok}
+use Rattle.std.specs.Prelude.{◌≡◌, ◌⊎◌, ℕ, IsTrue, List, [], Option, Some, None, Ok}
 use Rattle.ht_expr.specs.Assignments.{Assignment, is_plain, nobody}
 use Rattle.ht_expr.specs.Reading as expression
 use Rattle.ht_expr.specs.Trees.{an_assignment}
 use Rattle.ht_models.specs.ModelsText.{ModelText}
 
--- the text is this assignment, which looks at no part and no expression: models have none yet
+-- the text is this assignment, which looks at no part and no expression: models declare none yet
 abbrev pub Spells : List ℕ → Assignment → Type 0
-Spells text a = expression.Reads an_assignment text (Ok a) × IsTrue (is_plain a)
+Spells text a = expression.Reads [] an_assignment text (Ok a) × IsTrue (is_plain a)
 
 -- and where none is given, it is nobody
 abbrev pub SpellsOrNobody : Option (List ℕ) → Assignment → Type 0

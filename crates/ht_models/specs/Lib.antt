@@ -1,6 +1,5 @@
 pub mod Assigning
 pub mod BuiltIn
-pub mod Codes
 pub mod DocumentRefusals
 pub mod Examples
 pub mod Instants

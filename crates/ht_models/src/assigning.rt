@@ -42,53 +42,45 @@ fn model(alloc: Global, entry: &ModelText) -> Result<Model, ExprRefusal>
     ensures ok { IfOk result (λ model. IsModel entry.now (model_of model)) }
     ensures refused { IfErr result (λ e. e ≢ ExprRefusal.Memory → HasRefused entry.now) }
 {
-    let kinds = Kinds::new(alloc);
     Ok(Model {
         name: entry.name,
-        potential_owners: assignment_or_nobody(alloc, &entry.potential_owners, &kinds)?,
-        excluded_owners: assignment_or_nobody(alloc, &entry.excluded_owners, &kinds)?,
-        administrators: assignment_if_any(alloc, &entry.administrators, &kinds)?,
-        stakeholders: assignment_if_any(alloc, &entry.stakeholders, &kinds)?,
+        potential_owners: assignment_or_nobody(alloc, &entry.potential_owners)?,
+        excluded_owners: assignment_or_nobody(alloc, &entry.excluded_owners)?,
+        administrators: assignment_if_any(alloc, &entry.administrators)?,
+        stakeholders: assignment_if_any(alloc, &entry.stakeholders)?,
         size: 1,
     })
 }
 
 /// The assignment of a key, which is nobody where the key is missing.
-fn assignment_or_nobody(
-    alloc: Global,
-    text: &Option<Txt>,
-    kinds: &Kinds,
-) -> Result<Assign, ExprRefusal>
+fn assignment_or_nobody(alloc: Global, text: &Option<Txt>) -> Result<Assign, ExprRefusal>
     ensures ok { IfOk result (λ a. SpellsOrNobody text.now (shown a)) }
     ensures refused { IfErr result (λ e. e ≢ ExprRefusal.Memory → IsRefused text.now) }
 {
     match text {
-        Some(text) => assignment(alloc, text.as_str(), kinds),
+        Some(text) => assignment(alloc, text.as_str()),
         None => Ok(Assign::Nobody),
     }
 }
 
 /// The assignment of a key, if the key is there.
-fn assignment_if_any(
-    alloc: Global,
-    text: &Option<Txt>,
-    kinds: &Kinds,
-) -> Result<Option<Assign>, ExprRefusal>
+fn assignment_if_any(alloc: Global, text: &Option<Txt>) -> Result<Option<Assign>, ExprRefusal>
     ensures ok { IfOk result (λ a. SpellsIfAny text.now (option_map shown a)) }
     ensures refused { IfErr result (λ e. e ≢ ExprRefusal.Memory → IsRefused text.now) }
 {
     match text {
-        Some(text) => Ok(Some(assignment(alloc, text.as_str(), kinds)?)),
+        Some(text) => Ok(Some(assignment(alloc, text.as_str())?)),
         None => Ok(None),
     }
 }
 
-// A model has no inputs and its expressions have no values yet, so one that looks at them is refused.
-fn assignment(alloc: Global, text: &str, kinds: &Kinds) -> Result<Assign, ExprRefusal>
+// A model declares no parts and its expressions have no values yet, so one that looks at them is
+// refused.
+fn assignment(alloc: Global, text: &str) -> Result<Assign, ExprRefusal>
     ensures ok { IfOk result (λ a. Spells text.now (shown a)) }
     ensures refused { IfErr result (λ e. e ≢ ExprRefusal.Memory → IsRefused (Some text.now)) }
 {
-    let assign = Assign::read(alloc, text, kinds)?;
+    let assign = Assign::read(alloc, text, &Kinds::new(alloc))?;
     if assign.is_plain() {
         Ok(assign)
     } else {

@@ -28,12 +28,12 @@ pub struct Models {
 impl marker::Model for Models {
     ghost use Rattle.std.specs.Prelude.{List, map};
     ghost use Rattle.std.specs.Coded.{codes};
-    ghost use Rattle.ht_models.specs.Codes.{coded_assignment};
+    ghost use Rattle.ht_expr.specs.Codes.{coded_tree};
     ghost use Rattle.ht_models.specs.Model.{ModelOf};
 
     ghost Value = { List ModelOf };
 
-    ghost coded = { Prim.hlevel (codes, coded_assignment) };
+    ghost coded = { Prim.hlevel (codes, coded_tree) };
 
     ghost use Rattle.ht_models.specs.Kept.{IsKept};
     ghost use Rattle.ht_models.specs.Shown.{model_of};

@@ -1,4 +1,4 @@
-ghost use Rattle.std.specs.Prelude.{◌≡◌, ◌<◌, ℕ, [], ◌∷◌, IfOk, length};
+ghost use Rattle.std.specs.Prelude.{◌≡◌, ◌<◌, ℕ, [], ◌∷◌, IfOk, length, pos};
 ghost use Rattle.ht_expr.specs.Assignments.{group, user};
 ghost use Rattle.ht_expr.specs.Shown.{shown};
 ghost use Rattle.ht_people.specs.Membership as membership;
@@ -9,18 +9,24 @@ ghost use Rattle.ht_tree.specs.Tables.{directory};
 
 use crate::{Plan, Row, Tables};
 use ht_base::{Memory, Name, Person, Persons};
-use ht_expr::{Assign, Env};
+use ht_expr::{Assign, Env, Subs};
 use ht_people::{Directory, except, intersect, union};
 use std::alloc::Global;
 
-/// The environment of a row, which expressions and assignments see.
-pub fn env(_alloc: Global, _tables: &Tables, _plan: &Plan, row: &Row) -> Result<Env, Memory>
+/// The environment of a row, which expressions and assignments see. Sub tasks come.
+pub fn env(alloc: Global, _tables: &Tables, _plan: &Plan, row: &Row) -> Result<Env, Memory>
     requires plan { IsPlanOf _tables.now.tables _plan.now }
     requires row { Fits _tables.now.tables row.now }
-    ensures { IfOk result (λ e. e.initiator ≡ row.now.initiator) }
+    ensures initiator { IfOk result (λ e. e.initiator ≡ row.now.initiator) }
+    ensures parts { IfOk result (λ e. (e.input ≡ row.now.input) × (e.output ≡ row.now.output)) }
+    ensures priority { IfOk result (λ e. e.priority ≡ pos row.now.priority) }
 {
     Ok(Env {
+        input: row.input.copy(alloc)?,
+        output: row.output.copy(alloc)?,
+        priority: i64::from(row.priority),
         initiator: row.initiator,
+        subs: Subs::new(alloc),
     })
 }
 

@@ -3,6 +3,7 @@ ghost use Rattle.std.specs.Option.{option_map_or};
 ghost use Rattle.ht_base.specs.Moment.{last_moment};
 ghost use Rattle.ht_expr.specs.Shown.{shown};
 ghost use Rattle.ht_models.specs.Model.{ModelOf};
+ghost use Rattle.ht_models.specs.Shown.{model_of};
 ghost use Rattle.ht_tree.specs.Assigning.{potential_owners, resolved};
 ghost use Rattle.ht_tree.specs.Creating as spec;
 ghost use Rattle.ht_tree.specs.Creating.{IsFull, role_or};
@@ -107,22 +108,51 @@ fn new_row(
     requires initiator { initiator < length tables.now.tables.people.persons }
     ensures { IfOk result (λ row. IfSome (model_at tables.now.tables model) (λ m. row ≡ spec.new_row (planned tables.now.tables plan.now) m model parent initiator input waits at)) }
 {
-    let people = tables.people();
-    let m = tables.models().model(model);
-    let mut row = bare_row(alloc, task, model, parent, initiator, input, waits, at);
+    let row = bare_row(alloc, task, model, parent, initiator, input, waits, at);
     let env = env(alloc, tables, plan, &row)?;
     let above = parent_row(tables, plan, parent);
-    row.excluded_owners = found(alloc, people, &env, &m.excluded_owners)?;
-    row.potential_owners = owners(alloc, people, &env, m, &row.excluded_owners)?;
+    let row = with_roles(
+        alloc,
+        tables,
+        &env,
+        tables.models().model(model),
+        above,
+        row,
+    )?;
+    Ok(row)
+}
+
+// The row with its roles, as assignments find them, and with what the parent gives.
+fn with_roles(
+    alloc: Global,
+    tables: &Tables,
+    env: &Env,
+    model: &Model,
+    above: Option<&Row>,
+    row: Row,
+) -> Result<Row, Memory>
+    requires { env.now.initiator < length tables.now.tables.people.persons }
+    ensures { IfOk result (λ r. r ≡ spec.with_roles tables.now.tables env.now.initiator (model_of model.now) (option_map (λ r. r.now) above.entry) row) }
+{
+    let people = tables.people();
+    let mut row = row;
+    row.excluded_owners = found(alloc, people, env, &model.excluded_owners)?;
+    row.potential_owners = owners(alloc, people, env, model, &row.excluded_owners)?;
     row.administrators = role(
         alloc,
         people,
-        &env,
-        &m.administrators,
+        env,
+        &model.administrators,
         administrators_of(above),
     )?;
-    row.stakeholders = role(alloc, people, &env, &m.stakeholders, stakeholders_of(above))?;
-    row.by_group = !m.potential_owners.individual();
+    row.stakeholders = role(
+        alloc,
+        people,
+        env,
+        &model.stakeholders,
+        stakeholders_of(above),
+    )?;
+    row.by_group = !model.potential_owners.individual();
     Ok(row)
 }
 

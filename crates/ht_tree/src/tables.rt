@@ -30,11 +30,11 @@ pub struct Tables {
 impl Model for Tables {
     ghost use Rattle.ht_tree.specs.Tables.{RoomyTables};
     ghost use Rattle.std.specs.Coded.{codes};
-    ghost use Rattle.ht_models.specs.Codes.{coded_assignment};
+    ghost use Rattle.ht_expr.specs.Codes.{coded_tree};
 
     ghost Value = { RoomyTables };
 
-    ghost coded = { Prim.hlevel (codes, coded_assignment) };
+    ghost coded = { Prim.hlevel (codes, coded_tree) };
 
     ghost use Rattle.ht_tree.specs.Kept.{IsKept, roomy};
 

@@ -1,10 +1,10 @@
--- A code of assignments, by which proofs tell lists of models apart: each is a tree of numbers.
+-- A code of trees, by which proofs tell them apart: each is a tree of numbers.
 use Rattle.std.specs.Prelude.{◌≡◌, refl, ℕ, ◌==◌, Bool, true, false, List, [], ◌∷◌, if◌then◌else◌}
 use Rattle.std.specs.Coded.{Coded}
 use Rattle.std.proofs.Common.{◌∙◌, ap, sym}
 use base.Stored.{Gv, gnil, gnum, gcons, num}
-use Rattle.ht_expr.specs.declared.expression.Count.{Count}
-use Rattle.ht_expr.specs.declared.expression.Count.TheVariants.{Made, Finished, Done}
+use Rattle.ht_expr.specs.declared.node.Count.{Count}
+use Rattle.ht_expr.specs.declared.node.Count.TheVariants.{Made, Finished, Done}
 use Rattle.ht_expr.specs.declared.kinds.Side.{Side}
 use Rattle.ht_expr.specs.declared.kinds.Side.TheVariants.{Input, Output}
 use Rattle.ht_expr.specs.declared.operator.Operator.{Operator}
@@ -180,5 +180,5 @@ from_code-code (intersect a b) = ap (λ t. intersect t (from_code (code b))) (fr
 from_code-code (except a b) = ap (λ t. except t (from_code (code b))) (from_code-code a) ∙ ap (λ t. except a t) (from_code-code b)
 from_code-code (when a b c) = ap (λ t. when t (from_code (code b)) (from_code (code c))) (from_code-code a) ∙ ap (λ t. when a t (from_code (code c))) (from_code-code b) ∙ ap (λ t. when a b t) (from_code-code c)
 
-abbrev pub coded_assignment : Coded Tree
-coded_assignment = record { code = code; inj = λ a b same. sym (from_code-code a) ∙ ap from_code same ∙ from_code-code b }
+abbrev pub coded_tree : Coded Tree
+coded_tree = record { code = code; inj = λ a b same. sym (from_code-code a) ∙ ap from_code same ∙ from_code-code b }

@@ -1,0 +1,10 @@
+use Rattle.std.proofs.Common.{◌≡◌, ◌≤◌, take}
+use Rattle.std.specs.Prelude.{◌&&◌, count_by}
+use Rattle.ht_expr.specs.Environment.{is_completed, is_true, value_at}
+use Rattle.ht_expr.proofs.counting.true_count.Given as goal
+
+abbrev pub invariant-loop-state : goal.invariant-loop-state
+invariant-loop-state l = record {
+  few : l.number ≤ l.state-index;
+  so_far : l.number ≡ count_by (λ s. is_completed s.0 && is_true (value_at l.part s.1)) (take l.state-index l.state-items);
+}

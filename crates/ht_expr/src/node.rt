@@ -1,0 +1,78 @@
+ghost use Rattle.std.specs.Prelude.{◌≡◌, IfOk};
+ghost use Rattle.ht_expr.specs.Nodes.{shown_node};
+
+use crate::{Operator, Side};
+use ht_base::{Memory, Txt};
+use std::alloc::Global;
+
+/// Which sub tasks are counted.
+#[derive(Clone, Copy, Debug)]
+pub enum Count {
+    Made,
+    Finished,
+    Done,
+}
+
+/// The tree of an expression, as it is written. A contract sees it by `shown_node`, as a tree of the
+/// grammar.
+#[derive(Debug, Drop)]
+pub(crate) enum Node {
+    /// A whole number, up to 9,223,372,036,854,775,807.
+    Number(u64),
+    Text(Txt),
+    Truth(bool),
+    /// The task's priority.
+    Priority,
+    /// The task's initiator.
+    Initiator,
+    /// The value of a part.
+    Part(Side, Txt),
+    /// Whether a part has a value.
+    IsSet(Side, Txt),
+    /// The number of sub tasks.
+    Count(Count),
+    /// The number of completed sub tasks whose output part of this name is this text.
+    CountText(Txt, Txt),
+    /// The number of completed sub tasks whose output part of this name is true.
+    CountTrue(Txt),
+    Brackets(Box<Node>),
+    Negative(Box<Node>),
+    Not(Box<Node>),
+    Binary(Operator, Box<Node>, Box<Node>),
+    /// The second where the first is true, and else the third.
+    If(Box<Node>, Box<Node>, Box<Node>),
+}
+
+impl Node {
+    /// The same tree once more.
+    pub(crate) fn copy(&self, alloc: Global) -> Result<Node, Memory>
+        ensures { IfOk result (λ e. shown_node e ≡ shown_node self.now) }
+    {
+        match self {
+            Node::Number(number) => Ok(Node::Number(*number)),
+            Node::Text(text) => Ok(Node::Text(text.copy(alloc)?)),
+            Node::Truth(truth) => Ok(Node::Truth(*truth)),
+            Node::Priority => Ok(Node::Priority),
+            Node::Initiator => Ok(Node::Initiator),
+            Node::Part(side, name) => Ok(Node::Part(*side, name.copy(alloc)?)),
+            Node::IsSet(side, name) => Ok(Node::IsSet(*side, name.copy(alloc)?)),
+            Node::Count(count) => Ok(Node::Count(*count)),
+            Node::CountText(part, text) => {
+                Ok(Node::CountText(part.copy(alloc)?, text.copy(alloc)?))
+            }
+            Node::CountTrue(part) => Ok(Node::CountTrue(part.copy(alloc)?)),
+            Node::Brackets(inner) => Ok(Node::Brackets(Box::new(alloc, inner.copy(alloc)?)?)),
+            Node::Negative(operand) => Ok(Node::Negative(Box::new(alloc, operand.copy(alloc)?)?)),
+            Node::Not(operand) => Ok(Node::Not(Box::new(alloc, operand.copy(alloc)?)?)),
+            Node::Binary(operator, left, right) => {
+                let left = Box::new(alloc, left.copy(alloc)?)?;
+                Ok(Node::Binary(*operator, left, Box::new(alloc, right.copy(alloc)?)?))
+            }
+            Node::If(test, then, other) => {
+                let test = Box::new(alloc, test.copy(alloc)?)?;
+                let then = Box::new(alloc, then.copy(alloc)?)?;
+                Ok(Node::If(test, then, Box::new(alloc, other.copy(alloc)?)?))
+            }
+        }
+    }
+}
