@@ -3,7 +3,7 @@ use Rattle.std.specs.Prelude.{◌≡◌, refl, ℕ, List, [], ◌∷◌, true, f
 use Rattle.ht_graph.specs.Graphs.{is_near, leads}
 
 -- 0 and 1 lead to each other, 2 leads to 1 and 3, and 3 to 4, which leads nowhere
-abbrev sample : ℕ → List ℕ
+abbrev pub sample : ℕ → List ℕ
 sample place = unwrap_or (slice_get ((1 ∷ []) ∷ (0 ∷ []) ∷ (1 ∷ 3 ∷ []) ∷ (4 ∷ []) ∷ []) place) []
 
 there_and_back : leads sample 2 0 0 ≡ true

@@ -5,6 +5,8 @@
 mod cycles;
 mod depth;
 mod graph;
+#[cfg(test)]
+mod tests;
 mod walking;
 
 pub use cycles::first_cycle;

@@ -13,13 +13,14 @@ use ht_expr::{Assign, Env, Subs};
 use ht_people::{Directory, except, intersect, union};
 use std::alloc::Global;
 
-/// The environment of a row, which expressions and assignments see. Sub tasks come.
+/// The environment of a row, which expressions and assignments see. It has no sub tasks: they come.
 pub fn env(alloc: Global, _tables: &Tables, _plan: &Plan, row: &Row) -> Result<Env, Memory>
     requires plan { IsPlanOf _tables.now.tables _plan.now }
     requires row { Fits _tables.now.tables row.now }
     ensures initiator { IfOk result (λ e. e.initiator ≡ row.now.initiator) }
     ensures parts { IfOk result (λ e. (e.input ≡ row.now.input) × (e.output ≡ row.now.output)) }
     ensures priority { IfOk result (λ e. e.priority ≡ pos row.now.priority) }
+    ensures subs { IfOk result (λ e. e.subs ≡ []) }
 {
     Ok(Env {
         input: row.input.copy(alloc)?,
