@@ -16,16 +16,7 @@ use Rattle.ht_expr.specs.Environment.{given, has_parts, kind_of_value, may_be, v
 use Rattle.ht_expr.specs.KindTable.{common_kind, is_of_kind, kind_of, operated_kind, same_kind}
 use Rattle.ht_expr.specs.Kinds.{Declared, declared_kind}
 use Rattle.ht_expr.specs.Trees.{Tree, integer, text, truth, priority, initiator, part, is_set, count, count_text, count_true, brackets, negative, opposite, binary, choice}
-use Rattle.ht_expr.specs.Values.{Outcome, a_text, a_number, a_truth, a_person, a_moment, nothing, chosen, given_or_unset, is_equal, is_less, number_in, of_number, of_truth, on_both, operated, outcome_of, truth_in, unset, value}
-
--- the kind of what is given
-abbrev pub kind_of_outcome : Outcome → Option Kind
-kind_of_outcome (a_text x) = Some Text
-kind_of_outcome (a_number n) = Some Int
-kind_of_outcome (a_truth b) = Some Truth
-kind_of_outcome (a_person p) = Some Person
-kind_of_outcome (a_moment m) = Some Instant
-kind_of_outcome nothing = None
+use Rattle.ht_expr.specs.Values.{Outcome, a_text, a_number, a_truth, a_person, a_moment, nothing, chosen, given_or_unset, is_equal, is_less, number_in, of_number, of_truth, on_both, operated, outcome_of, truth_in, unset, value, kind_of_outcome}
 
 pub same_kind_is : (a b : Kind) → same_kind a b ≡ true → a ≡ b
 same_kind_is Text Text h = refl

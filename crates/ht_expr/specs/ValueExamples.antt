@@ -1,6 +1,5 @@
 -- Worked examples of kinds and values. A wrong reading of one fails the check.
-use Rattle.std.specs.Prelude.{◌≡◌, refl, ℤ, pos, negsuc, List, ℕ, [], ◌∷◌, codes, true, false, map, Some, None, Option}
-use Rattle.ht_base.specs.declared.kind.Kind.{Kind}
+use Rattle.std.specs.Prelude.{◌≡◌, refl, pos, negsuc, List, ℕ, [], ◌∷◌, codes, true, false, map, Some, None}
 use Rattle.ht_base.specs.declared.kind.Kind.TheVariants.{Text, Int, Truth, Person, Instant}
 use Rattle.ht_base.specs.State.{all_states}
 use Rattle.ht_base.specs.declared.state.State.TheVariants.{Completed, Failed, InProgress}
@@ -9,13 +8,12 @@ use Rattle.ht_base.specs.declared.value.Value.TheVariants as values
 use Rattle.ht_expr.specs.declared.environment.Env.{Env}
 use Rattle.ht_expr.specs.declared.kinds.Side.TheVariants.{Input, Output}
 use Rattle.ht_expr.specs.declared.node.Count.TheVariants.{Made, Finished, Done}
-use Rattle.ht_expr.specs.declared.operator.Operator.{Operator}
 use Rattle.ht_expr.specs.declared.operator.Operator.TheVariants as operator
 use Rattle.ht_expr.specs.Environment.{SubTask, counted, has_parts, text_count, true_count}
 use Rattle.ht_expr.specs.KindTable.{kind_of, kinds_fit}
 use Rattle.ht_expr.specs.Kinds.{Declared, declared_kind}
-use Rattle.ht_expr.specs.Trees.{Tree, an_assignment, an_expression, integer, text, truth, priority, initiator, part, is_set, count, negative, opposite, binary, choice, union, when, nobody}
-use Rattle.ht_expr.specs.Values.{Outcome, a_text, a_number, a_truth, a_person, a_moment, nothing, value}
+use Rattle.ht_expr.specs.Trees.{Tree, an_assignment, an_expression, integer, text, truth, priority, initiator, part, is_set, negative, binary, choice, union, when, nobody}
+use Rattle.ht_expr.specs.Values.{Outcome, a_text, a_number, a_truth, a_person, a_moment, value}
 
 -- a part of each kind
 abbrev kinds : Declared

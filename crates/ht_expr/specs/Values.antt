@@ -21,6 +21,15 @@ pub data Outcome : Type 0 where
   a_moment : ℕ → Outcome
   nothing : Outcome
 
+-- its kind
+abbrev pub kind_of_outcome : Outcome → Option Kind
+kind_of_outcome (a_text x) = Some kind.Text
+kind_of_outcome (a_number n) = Some kind.Int
+kind_of_outcome (a_truth b) = Some kind.Truth
+kind_of_outcome (a_person p) = Some kind.Person
+kind_of_outcome (a_moment m) = Some kind.Instant
+kind_of_outcome nothing = None
+
 -- ---- numbers
 
 abbrev pub least_number : ℤ

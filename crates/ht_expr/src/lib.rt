@@ -30,7 +30,7 @@ pub use assignment::Assign;
 pub use environment::{Env, Subs};
 pub use expression::Expr;
 pub use kinds::{Kinds, Side};
-pub use laws::{each_text_has_one_answer, each_tree_has_a_text};
+pub use laws::{each_kind_has_a_value, each_text_has_one_answer, each_tree_has_a_text};
 pub use node::Count;
 pub use operator::Operator;
 pub use refusal::ExprRefusal;

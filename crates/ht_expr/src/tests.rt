@@ -1,5 +1,6 @@
 use crate::{
-    Assign, Expr, ExprRefusal, Kinds, Side, each_text_has_one_answer, each_tree_has_a_text,
+    Assign, Expr, ExprRefusal, Kinds, Side, each_kind_has_a_value, each_text_has_one_answer,
+    each_tree_has_a_text,
 };
 use ht_base::{Kind, Memory, Name};
 use std::alloc::Global;
@@ -489,5 +490,6 @@ fn refusals_say_where(rt: HostRuntime) -> Result<(), Fail> {
     }
     each_text_has_one_answer();
     each_tree_has_a_text();
+    each_kind_has_a_value();
     Ok(())
 }
