@@ -1,4 +1,4 @@
-use crate::{Models, ModelsRefusal, built_in_text_reads, instant};
+use crate::{Models, ModelsRefusal, a_models_text_has_one_answer, built_in_text_reads, instant};
 use ht_base::{Moment, Name};
 use ht_expr::Assign;
 use std::alloc::{AllocError, Global};
@@ -53,6 +53,7 @@ fn one_model_is_read(rt: HostRuntime) -> Result<(), Fail> {
 #[test]
 fn the_built_in_text_is_read(rt: HostRuntime) -> Result<(), Fail> {
     built_in_text_reads();
+    a_models_text_has_one_answer();
     let text = b"[[model]]\nname = \"unit\"\npotentialOwners = \"everybody\"\n";
     let models = Models::read(rt.alloc(), text)?;
     assert_eq!(rt; models.count(), 1);

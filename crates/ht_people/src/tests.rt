@@ -1,4 +1,7 @@
-use crate::{Directory, PeopleRefusal, built_in_text_reads, except, intersect, union};
+use crate::{
+    Directory, PeopleRefusal, a_people_text_has_one_answer, built_in_text_reads, except, intersect,
+    union,
+};
 use ht_base::{Name, Person, Persons};
 use ht_samples::PEOPLE;
 use std::alloc::{AllocError, Global};
@@ -232,6 +235,7 @@ fn the_sample_people_are_read(rt: HostRuntime) -> Result<(), Fail> {
 #[test]
 fn the_built_in_people_are_read(rt: HostRuntime) -> Result<(), Fail> {
     built_in_text_reads();
+    a_people_text_has_one_answer();
     let mut text = String::new(rt.alloc());
     for n in 0..16u32 {
         write!(text, "[[person]]\nname = \"p{n}\"\n")?;
