@@ -53,20 +53,15 @@ bare_row task model parent initiator input waits at = record {
   comments = [];
 }
 
--- the row with its roles, as assignments find them for this initiator, and with what the parent gives
-abbrev pub with_roles : TablesOf → ℕ → ModelOf → Option Row → Row → Row
-with_roles t initiator m above row = record row {
-  potential_owners = potential_owners (directory t) initiator m.potential_owners m.excluded_owners;
-  excluded_owners = resolved (directory t) initiator m.excluded_owners;
-  administrators = role_or (directory t) initiator m.administrators (option_map_or (administrators_of t) above []);
-  stakeholders = role_or (directory t) initiator m.stakeholders (option_map_or (stakeholders_of t) above []);
-  by_group = not (is_individual m.potential_owners);
-}
-
 -- the row of a new task, before it is activated
 abbrev pub new_row : TablesOf → ModelOf → ℕ → Option (TaskId × ℕ) → ℕ → Values → Option Moment → Moment → Row
-new_row t m model parent initiator input waits at =
-    with_roles t initiator m (parent_row t parent) (bare_row (record { 0 = length t.rows + 1 }) model parent initiator input waits at)
+new_row t m model parent initiator input waits at = record (bare_row (record { 0 = length t.rows + 1 }) model parent initiator input waits at) {
+  potential_owners = potential_owners (directory t) initiator m.potential_owners m.excluded_owners;
+  excluded_owners = resolved (directory t) initiator m.excluded_owners;
+  administrators = role_or (directory t) initiator m.administrators (option_map_or (administrators_of t) (parent_row t parent) []);
+  stakeholders = role_or (directory t) initiator m.stakeholders (option_map_or (stakeholders_of t) (parent_row t parent) []);
+  by_group = not (is_individual m.potential_owners);
+}
 
 -- with the tree of a new task of this model there would be too many
 abbrev pub IsFull : TablesOf → ℕ → Type 0

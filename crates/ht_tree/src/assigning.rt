@@ -35,27 +35,27 @@ pub fn env(alloc: Global, _tables: &Tables, _plan: &Plan, row: &Row) -> Result<E
 pub fn resolve(
     alloc: Global,
     tables: &Tables,
-    plan: &Plan,
+    _plan: &Plan,
     row: &Row,
     assign: &Assign,
 ) -> Result<Persons, Memory>
-    requires plan { IsPlanOf tables.now.tables plan.now }
+    requires plan { IsPlanOf tables.now.tables _plan.now }
     requires row { Fits tables.now.tables row.now }
     ensures { IfOk result (λ persons. persons ≡ resolved (directory tables.now.tables) row.now.initiator (shown assign.now)) }
 {
-    let env = env(alloc, tables, plan, row)?;
-    found(alloc, tables.people(), &env, assign)
+    found(alloc, tables.people(), row.initiator, assign)
 }
 
-/// The persons of the directory whom an assignment finds.
+/// The persons of the directory whom an assignment finds for a task of this initiator. No assignment that
+/// a model has looks at more yet.
 pub(crate) fn found(
     alloc: Global,
     people: &Directory,
-    env: &Env,
+    initiator: Person,
     assign: &Assign,
 ) -> Result<Persons, Memory>
-    requires { env.now.initiator < length people.now.persons }
-    ensures { IfOk result (λ persons. persons ≡ resolved people.now env.now.initiator (shown assign.now)) }
+    requires { initiator < length people.now.persons }
+    ensures { IfOk result (λ persons. persons ≡ resolved people.now initiator (shown assign.now)) }
 {
     match assign {
         Assign::Nobody => Ok(Persons::new(alloc)),
@@ -63,22 +63,22 @@ pub(crate) fn found(
         Assign::In(_) => Ok(Persons::new(alloc)),
         Assign::When(_, _, _) => Ok(Persons::new(alloc)),
         Assign::Everybody => everybody(alloc, people),
-        Assign::Initiator => alone(alloc, env.initiator),
+        Assign::Initiator => alone(alloc, initiator),
         Assign::User(text) => persons_named(alloc, people, text.as_str()),
         Assign::Group(text) => members_of(alloc, people, text.as_str()),
         Assign::Union(a, b) => {
-            let first = found(alloc, people, env, a)?;
-            let second = found(alloc, people, env, b)?;
+            let first = found(alloc, people, initiator, a)?;
+            let second = found(alloc, people, initiator, b)?;
             union(alloc, &first, &second)
         }
         Assign::Intersect(a, b) => {
-            let first = found(alloc, people, env, a)?;
-            let second = found(alloc, people, env, b)?;
+            let first = found(alloc, people, initiator, a)?;
+            let second = found(alloc, people, initiator, b)?;
             intersect(alloc, &first, &second)
         }
         Assign::Except(a, b) => {
-            let first = found(alloc, people, env, a)?;
-            let second = found(alloc, people, env, b)?;
+            let first = found(alloc, people, initiator, a)?;
+            let second = found(alloc, people, initiator, b)?;
             except(alloc, &first, &second)
         }
     }

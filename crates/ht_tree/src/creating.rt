@@ -3,7 +3,6 @@ ghost use Rattle.std.specs.Option.{option_map_or};
 ghost use Rattle.ht_base.specs.Moment.{last_moment};
 ghost use Rattle.ht_expr.specs.Shown.{shown};
 ghost use Rattle.ht_models.specs.Model.{ModelOf};
-ghost use Rattle.ht_models.specs.Shown.{model_of};
 ghost use Rattle.ht_tree.specs.Assigning.{potential_owners, resolved};
 ghost use Rattle.ht_tree.specs.Creating as spec;
 ghost use Rattle.ht_tree.specs.Creating.{IsFull, role_or};
@@ -11,10 +10,10 @@ ghost use Rattle.ht_tree.specs.Plans.{Goes, IsPlanOf, planned};
 ghost use Rattle.ht_tree.specs.Soundness.{KeepsSound};
 ghost use Rattle.ht_tree.specs.Tables.{model_at, with_row};
 
-use crate::assigning::{env, found};
+use crate::assigning::found;
 use crate::{Comments, Plan, Row, Tables, Taken};
 use ht_base::{Memory, Moment, Person, Persons, State, TaskId, Values};
-use ht_expr::{Assign, Env};
+use ht_expr::Assign;
 use ht_models::Model;
 use ht_people::{Directory, except};
 use std::alloc::Global;
@@ -108,51 +107,27 @@ fn new_row(
     requires initiator { initiator < length tables.now.tables.people.persons }
     ensures { IfOk result (λ row. IfSome (model_at tables.now.tables model) (λ m. row ≡ spec.new_row (planned tables.now.tables plan.now) m model parent initiator input waits at)) }
 {
-    let row = bare_row(alloc, task, model, parent, initiator, input, waits, at);
-    let env = env(alloc, tables, plan, &row)?;
-    let above = parent_row(tables, plan, parent);
-    let row = with_roles(
-        alloc,
-        tables,
-        &env,
-        tables.models().model(model),
-        above,
-        row,
-    )?;
-    Ok(row)
-}
-
-// The row with its roles, as assignments find them, and with what the parent gives.
-fn with_roles(
-    alloc: Global,
-    tables: &Tables,
-    env: &Env,
-    model: &Model,
-    above: Option<&Row>,
-    row: Row,
-) -> Result<Row, Memory>
-    requires { env.now.initiator < length tables.now.tables.people.persons }
-    ensures { IfOk result (λ r. r ≡ spec.with_roles tables.now.tables env.now.initiator (model_of model.now) (option_map (λ r. r.now) above.entry) row) }
-{
     let people = tables.people();
-    let mut row = row;
-    row.excluded_owners = found(alloc, people, env, &model.excluded_owners)?;
-    row.potential_owners = owners(alloc, people, env, model, &row.excluded_owners)?;
+    let m = tables.models().model(model);
+    let mut row = bare_row(alloc, task, model, parent, initiator, input, waits, at);
+    let above = parent_row(tables, plan, parent);
+    row.excluded_owners = found(alloc, people, initiator, &m.excluded_owners)?;
+    row.potential_owners = owners(alloc, people, initiator, m, &row.excluded_owners)?;
     row.administrators = role(
         alloc,
         people,
-        env,
-        &model.administrators,
+        initiator,
+        &m.administrators,
         administrators_of(above),
     )?;
     row.stakeholders = role(
         alloc,
         people,
-        env,
-        &model.stakeholders,
+        initiator,
+        &m.stakeholders,
         stakeholders_of(above),
     )?;
-    row.by_group = !model.potential_owners.individual();
+    row.by_group = !m.potential_owners.individual();
     Ok(row)
 }
 
@@ -214,15 +189,15 @@ fn parent_row<'a>(
 fn owners(
     alloc: Global,
     people: &Directory,
-    env: &Env,
+    initiator: Person,
     model: &Model,
     excluded: &Persons,
 ) -> Result<Persons, Memory>
-    requires initiator { env.now.initiator < length people.now.persons }
-    requires excluded { excluded.now ≡ resolved people.now env.now.initiator (shown model.now.excluded_owners) }
-    ensures { IfOk result (λ ps. ps ≡ potential_owners people.now env.now.initiator (shown model.now.potential_owners) (shown model.now.excluded_owners)) }
+    requires initiator { initiator < length people.now.persons }
+    requires excluded { excluded.now ≡ resolved people.now initiator (shown model.now.excluded_owners) }
+    ensures { IfOk result (λ ps. ps ≡ potential_owners people.now initiator (shown model.now.potential_owners) (shown model.now.excluded_owners)) }
 {
-    let candidates = found(alloc, people, env, &model.potential_owners)?;
+    let candidates = found(alloc, people, initiator, &model.potential_owners)?;
     if excluded.as_slice().is_empty() {
         return Ok(candidates);
     }
@@ -233,15 +208,15 @@ fn owners(
 fn role(
     alloc: Global,
     people: &Directory,
-    env: &Env,
+    initiator: Person,
     assign: &Option<Assign>,
     inherited: Option<&Persons>,
 ) -> Result<Persons, Memory>
-    requires { env.now.initiator < length people.now.persons }
-    ensures { IfOk result (λ ps. ps ≡ role_or people.now env.now.initiator (option_map shown assign.now) (option_map_or (λ p. p.now) inherited.entry [])) }
+    requires { initiator < length people.now.persons }
+    ensures { IfOk result (λ ps. ps ≡ role_or people.now initiator (option_map shown assign.now) (option_map_or (λ p. p.now) inherited.entry [])) }
 {
     match assign {
-        Some(assign) => found(alloc, people, env, assign),
+        Some(assign) => found(alloc, people, initiator, assign),
         None => match inherited {
             Some(persons) => Ok(persons.copy(alloc)?),
             None => Ok(Persons::new(alloc)),

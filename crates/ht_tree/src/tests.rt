@@ -2,7 +2,7 @@ ghost use Rattle.std.specs.Prelude.{◌≡◌, None, OnOk};
 ghost use Rattle.ht_tree.specs.Plans.{IsPlanOf, planned};
 ghost use Rattle.ht_tree.specs.Soundness.{KeepsSound};
 
-use crate::{Comment, CreateRefusal, Plan, Tables, create, resolve};
+use crate::{Comment, CreateRefusal, Plan, Tables, create, env, resolve};
 use ht_base::{LAST, Moment, Person, Persons, Role, Roles, State, TaskId, Txt, Values};
 use ht_expr::{Assign, Kinds};
 use ht_models::Models;
@@ -215,6 +215,19 @@ fn found(alloc: Global, tables: &Tables, text: &str) -> Result<Persons, Fail> {
     let plan = Plan::begin(alloc)?;
     let row = tables.row(TaskId(1)).ok_or("a row")?;
     Ok(resolve(alloc, tables, &plan, row, &assign)?)
+}
+
+#[test]
+fn an_environment_is_that_of_a_row(rt: HostRuntime) -> Result<(), Fail> {
+    let mut tables = tables(rt.alloc())?;
+    created(&rt, rt.alloc(), &mut tables, UNIT)?;
+    let plan = Plan::begin(rt.alloc())?;
+    let row = tables.row(TaskId(1)).ok_or("a row")?;
+    let env = env(rt.alloc(), &tables, &plan, row)?;
+    assert_eq!(rt; env.initiator, DAN);
+    assert_eq!(rt; env.priority, 5);
+    assert_eq!(rt; env.subs.as_slice().len(), 0);
+    Ok(())
 }
 
 #[test]

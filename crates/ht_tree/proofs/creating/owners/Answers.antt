@@ -8,7 +8,7 @@ use Rattle.ht_tree.proofs.creating.owners.Goals as goal
 pub returns : goal.returns
 returns c =
     let d = c.args.people.now in
-    let i = c.args.env.now.initiator in
+    let i = c.args.initiator in
     let a : Assignment = shown c.args.model.now.potential_owners in
     let b : Assignment = shown c.args.model.now.excluded_owners in
     joined (λ x y. x && not y) first_of_two (is_found d i a) (is_found d i b) (length d.persons) c.in_ok-candidates.candidates c.args.excluded.now c.in_ok-candidates.ensures c.requires.excluded c.except.result c.except.ensures.set c.except.ensures.ascends
@@ -16,7 +16,7 @@ returns c =
 pub returns-then-is_empty : goal.returns-then-is_empty
 returns-then-is_empty c =
     let d = c.args.people.now in
-    let i = c.args.env.now.initiator in
+    let i = c.args.initiator in
     let a : Assignment = shown c.args.model.now.potential_owners in
     let b : Assignment = shown c.args.model.now.excluded_owners in
     let P : List ℕ → Type 0 = λ l. (length l == 0) ≡ true in
