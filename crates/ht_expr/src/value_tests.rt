@@ -1,6 +1,7 @@
 use crate::{Assign, Env, Expr, ExprRefusal, Kinds, Side, Subs};
 use ht_base::{Kind, Memory, Moment, Name, Person, State, Txt, Value, Values};
 use std::alloc::Global;
+use std::process::Abort;
 use std::test::Fail;
 
 fn name(text: &str) -> Result<Name, Fail> {
@@ -180,78 +181,111 @@ fn numbers_are_clamped(rt: HostRuntime) -> Result<(), Fail> {
     Ok(())
 }
 
-// Every input part has a value, and the output has a person and a moment.
-fn full(alloc: Global) -> Result<Env, Fail> {
-    let mut env = bare(alloc);
-    env.input.push(name("b")?, Value::Truth(true))?;
-    env.input.push(name("i")?, Value::Int(-5))?;
-    env.input.push(name("m")?, Value::Instant(Moment(5)))?;
-    env.input.push(name("p")?, Value::Person(Person(7)))?;
-    env.input
-        .push(name("t")?, Value::Text(Txt::of(alloc, "x")?))?;
-    env.output.push(name("m")?, Value::Instant(Moment(6)))?;
-    env.output.push(name("p")?, Value::Person(Person(8)))?;
-    Ok(env)
+// The part of this name, if it has a value.
+fn one(alloc: Global, part: &str, value: Option<Value>) -> Result<Values, Fail> {
+    let mut values = Values::new(alloc);
+    if let Some(value) = value {
+        values.push(name(part)?, value)?;
+    }
+    Ok(values)
+}
+
+// Whether each text is true without values of parts, and with these of the part of this name.
+fn are(
+    rt: &impl Abort,
+    alloc: Global,
+    part: &str,
+    input: Option<Value>,
+    output: Option<Value>,
+    table: &[(&str, bool, bool)],
+) -> Result<(), Fail> {
+    let kinds = declared(alloc)?;
+    let unset = bare(alloc);
+    let set = Env {
+        input: one(alloc, part, input)?,
+        output: one(alloc, part, output)?,
+        priority: 4,
+        initiator: Person(7),
+        subs: Subs::new(alloc),
+    };
+    for (text, without, with) in table {
+        assert_eq!(rt; truth(alloc, text, &kinds, &unset)?, *without, "{text}");
+        assert_eq!(rt; truth(alloc, text, &kinds, &set)?, *with, "{text}");
+    }
+    Ok(())
 }
 
 #[test]
-fn parts_have_values(rt: HostRuntime) -> Result<(), Fail> {
-    let kinds = declared(rt.alloc())?;
-    let bare = bare(rt.alloc());
-    let full = full(rt.alloc())?;
-    // With no values, and with values.
+fn texts_and_numbers_have_values(rt: HostRuntime) -> Result<(), Fail> {
     let table = [
         ("1 + 2 * 3 == 7", true, true),
-        (
-            "set(in.t) or set(in.i) or set(in.b) or set(in.p) or set(in.m)",
-            false,
-            true,
-        ),
-        (
-            "set(in.t) and set(in.i) and set(in.b) and set(in.p) and set(in.m)",
-            false,
-            true,
-        ),
-        ("set(out.p)", false, true),
-        ("set(out.i)", false, false),
-        ("in.b", false, true),
-        ("in.i == 0 and out.i == 0", true, false),
-        ("in.i == -5", false, true),
+        ("set(in.t)", false, true),
+        ("set(in.i) or set(out.i)", false, false),
         ("in.t == ''", true, false),
         ("in.t != 'x'", true, false),
+    ];
+    let x = text(rt.alloc(), "x")?;
+    are(&rt, rt.alloc(), "t", x, None, &table)?;
+    let table = [
+        ("set(in.i)", false, true),
+        ("set(out.i)", false, false),
+        ("in.i == 0 and out.i == 0", true, false),
+        ("in.i == -5", false, true),
+    ];
+    are(&rt, rt.alloc(), "i", Some(Value::Int(-5)), None, &table)
+}
+
+#[test]
+fn truths_have_values(rt: HostRuntime) -> Result<(), Fail> {
+    let table = [
+        ("set(in.b)", false, true),
+        ("in.b", false, true),
+        ("in.b == true", false, true),
+        ("in.b == false", true, false),
+        ("not in.b and priority == 4", true, false),
+        ("if in.b then 1 < 2 else false", false, true),
+    ];
+    are(&rt, rt.alloc(), "b", Some(Value::Truth(true)), None, &table)
+}
+
+#[test]
+fn persons_have_values(rt: HostRuntime) -> Result<(), Fail> {
+    let table = [
+        ("set(in.p) and set(out.p)", false, true),
         ("in.p == out.p", true, false),
         ("in.p == initiator", false, true),
         ("initiator == in.p", false, true),
         ("out.p != initiator", true, true),
         ("initiator == initiator", true, true),
+    ];
+    let (input, output) = (Value::Person(Person(7)), Value::Person(Person(8)));
+    are(&rt, rt.alloc(), "p", Some(input), Some(output), &table)
+}
+
+#[test]
+fn instants_have_values(rt: HostRuntime) -> Result<(), Fail> {
+    let table = [
+        ("set(in.m)", false, true),
         ("in.m < out.m", false, true),
         ("in.m <= out.m", true, true),
         ("in.m >= out.m", true, false),
         ("in.m == out.m", true, false),
         ("in.m > out.m", false, false),
-        ("in.b == true", false, true),
-        ("in.b == false", true, false),
-        ("not in.b and priority == 4", true, false),
-        ("if in.b then in.i < 0 else false", false, true),
     ];
-    for (text, without, with) in table {
-        assert_eq!(rt; truth(rt.alloc(), text, &kinds, &bare)?, without, "{text}");
-        assert_eq!(rt; truth(rt.alloc(), text, &kinds, &full)?, with, "{text}");
-    }
-    assert!(rt; full.given(Side::Output, "m").is_some());
-    let mut wrong = Kinds::new(rt.alloc());
-    wrong.push(Side::Input, name("i")?, Kind::Text)?;
-    assert!(rt; !full.has_parts(&wrong) && bare.has_parts(&wrong));
-    Ok(())
+    let (input, output) = (Value::Instant(Moment(5)), Value::Instant(Moment(6)));
+    are(&rt, rt.alloc(), "m", Some(input), Some(output), &table)
 }
 
-// The outputs of a sub task: `v`, if it is there.
-fn voted(alloc: Global, vote: Option<Value>) -> Result<Values, Fail> {
-    let mut values = Values::new(alloc);
-    if let Some(vote) = vote {
-        values.push(name("v")?, vote)?;
-    }
-    Ok(values)
+#[test]
+fn an_environment_tells_its_parts(rt: HostRuntime) -> Result<(), Fail> {
+    let mut env = bare(rt.alloc());
+    env.output = one(rt.alloc(), "m", Some(Value::Instant(Moment(6))))?;
+    assert!(rt; env.given(Side::Output, "m").is_some());
+    assert!(rt; env.given(Side::Input, "m").is_none());
+    let mut wrong = Kinds::new(rt.alloc());
+    wrong.push(Side::Output, name("m")?, Kind::Text)?;
+    assert!(rt; !env.has_parts(&wrong) && bare(rt.alloc()).has_parts(&wrong));
+    Ok(())
 }
 
 fn text(alloc: Global, text: &str) -> Result<Option<Value>, Memory> {
@@ -264,19 +298,20 @@ fn sub_tasks_are_counted(rt: HostRuntime) -> Result<(), Fail> {
     let mut env = bare(rt.alloc());
     for state in State::ALL {
         env.subs
-            .push(state, voted(rt.alloc(), text(rt.alloc(), "yes")?)?)?;
+            .push(state, one(rt.alloc(), "v", text(rt.alloc(), "yes")?)?)?;
         env.subs
-            .push(state, voted(rt.alloc(), Some(Value::Truth(true)))?)?;
+            .push(state, one(rt.alloc(), "v", Some(Value::Truth(true)))?)?;
     }
     env.subs.push(
         State::Completed,
-        voted(rt.alloc(), text(rt.alloc(), "no")?)?,
+        one(rt.alloc(), "v", text(rt.alloc(), "no")?)?,
     )?;
     env.subs.push(
         State::Completed,
-        voted(rt.alloc(), Some(Value::Truth(false)))?,
+        one(rt.alloc(), "v", Some(Value::Truth(false)))?,
     )?;
-    env.subs.push(State::Completed, voted(rt.alloc(), None)?)?;
+    env.subs
+        .push(State::Completed, one(rt.alloc(), "v", None)?)?;
     assert_eq!(rt; env.subs.as_slice().len(), 27);
     let table = [
         ("made()", 27),
