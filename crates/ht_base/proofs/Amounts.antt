@@ -37,7 +37,7 @@ place letter digits behind high is =
 
 -- ---- an amount is read
 
-reads_to_end : (letter : ℕ) (bytes : List ℕ) (end value : ℕ) → 58 ≤ letter → position (λ b. b == letter) bytes ≡ Some end
+pub reads_to_end : (letter : ℕ) (bytes : List ℕ) (end value : ℕ) → 58 ≤ letter → position (λ b. b == letter) bytes ≡ Some end
     → IsNumber (take end bytes) × (value ≡ digits_value 10 (take end bytes)) → Begins letter bytes value (drop (end + 1) bytes)
 reads_to_end letter bytes end value high at number =
     let found = position-Some (λ b. b == letter) bytes end 0 at in

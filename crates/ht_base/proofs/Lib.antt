@@ -6,5 +6,6 @@ mod Finding
 mod Indexing
 mod Leasts
 mod Naming
+mod PeriodCuts
 mod PeriodTexts
 pub mod PublicLaws

@@ -3,3 +3,5 @@
 pub use Rattle.ht_base.proofs.Finding.{found_there, found_within, own_place}
 pub use Rattle.ht_base.proofs.Indexing.{front_has, in_front_of}
 pub use Rattle.ht_base.proofs.Leasts.{least_behind, least_here, least_in_front, neither}
+-- Laws of periods: the function that reads their texts reads each, and nothing else.
+pub use Rattle.ht_base.proofs.PeriodCuts.{period_exact, period_reads}

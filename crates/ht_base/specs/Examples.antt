@@ -4,7 +4,7 @@ use Rattle.std.specs.Str.Parse.{digits_value}
 use Rattle.ht_base.specs.History.{Entry, IsLegal, end_of, own}
 use Rattle.ht_base.specs.Name.{is_name, name_of}
 use Rattle.ht_base.specs.Numbers.{is_number}
-use Rattle.ht_base.specs.Periods.{PeriodText, IsPeriod, millis, longest_period}
+use Rattle.ht_base.specs.Periods.{PeriodText, IsPeriod, millis, longest_period, period_of}
 use Rattle.ht_base.specs.Persons.{has}
 use Rattle.ht_base.specs.Places.{place_in}
 use Rattle.ht_base.specs.Values.{is_before}
@@ -125,3 +125,27 @@ ends_at_the_last = refl
 
 of_one_pass : own 1 by_turns ≡ entry 1 5 15 ∷ entry 1 4 20 ∷ []
 of_one_pass = refl
+
+period_of_each : period_of (codes "P1DT2H3M4S") ≡ Some 93784000
+period_of_each = refl
+
+period_of_seconds : period_of (codes "PT10S") ≡ Some 10000
+period_of_seconds = refl
+
+period_of_a_day : period_of (codes "P01D") ≡ Some 86400000
+period_of_a_day = refl
+
+period_of_nothing : period_of (codes "P") ≡ None
+period_of_nothing = refl
+
+period_of_no_time : period_of (codes "P1DT") ≡ None
+period_of_no_time = refl
+
+period_without_mark : period_of (codes "P1H") ≡ None
+period_without_mark = refl
+
+period_in_another_order : period_of (codes "PT1S1M") ≡ None
+period_in_another_order = refl
+
+period_of_seven_digits : period_of (codes "PT1000000S") ≡ None
+period_of_seven_digits = refl

@@ -1,8 +1,8 @@
 -- Periods of time as texts, for instance P1DT2H: `P` and days, and behind `T` hours, minutes and
 -- seconds, in this order, of which any may be missing. A narrow form of ISO 8601's.
-use Rattle.std.specs.Prelude.{◌≡◌, ℕ, ◌+◌, ◌*◌, ◌||◌, List, [], ◌∷◌, ◌++◌, IsTrue, Option, Some, None, is_some, IfSome}
+use Rattle.std.specs.Prelude.{◌≡◌, ℕ, ◌+◌, ◌*◌, ◌||◌, ◌==◌, not, if◌then◌else◌, List, [], ◌∷◌, ◌++◌, length, take, drop, position, IsTrue, Option, Some, None, is_some, IfSome, option_map}
 use Rattle.std.specs.Str.Parse.{digits_value}
-use Rattle.ht_base.specs.Numbers.{IsNumber}
+use Rattle.ht_base.specs.Numbers.{IsNumber, is_number}
 
 -- the digits of each amount, where it is given
 pub record TimeText : Type 0 where
@@ -101,3 +101,39 @@ pub record Begins (letter : ℕ) (bytes : List ℕ) (value : ℕ) (rest : List �
   pub split : bytes ≡ amount_text letter read ++ rest
   pub value_is : value ≡ amount read
   pub all : (digits behind : List ℕ) → IsNumber digits → bytes ≡ digits ++ letter ∷ behind → read ≡ Some digits
+
+-- ---- the same as a function of the text
+
+-- the digits of the amount of this letter that the bytes begin with, and the rest; or none, and all
+abbrev pub cut_at : List ℕ → Option ℕ → Option (List ℕ) × List ℕ
+cut_at bytes None = (None, bytes)
+cut_at bytes (Some end) = if is_number (take end bytes) then (Some (take end bytes), drop (end + 1) bytes) else (None, bytes)
+
+abbrev pub cut : ℕ → List ℕ → Option (List ℕ) × List ℕ
+cut letter bytes = cut_at bytes (position (λ b. b == letter) bytes)
+
+-- hours, minutes and seconds, of which one is there, and nothing behind them
+abbrev pub time_of : List ℕ → Option TimeText
+time_of bytes =
+    let h = cut letter_h bytes in
+    let m = cut letter_m h.1 in
+    let s = cut letter_s m.1 in
+    if (length bytes == 0) || not (length s.1 == 0) then None else Some (record { hours = h.0; minutes = m.0; seconds = s.0 })
+
+abbrev pub marked_time_of : List ℕ → Option (Option TimeText)
+marked_time_of [] = Some None
+marked_time_of (b ∷ bytes) = if b == letter_t then option_map Some (time_of bytes) else None
+
+-- days and a time, of which one is there
+abbrev pub parts_of : List ℕ → Option PeriodText
+parts_of bytes =
+    let d = cut letter_d bytes in
+    if length bytes == 0 then None else option_map (λ time. record { days = d.0; time = time }) (marked_time_of d.1)
+
+abbrev pub period_text_of : List ℕ → Option PeriodText
+period_text_of [] = None
+period_text_of (b ∷ bytes) = if b == letter_p then parts_of bytes else None
+
+-- the milliseconds of a period's text
+abbrev pub period_of : List ℕ → Option ℕ
+period_of text = option_map millis (period_text_of text)

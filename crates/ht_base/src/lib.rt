@@ -4,6 +4,7 @@
 
 mod bytes;
 mod event;
+mod how;
 mod indexes;
 mod kind;
 mod memory;
@@ -29,6 +30,7 @@ mod values;
 
 pub use bytes::Bytes;
 pub use event::{Command, Event, Query};
+pub use how::How;
 pub use indexes::{IndexFault, Key, index, name_places};
 pub use kind::Kind;
 pub use memory::Memory;

@@ -1,35 +1,37 @@
 use crate::{
-    Bytes, Command, Event, IndexFault, Kind, LAST, Moment, Name, Names, Op, Person, Persons, Query,
-    Record, Role, Roles, State, StateSet, TaskId, Txt, Value, Values, index, name_places, number,
-    period,
+    Bytes, Command, Event, How, IndexFault, Kind, LAST, Moment, Name, Names, Op, Person, Persons,
+    Query, Record, Role, Roles, State, StateSet, TaskId, Txt, Value, Values, index, name_places,
+    number, period,
 };
 use std::alloc::AllocError;
 use std::test::Fail;
 
+const NAMES: &str = "\
+anna
+p0
+A_z.9-
+-
+abcdefghijklmnopqrstuvwxyz012345";
+
+const NO_NAMES: &str = "\
+abcdefghijklmnopqrstuvwxyz0123456
+a b
+a/b
+caf\u{e9}
+a\0";
+
 #[test]
 fn names_are_read(rt: HostRuntime) -> Result<(), Fail> {
-    let table: [(&[u8], bool); 11] = [
-        (b"anna", true),
-        (b"p0", true),
-        (b"A_z.9-", true),
-        (b"-", true),
-        (b"abcdefghijklmnopqrstuvwxyz012345", true),
-        (b"abcdefghijklmnopqrstuvwxyz0123456", false),
-        (b"", false),
-        (b"a b", false),
-        (b"a/b", false),
-        (b"caf\xc3\xa9", false),
-        (b"a\0", false),
-    ];
-    for (bytes, is_name) in table {
-        match Name::of(bytes) {
-            Some(name) => {
-                assert!(rt; is_name, "{bytes:?}");
-                assert_eq!(rt; name.as_bytes(), bytes);
-            }
-            None => assert!(rt; !is_name, "{bytes:?}"),
+    for text in NAMES.lines() {
+        match Name::of(text.as_bytes()) {
+            Some(name) => assert_eq!(rt; name.as_bytes(), text.as_bytes()),
+            None => return Err(Fail::new(text)),
         }
     }
+    for text in NO_NAMES.lines() {
+        assert!(rt; Name::of(text.as_bytes()).is_none(), "{text}");
+    }
+    assert!(rt; Name::of(b"").is_none());
     let (first, second) = (Name::of(b"p1"), Name::of(b"p10"));
     assert!(rt; first < second);
     assert!(rt; first != second);
@@ -76,59 +78,67 @@ fn the_last_moment_is_the_end_of_9999(rt: HostRuntime) {
     assert_eq!(rt; Moment(LAST), Moment(2_932_896 * 86_400_000 + 86_399_999));
 }
 
-#[test]
-fn numbers_have_one_to_six_digits(rt: HostRuntime) {
-    let table: [(&[u8], Option<u32>); 9] = [
-        (b"0", Some(0)),
-        (b"007", Some(7)),
-        (b"2026", Some(2026)),
-        (b"999999", Some(999_999)),
-        (b"1000000", None),
-        (b"", None),
-        (b"-1", None),
-        (b"+1", None),
-        (b"1a", None),
-    ];
-    for (bytes, value) in table {
-        assert_eq!(rt; number(bytes), value, "{bytes:?}");
-    }
-}
+// In each line a text stands before its number.
+const NUMBERS: &str = "\
+0 => Some(0)
+007 => Some(7)
+2026 => Some(2026)
+999999 => Some(999999)
+1000000 => None
+ => None
+-1 => None
++1 => None
+1a => None";
 
 #[test]
-fn periods_are_read(rt: HostRuntime) {
-    let table = [
-        ("P1D", Some(86_400_000)),
-        ("P01D", Some(86_400_000)),
-        ("PT1H", Some(3_600_000)),
-        ("PT1M", Some(60_000)),
-        ("PT1S", Some(1_000)),
-        ("P1DT2H3M4S", Some(93_784_000)),
-        ("PT2H4S", Some(7_204_000)),
-        ("P0D", Some(0)),
-        ("P999999DT999999H999999M999999S", Some(90_060_909_939_000)),
-        ("", None),
-        ("P", None),
-        ("PT", None),
-        ("P1DT", None),
-        ("PT4S3M", None),
-        ("PT1D", None),
-        ("P1H", None),
-        ("P1M", None),
-        ("PT1H1H", None),
-        ("P1234567D", None),
-        ("PD", None),
-        ("PT1", None),
-        ("P1D ", None),
-        (" P1D", None),
-        ("p1d", None),
-        ("P-1D", None),
-        ("P1.5D", None),
-        ("P1D\u{e9}", None),
-        ("P\u{661}D", None),
-    ];
-    for (text, millis) in table {
-        assert_eq!(rt; period(text), millis, "{text}");
+fn numbers_have_one_to_six_digits(rt: HostRuntime) -> Result<(), Fail> {
+    for line in NUMBERS.lines() {
+        let (text, expected) = line.split_once(" => ").ok_or("a text and its number")?;
+        let value = format!(in rt.alloc(); "{:?}", number(text.as_bytes()))?;
+        assert_eq!(rt; value.as_str(), expected, "{text}");
     }
+    Ok(())
+}
+
+// In each line a text stands before its milliseconds.
+const PERIODS: &str = "\
+P1D => Some(86400000)
+P01D => Some(86400000)
+PT1H => Some(3600000)
+PT1M => Some(60000)
+PT1S => Some(1000)
+P1DT2H3M4S => Some(93784000)
+PT2H4S => Some(7204000)
+P0D => Some(0)
+P999999DT999999H999999M999999S => Some(90060909939000)
+ => None
+P => None
+PT => None
+P1DT => None
+PT4S3M => None
+PT1D => None
+P1H => None
+P1M => None
+PT1H1H => None
+P1234567D => None
+PD => None
+PT1 => None
+P1D  => None
+ P1D => None
+p1d => None
+P-1D => None
+P1.5D => None
+P1D\u{e9} => None
+P\u{661}D => None";
+
+#[test]
+fn periods_are_read(rt: HostRuntime) -> Result<(), Fail> {
+    for line in PERIODS.lines() {
+        let (text, expected) = line.split_once(" => ").ok_or("a text and its period")?;
+        let millis = format!(in rt.alloc(); "{:?}", period(text))?;
+        assert_eq!(rt; millis.as_str(), expected, "{text}");
+    }
+    Ok(())
 }
 
 #[test]
@@ -172,6 +182,16 @@ fn texts_are_copied(rt: HostRuntime) -> Result<(), Fail> {
     let copy = text.copy(rt.alloc())?;
     assert_eq!(rt; copy.as_str(), "caf\u{e9}");
     assert_ne!(rt; Kind::Text, Kind::Person);
+    Ok(())
+}
+
+#[test]
+fn aggregates_are_copied(rt: HostRuntime) -> Result<(), Fail> {
+    assert!(rt; matches!(How::Sum.copy(rt.alloc())?, How::Sum));
+    assert!(rt; matches!(How::Vote(50).copy(rt.alloc())?, How::Vote(50)));
+    let how = How::ConcatWithDelimiter(Txt::of(rt.alloc(), "; ")?);
+    let copy = how.copy(rt.alloc())?;
+    assert!(rt; matches!(&copy, How::ConcatWithDelimiter(text) if text.as_str() == "; "));
     Ok(())
 }
 

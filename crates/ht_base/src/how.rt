@@ -1,0 +1,46 @@
+ghost use Rattle.std.specs.Prelude.{◌≡◌, IfOk};
+
+use crate::{Memory, Txt};
+use std::alloc::Global;
+
+/// How the results of sub tasks become one value (WS-HumanTask 1.1, 4.8).
+#[derive(Debug, Drop)]
+pub enum How {
+    /// The texts, one behind another.
+    Concat,
+    /// The texts, with this one between each two.
+    ConcatWithDelimiter(Txt),
+    MostFrequent,
+    LeastFrequent,
+    /// The most frequent text, where more than this percent of the texts are it.
+    VoteOnString(u8),
+    And,
+    Or,
+    /// The most frequent truth value, where more than this percent of the values are it.
+    Vote(u8),
+    Min,
+    Max,
+    Sum,
+    Avg,
+}
+
+impl How {
+    pub fn copy(&self, alloc: Global) -> Result<How, Memory>
+        ensures { IfOk result (λ how. how ≡ self.now) }
+    {
+        Ok(match self {
+            How::Concat => How::Concat,
+            How::ConcatWithDelimiter(delimiter) => How::ConcatWithDelimiter(delimiter.copy(alloc)?),
+            How::MostFrequent => How::MostFrequent,
+            How::LeastFrequent => How::LeastFrequent,
+            How::VoteOnString(percent) => How::VoteOnString(*percent),
+            How::And => How::And,
+            How::Or => How::Or,
+            How::Vote(percent) => How::Vote(*percent),
+            How::Min => How::Min,
+            How::Max => How::Max,
+            How::Sum => How::Sum,
+            How::Avg => How::Avg,
+        })
+    }
+}
