@@ -1,4 +1,5 @@
 pub mod PublicLaws
 mod ReadEntries
+mod ReadRows
 mod Refusing
 mod Views

@@ -2,4 +2,4 @@
 -- another shape; what a pass tells of what a text is, is told of the text; and a text is read to one
 -- answer.
 pub use Rattle.ht_toml.proofs.ReadEntries.{all_there, first_misshapen, misshapen_least}
-pub use Rattle.ht_toml.proofs.Refusing.{first_holds, least_of, none_holds, nowhere_of, one_answer, one_document, one_saying, told_of}
+pub use Rattle.ht_toml.proofs.Refusing.{first_holds, first_of_text, least_of, none_holds, nothing_of_text, nowhere_of, one_answer, one_document, one_saying, told_of}

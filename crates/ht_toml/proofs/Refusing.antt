@@ -3,7 +3,7 @@ use Rattle.std.proofs.Common.{◌≡◌, ◌≢◌, ◌∙◌, ℕ, List, [], �
 use Rattle.toml.specs.Data.{Members}
 use Rattle.ht_base.specs.Places.{IsLeast}
 use Rattle.ht_toml.specs.Documents.{IsDocument, Says}
-use Rattle.ht_toml.specs.Refusals.{Holds, IsFirst, NothingHolds, Of, Reads, Refusal, TellsLeast, refused}
+use Rattle.ht_toml.specs.Refusals.{About, Holds, IsFirst, NothingHolds, Of, Reads, Refusal, TellsLeast, each_of, each_of_text, refused}
 
 -- ---- one answer
 
@@ -51,6 +51,17 @@ module _ {X : Type 0} (Is : X → Type 0) (one : (x y : X) → Is x → Is y →
 
   pub told_of : {E : Type 0} (memory : E) (told : ℕ → E) (a : E) → (a ≢ memory → TellsLeast (refused told (P x)) a) → a ≢ memory → TellsLeast (refused told (Of Is P)) a
   told_of memory told a first some = let f = first some in (f.0, f.1, least_of f.0 f.2)
+
+-- what is told of all that a text is, is told of the text
+module _ {X E : Type 0} (Is : X → Type 0) (one : (x y : X) → Is x → Is y → x ≡ y) (x : X) (is : Is x) where
+  pub nothing_of_text : (rs : List (About X E)) → NothingHolds (each_of x rs) → NothingHolds (each_of_text Is rs)
+  nothing_of_text [] none = tt
+  nothing_of_text (r ∷ rs) none = (nowhere_of Is one r.HoldsAt x is none.0, nothing_of_text rs none.1)
+
+  pub first_of_text : (rs : List (About X E)) (a : E) → IsFirst (each_of x rs) a → IsFirst (each_of_text Is rs) a
+  first_of_text [] a f = absurd f
+  first_of_text (r ∷ rs) a (inl f) = inl (f.0, f.1, least_of Is one r.HoldsAt x is f.0 f.2)
+  first_of_text (r ∷ rs) a (inr f) = inr (nowhere_of Is one r.HoldsAt x is f.0, first_of_text rs a f.1)
 
 -- ---- what a text says
 

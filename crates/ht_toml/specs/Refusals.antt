@@ -19,6 +19,23 @@ Of {X} Is P place = (x : X) × Is x × P x place
 abbrev pub IsNone : {X : Type 0} → (X → Type 0) → ℕ → Type 0
 IsNone {X} Is place = (x : X) → Is x → ⊥
 
+-- What is told of a place of what a text is, and at which of its places it holds.
+pub record About (X E : Type 0) : Type 1 where
+  pub told : ℕ → E
+  pub HoldsAt : X → ℕ → Type 0
+
+abbrev pub about : {X E : Type 0} → (ℕ → E) → (X → ℕ → Type 0) → About X E
+about told HoldsAt = record { told = told; HoldsAt = HoldsAt }
+
+-- such refusals of this, and of a text that is it
+abbrev pub each_of : {X E : Type 0} → X → List (About X E) → List (Refusal E)
+each_of x [] = []
+each_of x (r ∷ rs) = refused r.told (r.HoldsAt x) ∷ each_of x rs
+
+abbrev pub each_of_text : {X E : Type 0} → (X → Type 0) → List (About X E) → List (Refusal E)
+each_of_text Is [] = []
+each_of_text Is (r ∷ rs) = refused r.told (Of Is r.HoldsAt) ∷ each_of_text Is rs
+
 -- it holds nowhere
 abbrev pub Nowhere : {E : Type 0} → Refusal E → Type 0
 Nowhere r = (place : ℕ) → r.HoldsAt place → ⊥

@@ -4,10 +4,20 @@
 
 mod documents;
 mod entries;
+#[cfg(test)]
+mod key_tests;
+mod keys;
+mod rows;
+mod shapes;
 mod tables;
 #[cfg(test)]
 mod tests;
+mod values;
 
 pub use documents::{DocumentFault, document};
 pub use entries::{EntriesFault, Shape, each};
+pub use keys::{Misfit, list, optional, otherwise, required, word, word_if_any, word_or};
+pub use rows::{KeyShape, pairs, pairs_at};
+pub use shapes::{TableShape, table_shape};
 pub use tables::{array_at, entries_at, has_only, name_at, text_at, truth_at};
+pub use values::{exactly_one, whole_of, word_of};

@@ -70,7 +70,7 @@ pub fn entries_at<'a>(table: &'a Table, key: &str) -> Option<&'a [Value]>
     }
 }
 
-fn value_at<'a>(table: &'a Table, key: &str) -> Option<&'a Value>
+pub(crate) fn value_at<'a>(table: &'a Table, key: &str) -> Option<&'a Value>
     ensures { option_map (λ v. view v.now) result ≡ get_member key.now (table_view table.now) }
 {
     table.get(key)
