@@ -27,6 +27,17 @@ fn declared(alloc: Global) -> Result<Kinds, Fail> {
     Ok(kinds)
 }
 
+const KINDS: &str = "\
+1 + 2 * 3 == 7 => Truth
+-priority => Int
+in.t => Text
+(in.p) => Person
+if in.b then in.m else out.m => Instant
+set(in.t) and set(in.i) and set(in.b) and set(in.p) and set(in.m) => Truth
+made() + finished() + done() => Int
+countText('v', 'yes') + countTrue('v') => Int
+not (in.m < out.m) or in.p == initiator => Truth";
+
 #[test]
 fn kinds_are_told(rt: HostRuntime) -> Result<(), Fail> {
     let kinds = declared(rt.alloc())?;
@@ -34,75 +45,60 @@ fn kinds_are_told(rt: HostRuntime) -> Result<(), Fail> {
     assert!(rt; kinds.kind(Side::Output, b"i") == Some(Kind::Int));
     assert!(rt; kinds.kind(Side::Output, b"t").is_none());
     let copy = kinds.copy(rt.alloc())?;
-    let table = [
-        ("1 + 2 * 3 == 7", Kind::Truth),
-        ("-priority", Kind::Int),
-        ("in.t", Kind::Text),
-        ("(in.p)", Kind::Person),
-        ("if in.b then in.m else out.m", Kind::Instant),
-        (
-            "set(in.t) and set(in.i) and set(in.b) and set(in.p) and set(in.m)",
-            Kind::Truth,
-        ),
-        ("made() + finished() + done()", Kind::Int),
-        ("countText('v', 'yes') + countTrue('v')", Kind::Int),
-        ("not (in.m < out.m) or in.p == initiator", Kind::Truth),
-    ];
-    for (text, kind) in table {
+    for line in KINDS.lines() {
+        let (text, kind) = line.split_once(" => ").ok_or("a text and its kind")?;
         let expr = Expr::read(rt.alloc(), text, &copy)?;
-        assert!(rt; expr.kind() == kind, "{text}");
+        let told = format!(in rt.alloc(); "{:?}", expr.kind())?;
+        assert_eq!(rt; told.as_str(), kind, "{text}");
     }
     Ok(())
 }
 
+// Also in a branch that is never taken.
+const WRONG_KINDS: &str = "\
+priority == 'a'
+if true then 1 else in.x
+if true then 1 else 'a'
+in.x
+out.t
+set(in.x)
+initiator == priority
+in.t < in.t
+in.p < in.p
+in.b < in.b
+in.m < in.i
+1 + in.t
+in.m - in.m
+-in.m
+not in.i
+1 or 2
+true and in.i
+if in.i then 1 else 2
+1 + countTrue('v') == in.t";
+
+const ASSIGNMENTS: &str = "\
+in.p => None
+in.t => Some(BadKind)
+in.x => Some(BadKind)
+when(in.b, in.p, nobody) => None
+when(in.i, in.p, nobody) => Some(BadKind)
+when(in.b, nobody, except(everybody, in.m)) => Some(BadKind)";
+
 #[test]
 fn wrong_kinds_are_refused(rt: HostRuntime) -> Result<(), Fail> {
     let kinds = declared(rt.alloc())?;
-    let table = [
-        "priority == 'a'",
-        // In a branch that is never taken.
-        "if true then 1 else in.x",
-        "if true then 1 else 'a'",
-        "in.x",
-        "out.t",
-        "set(in.x)",
-        "initiator == priority",
-        "in.t < in.t",
-        "in.p < in.p",
-        "in.b < in.b",
-        "in.m < in.i",
-        "1 + in.t",
-        "in.m - in.m",
-        "-in.m",
-        "not in.i",
-        "1 or 2",
-        "true and in.i",
-        "if in.i then 1 else 2",
-        "1 + countTrue('v') == in.t",
-    ];
-    for text in table {
+    for text in WRONG_KINDS.lines() {
         let refusal = Expr::read(rt.alloc(), text, &kinds).err();
         assert_eq!(rt; refusal, Some(ExprRefusal::BadKind), "{text}");
     }
     // Shape is told first.
     let refusal = Expr::read(rt.alloc(), "1 == 'a' == 2", &kinds).err();
     assert_eq!(rt; refusal, Some(ExprRefusal::Shape(9)));
-    let table = [
-        ("in.p", true),
-        ("in.t", false),
-        ("in.x", false),
-        ("when(in.b, in.p, nobody)", true),
-        ("when(in.i, in.p, nobody)", false),
-        ("when(in.b, nobody, except(everybody, in.m))", false),
-    ];
-    for (text, fits) in table {
+    for line in ASSIGNMENTS.lines() {
+        let (text, expected) = line.split_once(" => ").ok_or("a text and its refusal")?;
         let refusal = Assign::read(rt.alloc(), text, &kinds).err();
-        let expected = if fits {
-            None
-        } else {
-            Some(ExprRefusal::BadKind)
-        };
-        assert_eq!(rt; refusal, expected, "{text}");
+        let refusal = format!(in rt.alloc(); "{refusal:?}")?;
+        assert_eq!(rt; refusal.as_str(), expected, "{text}");
     }
     Ok(())
 }
@@ -142,43 +138,40 @@ fn truth(alloc: Global, text: &str, kinds: &Kinds, env: &Env) -> Result<bool, Fa
 
 const LEAST: &str = "(-9223372036854775807 - 1)";
 
-#[test]
-fn numbers_are_clamped(rt: HostRuntime) -> Result<(), Fail> {
-    let kinds = declared(rt.alloc())?;
-    let env = bare(rt.alloc());
-    let table = [
-        ("1 + 2 * 3", 7),
-        ("1 - 2 - 3", -4),
-        ("priority * -2", -8),
-        ("if 1 < 2 then 3 else 4", 3),
-        ("if 2 < 1 then 3 else 4", 4),
-        ("9223372036854775807", i64::MAX),
-        ("9223372036854775807 + 1", i64::MAX),
-        ("-9223372036854775807 - 2", i64::MIN),
-        ("LEAST + -1", i64::MIN),
-        ("9223372036854775807 - -1", i64::MAX),
-        ("9223372036854775807 * 2", i64::MAX),
-        ("9223372036854775807 * -2", i64::MIN),
-        ("LEAST * LEAST", i64::MAX),
-        ("-LEAST", i64::MAX),
-        ("--LEAST", -i64::MAX),
-        ("9223372036854775807 + 1 - 1", i64::MAX - 1),
-    ];
-    for (text, value) in table {
-        let mut spelled = String::new(rt.alloc());
-        for (place, part) in text.split("LEAST").enumerate() {
-            if 0 < place {
-                spelled.push_str(LEAST)?;
-            }
-            spelled.push_str(part)?;
-        }
-        assert_eq!(rt;
-            int(rt.alloc(), spelled.as_str(), &kinds, &env)?,
-            value,
-            "{text}"
-        );
+// In each line a text, in which `LEAST` stands for that, stands before its number.
+fn have_numbers(rt: &impl Abort, alloc: Global, env: &Env, lines: &str) -> Result<(), Fail> {
+    let kinds = declared(alloc)?;
+    for line in lines.lines() {
+        let (text, expected) = line.split_once(" => ").ok_or("a text and its number")?;
+        let text = text.replace(alloc, "LEAST", LEAST)?;
+        let number = int(alloc, text.as_str(), &kinds, env)?;
+        let number = format!(in alloc; "{number}")?;
+        assert_eq!(rt; number.as_str(), expected, "{text}");
     }
     Ok(())
+}
+
+const CLAMPED: &str = "\
+1 + 2 * 3 => 7
+1 - 2 - 3 => -4
+priority * -2 => -8
+if 1 < 2 then 3 else 4 => 3
+if 2 < 1 then 3 else 4 => 4
+9223372036854775807 => 9223372036854775807
+9223372036854775807 + 1 => 9223372036854775807
+-9223372036854775807 - 2 => -9223372036854775808
+LEAST + -1 => -9223372036854775808
+9223372036854775807 - -1 => 9223372036854775807
+9223372036854775807 * 2 => 9223372036854775807
+9223372036854775807 * -2 => -9223372036854775808
+LEAST * LEAST => 9223372036854775807
+-LEAST => 9223372036854775807
+--LEAST => -9223372036854775807
+9223372036854775807 + 1 - 1 => 9223372036854775806";
+
+#[test]
+fn numbers_are_clamped(rt: HostRuntime) -> Result<(), Fail> {
+    have_numbers(&rt, rt.alloc(), &bare(rt.alloc()), CLAMPED)
 }
 
 // The part of this name, if it has a value.
@@ -190,14 +183,15 @@ fn one(alloc: Global, part: &str, value: Option<Value>) -> Result<Values, Fail> 
     Ok(values)
 }
 
-// Whether each text is true without values of parts, and with these of the part of this name.
+// In each line a text stands before whether it is true without values of parts, and with these of
+// the part of this name.
 fn are(
     rt: &impl Abort,
     alloc: Global,
     part: &str,
     input: Option<Value>,
     output: Option<Value>,
-    table: &[(&str, bool, bool)],
+    lines: &str,
 ) -> Result<(), Fail> {
     let kinds = declared(alloc)?;
     let unset = bare(alloc);
@@ -208,72 +202,89 @@ fn are(
         initiator: Person(7),
         subs: Subs::new(alloc),
     };
-    for (text, without, with) in table {
-        assert_eq!(rt; truth(alloc, text, &kinds, &unset)?, *without, "{text}");
-        assert_eq!(rt; truth(alloc, text, &kinds, &set)?, *with, "{text}");
+    for line in lines.lines() {
+        let (text, expected) = line.split_once(" => ").ok_or("a text and two truths")?;
+        let without = truth(alloc, text, &kinds, &unset)?;
+        let with = truth(alloc, text, &kinds, &set)?;
+        let truths = format!(in alloc; "{without} {with}")?;
+        assert_eq!(rt; truths.as_str(), expected, "{text}");
     }
     Ok(())
 }
 
+const OF_A_TEXT: &str = "\
+1 + 2 * 3 == 7 => true true
+set(in.t) => false true
+set(in.i) or set(out.i) => false false
+in.t == '' => true false
+in.t != 'x' => true false";
+
+const OF_A_NUMBER: &str = "\
+set(in.i) => false true
+set(out.i) => false false
+in.i == 0 and out.i == 0 => true false
+in.i == -5 => false true";
+
 #[test]
 fn texts_and_numbers_have_values(rt: HostRuntime) -> Result<(), Fail> {
-    let table = [
-        ("1 + 2 * 3 == 7", true, true),
-        ("set(in.t)", false, true),
-        ("set(in.i) or set(out.i)", false, false),
-        ("in.t == ''", true, false),
-        ("in.t != 'x'", true, false),
-    ];
     let x = text(rt.alloc(), "x")?;
-    are(&rt, rt.alloc(), "t", x, None, &table)?;
-    let table = [
-        ("set(in.i)", false, true),
-        ("set(out.i)", false, false),
-        ("in.i == 0 and out.i == 0", true, false),
-        ("in.i == -5", false, true),
-    ];
-    are(&rt, rt.alloc(), "i", Some(Value::Int(-5)), None, &table)
+    are(&rt, rt.alloc(), "t", x, None, OF_A_TEXT)?;
+    are(
+        &rt,
+        rt.alloc(),
+        "i",
+        Some(Value::Int(-5)),
+        None,
+        OF_A_NUMBER,
+    )
 }
+
+const OF_A_TRUTH: &str = "\
+set(in.b) => false true
+in.b => false true
+in.b == true => false true
+in.b == false => true false
+not in.b and priority == 4 => true false
+if in.b then 1 < 2 else false => false true";
 
 #[test]
 fn truths_have_values(rt: HostRuntime) -> Result<(), Fail> {
-    let table = [
-        ("set(in.b)", false, true),
-        ("in.b", false, true),
-        ("in.b == true", false, true),
-        ("in.b == false", true, false),
-        ("not in.b and priority == 4", true, false),
-        ("if in.b then 1 < 2 else false", false, true),
-    ];
-    are(&rt, rt.alloc(), "b", Some(Value::Truth(true)), None, &table)
+    are(
+        &rt,
+        rt.alloc(),
+        "b",
+        Some(Value::Truth(true)),
+        None,
+        OF_A_TRUTH,
+    )
 }
+
+const OF_PERSONS: &str = "\
+set(in.p) and set(out.p) => false true
+in.p == out.p => true false
+in.p == initiator => false true
+initiator == in.p => false true
+out.p != initiator => true true
+initiator == initiator => true true";
 
 #[test]
 fn persons_have_values(rt: HostRuntime) -> Result<(), Fail> {
-    let table = [
-        ("set(in.p) and set(out.p)", false, true),
-        ("in.p == out.p", true, false),
-        ("in.p == initiator", false, true),
-        ("initiator == in.p", false, true),
-        ("out.p != initiator", true, true),
-        ("initiator == initiator", true, true),
-    ];
     let (input, output) = (Value::Person(Person(7)), Value::Person(Person(8)));
-    are(&rt, rt.alloc(), "p", Some(input), Some(output), &table)
+    are(&rt, rt.alloc(), "p", Some(input), Some(output), OF_PERSONS)
 }
+
+const OF_INSTANTS: &str = "\
+set(in.m) => false true
+in.m < out.m => false true
+in.m <= out.m => true true
+in.m >= out.m => true false
+in.m == out.m => true false
+in.m > out.m => false false";
 
 #[test]
 fn instants_have_values(rt: HostRuntime) -> Result<(), Fail> {
-    let table = [
-        ("set(in.m)", false, true),
-        ("in.m < out.m", false, true),
-        ("in.m <= out.m", true, true),
-        ("in.m >= out.m", true, false),
-        ("in.m == out.m", true, false),
-        ("in.m > out.m", false, false),
-    ];
     let (input, output) = (Value::Instant(Moment(5)), Value::Instant(Moment(6)));
-    are(&rt, rt.alloc(), "m", Some(input), Some(output), &table)
+    are(&rt, rt.alloc(), "m", Some(input), Some(output), OF_INSTANTS)
 }
 
 #[test]
@@ -292,9 +303,18 @@ fn text(alloc: Global, text: &str) -> Result<Option<Value>, Memory> {
     Ok(Some(Value::Text(Txt::of(alloc, text)?)))
 }
 
+const COUNTS: &str = "\
+made() => 27
+finished() => 13
+done() => 5
+countText('v', 'yes') => 1
+countText('v', '') => 0
+countText('w', 'yes') => 0
+countTrue('v') => 1
+countTrue('w') => 0";
+
 #[test]
 fn sub_tasks_are_counted(rt: HostRuntime) -> Result<(), Fail> {
-    let kinds = declared(rt.alloc())?;
     let mut env = bare(rt.alloc());
     for state in State::ALL {
         env.subs
@@ -313,18 +333,5 @@ fn sub_tasks_are_counted(rt: HostRuntime) -> Result<(), Fail> {
     env.subs
         .push(State::Completed, one(rt.alloc(), "v", None)?)?;
     assert_eq!(rt; env.subs.as_slice().len(), 27);
-    let table = [
-        ("made()", 27),
-        ("finished()", 13),
-        ("done()", 5),
-        ("countText('v', 'yes')", 1),
-        ("countText('v', '')", 0),
-        ("countText('w', 'yes')", 0),
-        ("countTrue('v')", 1),
-        ("countTrue('w')", 0),
-    ];
-    for (text, value) in table {
-        assert_eq!(rt; int(rt.alloc(), text, &kinds, &env)?, value, "{text}");
-    }
-    Ok(())
+    have_numbers(&rt, rt.alloc(), &env, COUNTS)
 }

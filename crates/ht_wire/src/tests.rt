@@ -6,6 +6,7 @@ use crate::{Buffer, Next, Request, next_request, write_reply};
 use ht_base::Bytes;
 use ht_outside::{Failed, MemorySink, MemorySource, Pair, Source};
 use std::alloc::Global;
+use std::process::Abort;
 use std::test::Fail;
 
 fn link(alloc: Global, bytes: &[u8]) -> Result<Pair<MemorySource, MemorySink>, Fail> {
@@ -84,63 +85,55 @@ fn put_request(request: &Request, text: &mut String) -> Result<(), Fail> {
     Ok(())
 }
 
+// What stands in these bytes is as it should be.
+fn is_read(rt: &impl Abort, alloc: Global, bytes: &str, want: &str) -> Result<(), Fail> {
+    let text = read(alloc, bytes.as_bytes())?;
+    assert_eq!(rt; text.as_str(), want, "{bytes:?}");
+    Ok(())
+}
+
+// In each line the bytes, with `|` for the end of a line, stand before what stands in them.
+const HEADS: &str = "\
+GET / HTTP/1.1|| => - end
+GET / HTTP/1.0||GET / HTTP/1.1|| => - last - end
+GET / HTTP/1.1|Connection: CLOSE|x-person: p1|| => p1 last end
+GET / HTTP/1.1|connection: keep-alive, close|| => - end
+GET / HTTP/1.1|x-person: p1|x-person: p1|| => - end
+GET / HTTP/1.1|x-person: p 1|| => - end
+GET / HTTP/1.1|x-person:|| => - end
+GET / HTTP/1.1||GET / HTTP/1.1|x-person: p2||G => - p2 400
+GET / HTTP/1.1|CONNECTION:  cLOSE || => - last end
+GET / HTTP/1.1|connection: closed|| => - end
+GET / HTTP/1.1|connections: close|| => - end
+GET / HTTP/1.1|Connection: keep-alive|Connection: close|| => - last end
+POST / HTTP/1.1|Content-Length: 0|| => 501
+POST / HTTP/1.1|Transfer-Encoding: chunked|| => 501
+GET / HTTP/1.1||POST / HTTP/1.1|content-length: 2||{} => - 501
+GET / HTTP/2|| => 400
+GET / => 400
+ GET / HTTP/1.1|| => 400";
+
 #[test]
 fn heads_are_read(rt: HostRuntime) -> Result<(), Fail> {
-    let table = [
-        ("", "end"),
-        ("\r\n\n\r", "end"),
-        ("GET / HTTP/1.1\r\n\r\n", "- end"),
-        ("\r\nGET / HTTP/1.1\nX-Person: p3 \n\n\n", "p3 end"),
-        (
-            "GET / HTTP/1.0\r\n\r\nGET / HTTP/1.1\r\n\r\n",
-            "- last - end",
-        ),
-        (
-            "GET / HTTP/1.1\r\nConnection: CLOSE\r\nx-person: p1\r\n\r\n",
-            "p1 last end",
-        ),
-        (
-            "GET / HTTP/1.1\r\nconnection: keep-alive, close\r\n\r\n",
-            "- end",
-        ),
-        (
-            "GET / HTTP/1.1\r\nx-person: p1\r\nx-person: p1\r\n\r\n",
-            "- end",
-        ),
-        ("GET / HTTP/1.1\r\nx-person: p 1\r\n\r\n", "- end"),
-        ("GET / HTTP/1.1\r\nx-person:\r\n\r\n", "- end"),
-        (
-            "GET / HTTP/1.1\r\n\r\nGET / HTTP/1.1\r\nx-person: p2\r\n\r\nG",
-            "- p2 400",
-        ),
-        (
-            "GET / HTTP/1.1\r\nCONNECTION:  cLOSE \r\n\r\n",
-            "- last end",
-        ),
-        ("GET / HTTP/1.1\r\nconnection: closed\r\n\r\n", "- end"),
-        ("GET / HTTP/1.1\r\nconnections: close\r\n\r\n", "- end"),
-        (
-            "GET / HTTP/1.1\r\nConnection: keep-alive\r\nConnection: close\r\n\r\n",
-            "- last end",
-        ),
-        ("\r\n\r\n\n\r\nGET / HTTP/1.1\r\n\r\n", "- end"),
-        ("POST / HTTP/1.1\r\nContent-Length: 0\r\n\r\n", "501"),
-        (
-            "POST / HTTP/1.1\r\nTransfer-Encoding: chunked\r\n\r\n",
-            "501",
-        ),
-        (
-            "GET / HTTP/1.1\r\n\r\nPOST / HTTP/1.1\r\ncontent-length: 2\r\n\r\n{}",
-            "- 501",
-        ),
-        ("GET / HTTP/2\r\n\r\n", "400"),
-        ("GET /", "400"),
-        (" GET / HTTP/1.1\r\n\r\n", "400"),
-    ];
-    for (bytes, want) in table {
-        let text = read(rt.alloc(), bytes.as_bytes())?;
-        assert_eq!(rt; text.as_str(), want, "{bytes:?}");
+    for line in HEADS.lines() {
+        let (head, want) = line.split_once(" => ").ok_or("bytes and what is read")?;
+        let head = head.replace(rt.alloc(), "|", "\r\n")?;
+        is_read(&rt, rt.alloc(), head.as_str(), want)?;
     }
+    is_read(&rt, rt.alloc(), "", "end")?;
+    is_read(&rt, rt.alloc(), "\r\n\n\r", "end")?;
+    is_read(
+        &rt,
+        rt.alloc(),
+        "\r\nGET / HTTP/1.1\nX-Person: p3 \n\n\n",
+        "p3 end",
+    )?;
+    is_read(
+        &rt,
+        rt.alloc(),
+        "\r\n\r\n\n\r\nGET / HTTP/1.1\r\n\r\n",
+        "- end",
+    )?;
     Ok(())
 }
 
