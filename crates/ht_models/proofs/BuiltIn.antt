@@ -1,5 +1,5 @@
 -- What the built-in text reads to.
-use Rattle.std.proofs.Common.{arith, ◌≡◌, ◌≢◌, ◌⊎◌, inl, inr, Result, Ok, Err, List, [], ◌∷◌, Some, None, codes, refl}
+use Rattle.std.proofs.Common.{arith, ◌≡◌, ◌≢◌, ◌⊎◌, inl, inr, Result, Ok, Err, List, [], ◌∷◌, Some, codes, refl}
 use Rattle.std.specs.Str.{IsUtf8}
 use lib.Utf8.{encode}
 use Rattle.toml.specs.Data.{Members, array, item, member, no_items, no_members, string, table}
@@ -12,10 +12,12 @@ use Rattle.ht_models.specs.declared.refusal.ModelsRefusal.{ModelsRefusal}
 use Rattle.ht_models.specs.declared.refusal.ModelsRefusal.TheVariants.{Syntax, Field, Twice, UnknownModel, Cycle, Expression, Limit, Contradiction, Memory}
 use Rattle.ht_models.specs.Model.{ModelOf}
 use Rattle.ht_models.specs.BuiltIn.{built_in_text, unit}
-use Rattle.ht_models.specs.ModelsText.{ModelText}
+use Rattle.ht_models.specs.EntryExamples.{bare}
+use Rattle.ht_models.specs.ModelEntries.{ModelEntry}
+use Rattle.ht_models.specs.ModelsText.{IsModelsText}
 use Rattle.ht_models.specs.Reading.{IsModel, Reads}
-use Rattle.ht_models.specs.Refusals.{IsModelsText}
-use Rattle.ht_models.proofs.Passing.{one_answer, reads_one}
+use Rattle.ht_models.proofs.Passing.{one_answer}
+use Rattle.ht_models.proofs.SingleModels.{reads_one}
 
 abbrev document : Members
 document =
@@ -23,14 +25,8 @@ document =
     (array (item (table (member (codes "name") (string (codes "unit")) (member (codes "potentialOwners") (string (codes "everybody")) no_members))) no_items))
     no_members
 
-abbrev entry : ModelText
-entry = record {
-  name = codes "unit";
-  potential_owners = Some (codes "everybody");
-  excluded_owners = None;
-  administrators = None;
-  stakeholders = None;
-}
+abbrev entry : ModelEntry
+entry = record (bare (codes "unit")) { potential_owners = Some (codes "everybody") }
 
 is_read : parse_document built_in_text ≡ Some document
 unfolding toml_on_literals
@@ -47,15 +43,27 @@ shape = (document, (is_text, is_read), refl)
 model : IsModel entry unit
 model = record {
   name = refl;
-  potential_owners = ((tree_row [] an_assignment (codes "everybody") everybody (spelled_row an_assignment (codes "everybody") everybody (omega arith, omega arith, tt) refl refl refl refl) refl).reads, refl);
+  priority = refl;
+  skipable = refl;
+  owner_required = refl;
+  delegation = refl;
+  delegatees = refl;
+  potential_owners = (tree_row [] an_assignment (codes "everybody") everybody (spelled_row an_assignment (codes "everybody") everybody (omega arith, omega arith, tt) refl refl refl refl) refl).reads;
   excluded_owners = refl;
   administrators = refl;
   stakeholders = refl;
-  size = refl;
+  composition = refl;
+  instantiation = refl;
+  completion = refl;
+  input = refl;
+  output = refl;
+  subs = refl;
+  deadlines = tt;
+  finishes = tt;
 }
 
 pub built_in : Reads built_in_text (Ok (unit ∷ []))
-built_in = reads_one built_in_text entry unit shape model
+built_in = reads_one built_in_text entry unit shape (record { model = model; names = refl; known = refl; alone = refl; few = refl; low = refl; size = refl; fits = refl })
 
 -- an answer is want of memory, or it is this one
 is_memory : (answer : Result (List ModelOf) ModelsRefusal) → (answer ≡ Err Memory) ⊎ (answer ≢ Err Memory)

@@ -2,7 +2,7 @@
 use Rattle.std.proofs.Common.{◌≡◌, ℕ, ◌+◌, ◌<◌, ◌≤◌, true, false, true≢false, List, [], ◌∷◌, ◌++◌, length, get_or, take, drop, refl, sym, ap, ◌∙◌, arith, add-one, length-drop, length-take-le, drop_of_length-le, get_or-drop, drop-drop, eqb-true}
 use Rattle.std.proofs.Math.Seq.{split_at}
 use Rattle.std.proofs.lemmas.Bool.{and_parts}
-use Rattle.ht_models.specs.Instants.{InstantText, instant_text, HasLengths, IsInstant, IsDay, IsTime, moment_of, is_marked, hyphen, colon, letter_t, letter_z}
+use Rattle.ht_models.specs.Instants.{InstantText, instant_text, HasLengths, IsInstant, IsDay, IsTime, moment_of, is_marked, parts_of, hyphen, colon, letter_t, letter_z}
 
 -- ---- a text that is written of parts is cut into them
 
@@ -78,9 +78,6 @@ part text at n next mark within behind is =
     let found : get_or (drop at text) n 0 ≡ mark = get_or-drop at text n 0 ∙ is in
     let rest : drop (n + 1) (drop at text) ≡ drop next text = drop-drop (n + 1) at text ∙ ap (λ k. drop k text) behind in
     rw (← found, ← rest, add-one) split
-
-abbrev pub parts_of : List ℕ → InstantText
-parts_of text = record { year = take 4 text; month = take 2 (drop 5 text); day = take 2 (drop 8 text); hour = take 2 (drop 11 text); minute = take 2 (drop 14 text); second = take 2 (drop 17 text) }
 
 pub marked_text : (text : List ℕ) → is_marked text ≡ true → text ≡ instant_text (parts_of text)
 marked_text text e =

@@ -1,5 +1,5 @@
 -- Where a name stands among models of distinct names.
-use Rattle.std.proofs.Common.{◌≡◌, ℕ, ◌<◌, List, [], ◌∷◌, length, map, Some, None, Option, option_map, get_or, ap, sym, ◌∙◌, refl, arith}
+use Rattle.std.proofs.Common.{◌≡◌, ℕ, ◌<◌, ◌≤◌, List, [], ◌∷◌, length, map, Some, None, Option, option_map, get_or, ap, sym, ◌∙◌, refl, arith, subst}
 use Rattle.std.specs.Prelude.{All, slice_get}
 use Rattle.std.specs.BTreeMap.{get}
 use Rattle.std.specs.Cmp.Lexicographic.{slice_cmp}
@@ -53,17 +53,20 @@ found_there m models i one kept view within is =
     let own = own_place one.name (kept_names m) i there (kept.distinct i) in
     rw (← view, names-map) own
 
--- each model is a tree of one task
-size_there : (ms : List Model) → All (λ m. m.size ≡ 1) ms → (place : ℕ) (m : ModelOf) → slice_get (map model_of ms) place ≡ Some m → m.size ≡ 1
-size_there ms single place m at = here (slice_get ms place) refl (sym (slice_get-map model_of ms place) ∙ at)
+-- each model is a tree of 1 to 256 tasks
+abbrev IsSized : ℕ → Type 0
+IsSized size = (1 ≤ size) × (size ≤ 256)
+
+size_there : (ms : List Model) → All (λ m. IsSized m.size) ms → (place : ℕ) (m : ModelOf) → slice_get (map model_of ms) place ≡ Some m → IsSized m.size
+size_there ms sized place m at = here (slice_get ms place) refl (sym (slice_get-map model_of ms place) ∙ at)
   where
-    here : (o : Option Model) → slice_get ms place ≡ o → option_map model_of o ≡ Some m → m.size ≡ 1
+    here : (o : Option Model) → slice_get ms place ≡ o → option_map model_of o ≡ Some m → IsSized m.size
     here None is at = cc
     here (Some x) is at =
-        let one : (get_or ms place x).size ≡ 1 = single place x (slice_get_within ms place x is) in
+        let one : IsSized (get_or ms place x).size = sized place x (slice_get_within ms place x is) in
         let same : get_or ms place x ≡ x = get_or_from_slice_get ms place x x is in
         let shown : model_of x ≡ m = cc in
-        sym (ap (λ (n : ModelOf). n.size) shown) ∙ sym (ap (λ (n : Model). n.size) same) ∙ one
+        subst IsSized (ap (λ (n : Model). n.size) same ∙ ap (λ (n : ModelOf). n.size) shown) one
 
-pub single_there : (m : Inside) (models : List ModelOf) → IsKept m → map model_of m.models.items ≡ models → (place : ℕ) (one : ModelOf) → slice_get models place ≡ Some one → one.size ≡ 1
-single_there m models kept view place one at = size_there m.models.items kept.single place one (ap (λ (l : List ModelOf). slice_get l place) view ∙ at)
+pub sized_there : (m : Inside) (models : List ModelOf) → IsKept m → map model_of m.models.items ≡ models → (place : ℕ) (one : ModelOf) → slice_get models place ≡ Some one → IsSized one.size
+sized_there m models kept view place one at = size_there m.models.items kept.sizes place one (ap (λ (l : List ModelOf). slice_get l place) view ∙ at)

@@ -1,9 +1,10 @@
 -- Instants as texts, for instance 2026-03-02T09:00:00Z: a date and a time of day, in UTC. A narrow
 -- form of RFC 3339's.
-use Rattle.std.specs.Prelude.{◌≡◌, ℕ, ◌+◌, ◌*◌, ◌≤◌, Bool, ◌&&◌, ◌==◌, List, [], ◌∷◌, ◌++◌, length, slice_index, pos, unsigned_abs}
+use Rattle.std.specs.Prelude.{◌≡◌, ℕ, ◌+◌, ◌*◌, ◌≤◌, nat_le, Bool, ◌&&◌, ◌==◌, if◌then◌else◌, List, [], ◌∷◌, ◌++◌, length, slice_index, take, drop, Option, Some, None, pos, unsigned_abs}
 use Rattle.std.specs.Str.Parse.{digits_value}
-use Rattle.jiff_core.specs.Calendar.{IsDate, days_from_civil}
-use Rattle.ht_base.specs.Numbers.{IsNumber}
+use Rattle.jiff_core.specs.Calendar.{IsDate, days_from_civil, days_in_month}
+use Rattle.ht_base.specs.declared.moment.Moment.{Moment}
+use Rattle.ht_base.specs.Numbers.{IsNumber, is_number}
 
 -- the digits of each part
 pub record InstantText : Type 0 where
@@ -88,3 +89,41 @@ is_marked text =
     (length text == 20)
     && (slice_index text 4 == hyphen) && (slice_index text 7 == hyphen) && (slice_index text 10 == letter_t)
     && (slice_index text 13 == colon) && (slice_index text 16 == colon) && (slice_index text 19 == letter_z)
+
+-- ---- the same as a function of the text
+
+-- a text's parts, by their places
+abbrev pub parts_of : List ℕ → InstantText
+parts_of text = record {
+  year = take 4 text;
+  month = take 2 (drop 5 text);
+  day = take 2 (drop 8 text);
+  hour = take 2 (drop 11 text);
+  minute = take 2 (drop 14 text);
+  second = take 2 (drop 17 text);
+}
+
+abbrev pub is_date : ℕ → ℕ → ℕ → Bool
+is_date year month day =
+    nat_le 1970 year && nat_le year 9999 && nat_le 1 month && nat_le month 12
+    && nat_le 1 day && nat_le day (days_in_month (pos year) month)
+
+abbrev pub is_day : List ℕ → List ℕ → List ℕ → Bool
+is_day year month day =
+    is_number year && is_number month && is_number day
+    && is_date (digits_value 10 year) (digits_value 10 month) (digits_value 10 day)
+
+abbrev pub is_time : List ℕ → List ℕ → List ℕ → Bool
+is_time hour minute second =
+    is_number hour && is_number minute && is_number second
+    && nat_le (digits_value 10 hour) 23 && nat_le (digits_value 10 minute) 59 && nat_le (digits_value 10 second) 59
+
+abbrev pub are_parts : InstantText → Bool
+are_parts i = is_day i.year i.month i.day && is_time i.hour i.minute i.second
+
+-- the moment of an instant's text
+abbrev pub moment : ℕ → Moment
+moment at = record { 0 = at }
+
+abbrev pub instant_of : List ℕ → Option Moment
+instant_of text = if is_marked text && are_parts (parts_of text) then Some (moment (moment_of (parts_of text))) else None

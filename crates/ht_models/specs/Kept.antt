@@ -1,5 +1,5 @@
 -- How models lie in memory: in the order of the text, beside an index of their names.
-use Rattle.std.specs.Prelude.{◌≡◌, ℕ, ◌≤◌, List, All, length, map}
+use Rattle.std.specs.Prelude.{ℕ, ◌≤◌, List, All, length, map}
 use Rattle.ht_base.specs.Indexes.{IsIndex}
 use Rattle.ht_base.specs.Places.{IsRepeated}
 use Rattle.ht_models.specs.declared.models.Models.TheInside.{Inside}
@@ -11,6 +11,6 @@ kept_names m = map (λ m. m.name) m.models.items
 pub record IsKept (m : Inside) : Type 0 where
   pub index : IsIndex m.places (kept_names m)
   pub distinct : (place : ℕ) → IsRepeated (kept_names m) place → ⊥
-  pub single : All (λ m. m.size ≡ 1) m.models.items
+  pub sizes : All (λ m. (1 ≤ m.size) × (m.size ≤ 256)) m.models.items
   pub some : 1 ≤ length m.models.items
   pub few : length m.models.items ≤ most

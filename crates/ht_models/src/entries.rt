@@ -1,17 +1,17 @@
-ghost use Rattle.std.specs.Prelude.{◌≡◌, true, false, IfErr, IfNone, IfOk, IfSome, Some, map};
+ghost use Rattle.std.specs.Prelude.{◌≡◌, true, false, IfNone, IfOk, IfSome, Some, map};
 ghost use Rattle.toml.specs.View.{table_view, view};
 ghost use Rattle.ht_models.specs.ModelsText as spec;
 ghost use Rattle.ht_models.specs.ModelsText.{IsMisshapen, is_top, models_text};
 ghost use Rattle.ht_toml.specs.Refusals.{Passes, refused};
 
 use crate::ModelsRefusal;
-use crate::model_text::ModelText;
+use crate::model_entry::ModelEntry;
 use ht_toml::{EntriesFault, array_at, each, has_only};
 use std::alloc::Global;
 use toml::{Table, Value};
 
 /// What a document says, or the first entry that has another shape.
-pub fn entries_of(alloc: Global, document: &Table) -> Result<Vec<ModelText>, ModelsRefusal>
+pub fn entries_of(alloc: Global, document: &Table) -> Result<Vec<ModelEntry>, ModelsRefusal>
     ensures ok { IfOk result (λ entries. models_text (table_view document.now) ≡ Some entries.items) }
     ensures passes { Passes ModelsRefusal.Memory (refused ModelsRefusal.Field (IsMisshapen (table_view document.now))) result }
 {

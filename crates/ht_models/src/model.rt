@@ -1,19 +1,69 @@
-use ht_base::Name;
-use ht_expr::Assign;
+use crate::choices::{Composition, Delegation, Trigger};
+use crate::deadlines::DeadlineKind;
+use crate::finishes::Setting;
+use crate::parts::Part;
+use crate::sub_entries::SubEntry;
+use ht_base::{Moment, Name};
+use ht_expr::{Assign, Expr};
 
 /// A task model: what all tasks of one kind have in common.
 #[derive(Debug, Drop)]
 pub struct Model {
     pub name: Name,
-    /// Who may own a task (WS-HumanTask 1.1, 3.1), without the excluded owners.
+    /// A number, of which 0 is the highest priority and 10 the lowest. None where none is given,
+    /// which means 5.
+    pub priority: Option<Expr>,
+    pub skipable: bool,
+    pub owner_required: bool,
+    pub delegation: Delegation,
+    /// To whom an owner may delegate, given exactly with [`Delegation::Other`].
+    pub delegatees: Option<Assign>,
     pub potential_owners: Assign,
-    /// Who may never own a task.
     pub excluded_owners: Assign,
-    /// Who administers a task, or None where the text doesn't say: a sub task then has its parent's
-    /// administrators, and any other task has none.
+    /// None where none are given.
     pub administrators: Option<Assign>,
-    /// Who has a stake in a task, with the rights of its administrators, or None as with these.
+    /// None where none are given.
     pub stakeholders: Option<Assign>,
-    /// The number of tasks in its tree: 1, as long as models have no sub tasks.
+    pub composition: Composition,
+    pub instantiation: Trigger,
+    pub completion: Trigger,
+    pub input: Vec<Part>,
+    pub output: Vec<Part>,
+    pub subs: Vec<SubEntry>,
+    pub deadlines: Vec<Deadline>,
+    pub finishes: Vec<Finish>,
+    /// How many tasks the tree of a task has, itself included: 1 to 256.
     pub size: u32,
+}
+
+/// When a task is to be started or completed (WS-HumanTask 1.1, 4.9). Its end is one of `period`, `at`
+/// and `part`.
+#[derive(Debug, Drop)]
+pub struct Deadline {
+    pub name: Name,
+    pub kind: DeadlineKind,
+    /// So many milliseconds after the creation of the task.
+    pub period: Option<u64>,
+    pub at: Option<Moment>,
+    /// The input part that says when.
+    pub part: Option<Name>,
+    pub escalations: Vec<Escalation>,
+}
+
+/// What follows where a deadline is missed: one of `notify` and `reassign` is given.
+#[derive(Debug, Drop)]
+pub struct Escalation {
+    pub name: Name,
+    /// A condition. None where none is given, which means true.
+    pub when: Option<Expr>,
+    pub notify: Option<Assign>,
+    pub reassign: Option<Assign>,
+}
+
+/// A way in which a composite task finishes (WS-HumanTask 1.1, 4.8).
+#[derive(Debug, Drop)]
+pub struct Finish {
+    /// Its condition. One without a condition is the default.
+    pub when: Option<Expr>,
+    pub settings: Vec<Setting>,
 }

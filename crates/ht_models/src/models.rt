@@ -1,21 +1,26 @@
 ghost use Rattle.std.specs.Prelude.{◌≡◌, ◌≤◌, ◌<◌, ℕ, IfSome, Some, length, slice_get};
 ghost use Rattle.ht_base.specs.Places.{place_in};
+ghost use Rattle.ht_toml.specs.Refusals as text_reads;
+ghost use Rattle.ht_toml.specs.Refusals.{each_of};
 ghost use Rattle.ht_models.specs.Model.{ModelOf, names};
-ghost use Rattle.ht_models.specs.Reading.{Reads};
+ghost use Rattle.ht_models.specs.Reading.{AreModels, Reads};
+ghost use Rattle.ht_models.specs.Refusals.{model_refusals};
 ghost use Rattle.ht_models.specs.Shown.{model_of};
 
-use crate::assigning::models_of;
+use crate::contradictions::first_contradicted;
 use crate::entries::entries_of;
-use crate::index::places_of;
+use crate::index::{check_known, places_of};
+use crate::limits::first_too_much;
+use crate::model_entry::ModelEntry;
+use crate::reading::models_of;
+use crate::sub_graph::{check_cycles, sub_graph};
+use crate::tree_sizes::TreeSizes;
 use crate::{Model, ModelsRefusal};
 use ht_base::Name;
 use ht_toml::document;
 use std::alloc::Global;
 use std::collections::BTreeMap;
 use std::marker;
-
-/// The most models that a text has.
-const MOST: usize = 256;
 
 /// The task models of an office, which have distinct names. A contract sees them as a list, in the
 /// order of the text.
@@ -46,22 +51,39 @@ impl marker::Model for Models {
 impl Models {
     /// The models of a TOML text, or the first cause for which the text is refused.
     ///
-    /// The text's one top key is `model`, an array of 1 to 256 tables. Each has a `name`, and may
-    /// have the people assignments `potentialOwners`, `excludedOwners`, `administrators` and
-    /// `stakeholders` (WS-HumanTask 1.1, 3.1), each a text that [`Assign::read`] reads.
+    /// The text's one top key is `model`, an array of 1 to 256 tables, whose keys docs/USING.md
+    /// lists. Each has a `name`. All its other keys may be missing. A text of an expression or an
+    /// assignment is one that [`Expr::read`] or [`Assign::read`] reads with the parts of the model.
     ///
+    /// [`Expr::read`]: ht_expr::Expr::read
     /// [`Assign::read`]: ht_expr::Assign::read
     pub fn read(alloc: Global, text: &[u8]) -> Result<Models, ModelsRefusal>
         ensures { Reads text.now result }
     {
         let document = document(alloc, text)?;
         let entries = entries_of(alloc, &document)?;
+        Models::of_entries(alloc, entries)
+    }
+
+    // What is told behind the expressions is looked up before them, since the entries become the
+    // models.
+    fn of_entries(alloc: Global, entries: Vec<ModelEntry>) -> Result<Models, ModelsRefusal>
+        requires { 1 ≤ length entries.items }
+        ensures { text_reads.Reads ModelsRefusal.Memory (each_of entries.items model_refusals) (AreModels entries.items) result }
+    {
         let places = places_of(alloc, &entries)?;
-        let models = models_of(alloc, &entries)?;
-        if models.len() > MOST {
-            return Err(ModelsRefusal::Limit(0));
+        check_known(&places, &entries)?;
+        let graph = sub_graph(alloc, &places, &entries)?;
+        check_cycles(alloc, &graph)?;
+        let trees = TreeSizes::of(alloc, &graph)?;
+        let too_much = first_too_much(&entries, &trees);
+        let contradicted = first_contradicted(&places, &entries);
+        let models = models_of(alloc, entries, &trees)?;
+        match (too_much, contradicted) {
+            (Some(place), _) => Err(ModelsRefusal::Limit(place)),
+            (None, Some(place)) => Err(ModelsRefusal::Contradiction(place)),
+            (None, None) => Ok(Models { models, places }),
         }
-        Ok(Models { models, places })
     }
 
     /// The place of the model with this name, counted from 0, if there is one.
@@ -78,7 +100,7 @@ impl Models {
         requires { place < length self.now }
         ensures value { slice_get self.now place ≡ Some (model_of result.now) }
         ensures found { place_in result.now.name (names self.now) ≡ Some place }
-        ensures size { result.now.size ≡ 1 }
+        ensures size { (1 ≤ result.now.size) × (result.now.size ≤ 256) }
     {
         &self.models[place as usize]
     }
@@ -88,7 +110,7 @@ impl Models {
         ensures value { result ≡ length self.now }
         ensures some { 1 ≤ result }
         ensures few { result ≤ 256 }
-        ensures sizes { (place : ℕ) (m : ModelOf) → slice_get self.now place ≡ Some m → m.size ≡ 1 }
+        ensures sizes { (place : ℕ) (m : ModelOf) → slice_get self.now place ≡ Some m → (1 ≤ m.size) × (m.size ≤ 256) }
     {
         self.models.len() as u32
     }

@@ -1,3 +1,4 @@
+use ht_base::Memory;
 use ht_toml::DocumentFault;
 use std::alloc::{AllocError, AllocFailed};
 use thiserror::Error;
@@ -12,7 +13,8 @@ pub enum ModelsRefusal {
     /// A key that isn't known, a missing one that must be there, or a value of another shape.
     #[error("model {0}: a key or its value")]
     Field(usize),
-    /// An earlier model has this name.
+    /// An earlier model has this name, or two parts of one side, two sub entries, two deadlines or two
+    /// escalations of one deadline have one name.
     #[error("model {0}: a name that stands twice")]
     Twice(usize),
     /// The model names one that isn't in the text.
@@ -21,10 +23,12 @@ pub enum ModelsRefusal {
     /// The model reaches itself.
     #[error("model {0}: a cycle")]
     Cycle(usize),
-    /// A people assignment of the model is refused.
+    /// An expression or an assignment of the model is refused, or is of another kind.
     #[error("model {0}: an expression")]
     Expression(usize),
-    /// There are more than 256 models.
+    /// There are more than 256 models (at place 0), or the model has more than 8 inputs, outputs or
+    /// sub entries, 2 deadlines of one kind, 4 escalations of one deadline, 5 levels of sub tasks or
+    /// 256 tasks of its tree.
     #[error("model {0}: a limit")]
     Limit(usize),
     /// What the model says contradicts itself.
@@ -45,6 +49,17 @@ impl From<DocumentFault> for ModelsRefusal {
             DocumentFault::Syntax => ModelsRefusal::Syntax,
             DocumentFault::Memory => ModelsRefusal::Memory,
         }
+    }
+}
+
+impl From<Memory> for ModelsRefusal {
+    ghost use Rattle.std.specs.Prelude.{◌≡◌};
+    ghost use Rattle.ht_models.specs.declared.refusal.ModelsRefusal.TheVariants as refusal;
+
+    ghost from_gives = { λ _ told. told ≡ refusal.Memory };
+
+    fn from(_memory: Memory) -> ModelsRefusal {
+        ModelsRefusal::Memory
     }
 }
 

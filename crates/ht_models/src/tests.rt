@@ -1,6 +1,10 @@
-use crate::{Models, ModelsRefusal, a_models_text_has_one_answer, built_in_text_reads, instant};
-use ht_base::{Moment, Name};
+use crate::{
+    Composition, DeadlineKind, Delegation, Models, ModelsRefusal, Trigger,
+    a_models_text_has_one_answer, built_in_text_reads, instant,
+};
+use ht_base::{How, Kind, Moment, Name};
 use ht_expr::Assign;
+use ht_samples::MODELS;
 use std::alloc::{AllocError, Global};
 use std::process::Abort;
 use std::test::Fail;
@@ -46,7 +50,116 @@ fn one_model_is_read(rt: HostRuntime) -> Result<(), Fail> {
             .is_some_and(|a| is_user(a, "cora"))
     );
     assert!(rt; shut.stakeholders.is_none());
+    assert!(rt; shut.priority.is_none());
+    assert!(rt; !shut.skipable);
+    assert!(rt; shut.owner_required);
+    assert_eq!(rt; shut.delegation, Delegation::Anybody);
+    assert_eq!(rt; shut.composition, Composition::Sequential);
+    assert_eq!(rt; shut.instantiation, Trigger::Manual);
+    assert_eq!(rt; shut.completion, Trigger::Manual);
     assert_eq!(rt; shut.size, 1);
+    Ok(())
+}
+
+const WHOLE: &str = "
+[[model]]
+name = \"child\"
+[[model.input]]
+name = \"about\"
+kind = \"text\"
+[[model]]
+name = \"whole\"
+priority = \"if in.urgent then 1 else 7\"
+skipable = true
+delegation = \"other\"
+delegatees = \"user('ben')\"
+potentialOwners = \"everybody\"
+composition = \"parallel\"
+instantiation = \"automatic\"
+completion = \"automatic\"
+input = [{name = \"urgent\", kind = \"bool\", optional = true}, {name = \"topic\", kind = \"text\"}]
+output = [{name = \"sum\", kind = \"int\"}]
+sub = [{name = \"x\", model = \"child\", input = {about = \"topic\"}}]
+[[model.deadline]]
+name = \"one\"
+kind = \"completion\"
+for = \"PT10S\"
+escalation = [{name = \"tell\", when = \"priority < 3\", notify = \"initiator\"}, {name = \"move\", reassign = \"user('cora')\"}]
+[[model.deadline]]
+name = \"two\"
+kind = \"start\"
+at = \"2026-03-02T09:00:00Z\"
+[[model.finish]]
+when = \"done() > 0\"
+set = [{part = \"sum\", from = \"n\", with = \"sum\"}]
+";
+
+#[test]
+fn every_key_is_read(rt: HostRuntime) -> Result<(), Fail> {
+    let models = Models::read(rt.alloc(), WHOLE.as_bytes())?;
+    let whole = models.model(1);
+    assert!(rt; whole.priority.is_some());
+    assert!(rt; whole.skipable);
+    assert_eq!(rt; whole.delegation, Delegation::Other);
+    assert!(rt; whole.delegatees.as_ref().is_some_and(|a| is_user(a, "ben")));
+    assert_eq!(rt; whole.composition, Composition::Parallel);
+    assert_eq!(rt; whole.instantiation, Trigger::Automatic);
+    assert_eq!(rt; whole.completion, Trigger::Automatic);
+    let urgent = whole.input.first().ok_or("a part")?;
+    assert!(rt; urgent.name == name("urgent")? && urgent.optional);
+    assert_eq!(rt; urgent.kind, Kind::Truth);
+    assert_eq!(rt; whole.output.first().ok_or("a part")?.kind, Kind::Int);
+    let sub = whole.subs.first().ok_or("a sub entry")?;
+    assert!(rt; sub.name == name("x")? && sub.model == name("child")?);
+    let (theirs, ours) = sub.input.first().ok_or("a pair")?;
+    assert!(rt; theirs.0 == name("about")? && ours.0 == name("topic")?);
+    assert_eq!(rt; whole.size, 2);
+    let finish = whole.finishes.first().ok_or("a finish")?;
+    assert!(rt; finish.when.is_some());
+    let setting = finish.settings.first().ok_or("a setting")?;
+    assert!(rt; setting.part == name("sum")? && setting.from == name("n")?);
+    assert!(rt; matches!(&setting.how, How::Sum));
+    Ok(())
+}
+
+#[test]
+fn deadlines_are_read(rt: HostRuntime) -> Result<(), Fail> {
+    let models = Models::read(rt.alloc(), WHOLE.as_bytes())?;
+    let deadlines = &models.model(1).deadlines;
+    let one = deadlines.first().ok_or("a deadline")?;
+    assert!(rt; one.name == name("one")?);
+    assert_eq!(rt; one.kind, DeadlineKind::Completion);
+    assert_eq!(rt; one.period, Some(10_000));
+    let tell = one.escalations.first().ok_or("an escalation")?;
+    assert!(rt; tell.name == name("tell")? && tell.when.is_some() && tell.reassign.is_none());
+    assert!(rt; matches!(&tell.notify, Some(Assign::Initiator)));
+    let moves = one.escalations.get(1).ok_or("an escalation")?;
+    assert!(rt; moves.when.is_none() && moves.notify.is_none());
+    assert!(rt; moves.reassign.as_ref().is_some_and(|a| is_user(a, "cora")));
+    let two = deadlines.get(1).ok_or("a deadline")?;
+    assert_eq!(rt; two.kind, DeadlineKind::Start);
+    assert_eq!(rt; two.at, Some(Moment(1_772_442_000_000)));
+    assert!(rt; two.part.is_none() && two.escalations.is_empty());
+    Ok(())
+}
+
+#[test]
+fn the_models_of_an_office_are_read(rt: HostRuntime) -> Result<(), Fail> {
+    let models = Models::read(rt.alloc(), MODELS.as_bytes())?;
+    assert_eq!(rt; models.count(), 10);
+    let table = [
+        ("unit", 1),
+        ("both", 3),
+        ("seq", 3),
+        ("ballot", 1),
+        ("vote", 4),
+        ("timed", 1),
+        ("late", 1),
+    ];
+    for (model, size) in table {
+        let place = models.find(name(model)?).ok_or(model)?;
+        assert_eq!(rt; models.model(place).size, size, "{model}");
+    }
     Ok(())
 }
 
@@ -125,66 +238,6 @@ fn documents_of_another_shape_are_refused(rt: HostRuntime) {
 }
 
 #[test]
-fn models_of_another_shape_are_refused(rt: HostRuntime) {
-    let table = [
-        ("model = [1, {name = 'a'}]", ModelsRefusal::Field(0)),
-        ("model = [{name = 'a'}, 1]", ModelsRefusal::Field(1)),
-        ("model = [{name = 'a'}, {}]", ModelsRefusal::Field(1)),
-        ("model = [{name = 1}]", ModelsRefusal::Field(0)),
-        (
-            "model = [{name = 'a'}, {name = 'a b'}]",
-            ModelsRefusal::Field(1),
-        ),
-        ("model = [{name = ''}]", ModelsRefusal::Field(0)),
-        (
-            "model = [{name = 'a', potentialOwners = true}]",
-            ModelsRefusal::Field(0),
-        ),
-        (
-            "model = [{name = 'a'}, {name = 'b', excludedOwners = ['nobody']}]",
-            ModelsRefusal::Field(1),
-        ),
-        (
-            "model = [{name = 'a', administrators = {}}]",
-            ModelsRefusal::Field(0),
-        ),
-        (
-            "model = [{name = 'a'}, {name = 'b', stakeholders = 1}]",
-            ModelsRefusal::Field(1),
-        ),
-        (
-            "model = [{name = 'a'}, {name = 'b', Name = 'b'}]",
-            ModelsRefusal::Field(1),
-        ),
-    ];
-    are_refused(&rt, rt.alloc(), &table);
-}
-
-#[test]
-fn keys_that_are_not_read_yet_are_refused(rt: HostRuntime) -> Result<(), Fail> {
-    let keys = [
-        "priority",
-        "skipable",
-        "ownerRequired",
-        "delegation",
-        "delegatees",
-        "composition",
-        "instantiation",
-        "completion",
-        "input",
-        "output",
-        "sub",
-        "deadline",
-        "finish",
-    ];
-    for key in keys {
-        let text = format!(in rt.alloc(); "model = [{{name = 'a'}}, {{name = 'b', {key} = '5'}}]")?;
-        are_refused(&rt, rt.alloc(), &[(text.as_str(), ModelsRefusal::Field(1))]);
-    }
-    Ok(())
-}
-
-#[test]
 fn repeated_names_are_refused(rt: HostRuntime) {
     let table = [
         (
@@ -199,33 +252,7 @@ fn repeated_names_are_refused(rt: HostRuntime) {
     are_refused(&rt, rt.alloc(), &table);
 }
 
-#[test]
-fn texts_that_are_no_assignments_are_refused(rt: HostRuntime) {
-    let table = [
-        (
-            "model = [{name = 'a', potentialOwners = ''}]",
-            ModelsRefusal::Expression(0),
-        ),
-        (
-            "model = [{name = 'a'}, {name = 'b', excludedOwners = 'anna'}]",
-            ModelsRefusal::Expression(1),
-        ),
-        (
-            "model = [{name = 'a', administrators = 'user(cora)'}]",
-            ModelsRefusal::Expression(0),
-        ),
-        (
-            "model = [{name = 'a'}, {name = 'b', stakeholders = 'in.boss'}]",
-            ModelsRefusal::Expression(1),
-        ),
-        (
-            "model = [{name = 'a'}, {name = 'b', stakeholders = 'union(nobody, when(true, nobody, in.boss))'}]",
-            ModelsRefusal::Expression(1),
-        ),
-    ];
-    are_refused(&rt, rt.alloc(), &table);
-}
-
+// Two faults of two numbers at two places, both ways round.
 #[test]
 fn the_first_refusal_is_told(rt: HostRuntime) {
     let table = [
@@ -234,19 +261,78 @@ fn the_first_refusal_is_told(rt: HostRuntime) {
             ModelsRefusal::Field(2),
         ),
         (
-            "model = [{name = 'a', stakeholders = '?'}, {name = 'a'}]",
+            "model = [{name = 'b', sub = 1}, {name = 'a'}, {name = 'a'}]",
+            ModelsRefusal::Field(0),
+        ),
+        (
+            "model = [{name = 'b', sub = [{name = 'x', model = 'c'}]}, {name = 'a'}, {name = 'a'}]",
+            ModelsRefusal::Twice(2),
+        ),
+        (
+            "model = [{name = 'a'}, {name = 'a'}, {name = 'b', sub = [{name = 'x', model = 'c'}]}]",
             ModelsRefusal::Twice(1),
+        ),
+        (
+            "model = [{name = 'a', sub = [{name = 'x', model = 'a'}]}, {name = 'b', sub = [{name = 'x', model = 'c'}]}]",
+            ModelsRefusal::UnknownModel(1),
+        ),
+        (
+            "model = [{name = 'b', sub = [{name = 'x', model = 'c'}]}, {name = 'a', sub = [{name = 'x', model = 'a'}]}]",
+            ModelsRefusal::UnknownModel(0),
+        ),
+        (
+            "model = [{name = 'b', stakeholders = '?'}, {name = 'a', sub = [{name = 'x', model = 'a'}]}]",
+            ModelsRefusal::Cycle(1),
+        ),
+        (
+            "model = [{name = 'a', sub = [{name = 'x', model = 'a'}]}, {name = 'b', stakeholders = '?'}]",
+            ModelsRefusal::Cycle(0),
+        ),
+        (
+            "model = [{name = 'a', finish = [{}, {}]}, {name = 'b', stakeholders = '?'}]",
+            ModelsRefusal::Expression(1),
+        ),
+        (
+            "model = [{name = 'b', stakeholders = '?'}, {name = 'a', finish = [{}, {}]}]",
+            ModelsRefusal::Expression(0),
         ),
         (
             "model = [{name = 'a'}, {name = 'b', stakeholders = '?'}, {name = 'c', potentialOwners = '?'}]",
             ModelsRefusal::Expression(1),
         ),
-        (
-            "model = [{name = 'a', stakeholders = '?'}, {name = 'b', priority = 1}, {}]",
-            ModelsRefusal::Field(1),
-        ),
     ];
     are_refused(&rt, rt.alloc(), &table);
+}
+
+// Three deadlines of one kind, which is one too many.
+const LATE: &str =
+    "deadline = [{name = 'a', kind = 'start', for = 'PT1S'}, {name = 'b', kind = 'start', for = 'PT1S'}, {name = 'c', kind = 'start', for = 'PT1S'}]";
+
+#[test]
+fn a_limit_is_told_between_expressions_and_contradictions(rt: HostRuntime) -> Result<(), Fail> {
+    let table = [
+        (
+            "stakeholders = '?'",
+            ModelsRefusal::Expression(1),
+            ModelsRefusal::Expression(0),
+        ),
+        (
+            "finish = [{}, {}]",
+            ModelsRefusal::Limit(0),
+            ModelsRefusal::Limit(1),
+        ),
+    ];
+    for (keys, behind, in_front) in table {
+        let text = format!(in rt.alloc();
+            "model = [{{name = 'a', {LATE}}}, {{name = 'b', {keys}}}]"
+        )?;
+        are_refused(&rt, rt.alloc(), &[(text.as_str(), behind)]);
+        let text = format!(in rt.alloc();
+            "model = [{{name = 'b', {keys}}}, {{name = 'a', {LATE}}}]"
+        )?;
+        are_refused(&rt, rt.alloc(), &[(text.as_str(), in_front)]);
+    }
+    Ok(())
 }
 
 /// As many models, and behind them some text.

@@ -3,6 +3,7 @@ use ht_base::{Bytes, Txt};
 use ht_outside::{MemorySink, MemorySource, MemoryTexts};
 use ht_samples::PEOPLE;
 use std::alloc::Global;
+use std::process::Abort;
 use std::test::Fail;
 
 // What a run of the program leaves.
@@ -122,155 +123,111 @@ fn a_task_is_created_claimed_and_shown(rt: HostRuntime) -> Result<(), Fail> {
     Ok(())
 }
 
+// The head in each line, with `|` for the end of a line, is answered so.
+fn are_answered(
+    rt: &impl Abort,
+    alloc: Global,
+    heads: &str,
+    line: &str,
+    text: &str,
+    close: bool,
+) -> Result<(), Fail> {
+    let want = reply(alloc, line, text, close)?;
+    for head in heads.lines() {
+        let lines = head.replace(alloc, "|", "\r\n")?;
+        let input = format!(in alloc; "{lines}\r\n\r\n")?;
+        let ran = run(alloc, input.as_str())?;
+        assert_eq!(rt; ran.status, Status(0), "{head:?}");
+        assert_eq!(rt; ran.output.written(), want.as_bytes(), "{head:?}");
+    }
+    Ok(())
+}
+
+const UNKNOWN_PERSONS: &str = "\
+POST /tasks HTTP/1.1
+POST /tasks HTTP/1.1|x-person: p16
+POST /tasks HTTP/1.1|x-person: a b
+POST /tasks HTTP/1.1|x-person: p1|x-person: p1
+GET /tasks/1 HTTP/1.1|x-person: anna
+GET /tasks/1 HTTP/1.1";
+
+const UNKNOWN_ROUTES: &str = "\
+POST /tasks/ HTTP/1.1|x-person: p1
+post /tasks HTTP/1.1|x-person: p1
+GET /tasks HTTP/1.1|x-person: p1
+GET /tasks/ HTTP/1.1|x-person: p1
+GET /tasks/0 HTTP/1.1|x-person: p1
+GET /tasks/01 HTTP/1.1|x-person: p1
+GET /tasks/+1 HTTP/1.1|x-person: p1
+GET /tasks/4294967296 HTTP/1.1|x-person: p1
+GET /tasks/1/claim HTTP/1.1|x-person: p1
+POST /tasks/1 HTTP/1.1|x-person: p1
+POST /tasks/1/claim/ HTTP/1.1|x-person: p1
+POST /tasks//claim HTTP/1.1|x-person: p1
+POST /tasks/1/start HTTP/1.1|x-person: p1";
+
 #[test]
 fn requests_are_answered_by_their_form(rt: HostRuntime) -> Result<(), Fail> {
     let ready = "{\"owner\":null,\"state\":\"Ready\",\"task\":1}";
     let route = "{\"fault\":\"Route\"}";
     let person = "{\"fault\":\"Person\"}";
     let task = "{\"fault\":\"Task\",\"task\":1}";
-    let table = [
-        (
-            "POST /tasks HTTP/1.1\r\nX-PERSON: p15",
-            "201 Created",
-            ready,
-            false,
-        ),
-        (
-            "POST /tasks HTTP/1.0\r\nx-person: p0",
-            "201 Created",
-            ready,
-            true,
-        ),
-        ("POST /tasks HTTP/1.1", "401 Unauthorized", person, false),
-        (
-            "POST /tasks HTTP/1.1\r\nx-person: p16",
-            "401 Unauthorized",
-            person,
-            false,
-        ),
-        (
-            "POST /tasks HTTP/1.1\r\nx-person: a b",
-            "401 Unauthorized",
-            person,
-            false,
-        ),
-        (
-            "POST /tasks HTTP/1.1\r\nx-person: p1\r\nx-person: p1",
-            "401 Unauthorized",
-            person,
-            false,
-        ),
-        (
-            "POST /tasks/1/claim HTTP/1.1\r\nx-person: p1",
-            "404 Not Found",
-            task,
-            false,
-        ),
-        (
-            "GET /tasks/1 HTTP/1.1\r\nx-person: p1",
-            "404 Not Found",
-            task,
-            false,
-        ),
-        (
-            "GET /tasks/1 HTTP/1.1\r\nx-person: anna",
-            "401 Unauthorized",
-            person,
-            false,
-        ),
-        ("GET /tasks/1 HTTP/1.1", "401 Unauthorized", person, false),
-        (
-            "POST /tasks/ HTTP/1.1\r\nx-person: p1",
-            "404 Not Found",
-            route,
-            false,
-        ),
-        (
-            "post /tasks HTTP/1.1\r\nx-person: p1",
-            "404 Not Found",
-            route,
-            false,
-        ),
-        (
-            "GET /tasks HTTP/1.1\r\nx-person: p1",
-            "404 Not Found",
-            route,
-            false,
-        ),
-        (
-            "GET /tasks/ HTTP/1.1\r\nx-person: p1",
-            "404 Not Found",
-            route,
-            false,
-        ),
-        (
-            "GET /tasks/0 HTTP/1.1\r\nx-person: p1",
-            "404 Not Found",
-            route,
-            false,
-        ),
-        (
-            "GET /tasks/01 HTTP/1.1\r\nx-person: p1",
-            "404 Not Found",
-            route,
-            false,
-        ),
-        (
-            "GET /tasks/+1 HTTP/1.1\r\nx-person: p1",
-            "404 Not Found",
-            route,
-            false,
-        ),
-        (
-            "GET /tasks/4294967296 HTTP/1.1\r\nx-person: p1",
-            "404 Not Found",
-            route,
-            false,
-        ),
-        (
-            "GET /tasks/1/claim HTTP/1.1\r\nx-person: p1",
-            "404 Not Found",
-            route,
-            false,
-        ),
-        (
-            "POST /tasks/1 HTTP/1.1\r\nx-person: p1",
-            "404 Not Found",
-            route,
-            false,
-        ),
-        (
-            "POST /tasks/1/claim/ HTTP/1.1\r\nx-person: p1",
-            "404 Not Found",
-            route,
-            false,
-        ),
-        (
-            "POST /tasks//claim HTTP/1.1\r\nx-person: p1",
-            "404 Not Found",
-            route,
-            false,
-        ),
-        (
-            "POST /tasks/1/start HTTP/1.1\r\nx-person: p1",
-            "404 Not Found",
-            route,
-            false,
-        ),
-        (
-            "GET / HTTP/1.1\r\nconnection: close",
-            "404 Not Found",
-            route,
-            true,
-        ),
-    ];
-    for (head, line, text, close) in table {
-        let input = format!(in rt.alloc(); "{head}\r\n\r\n")?;
-        let ran = run(rt.alloc(), input.as_str())?;
-        let want = reply(rt.alloc(), line, text, close)?;
-        assert_eq!(rt; ran.status, Status(0), "{head:?}");
-        assert_eq!(rt; ran.output.written(), want.as_bytes(), "{head:?}");
-    }
+    are_answered(
+        &rt,
+        rt.alloc(),
+        "POST /tasks HTTP/1.1|X-PERSON: p15",
+        "201 Created",
+        ready,
+        false,
+    )?;
+    are_answered(
+        &rt,
+        rt.alloc(),
+        "POST /tasks HTTP/1.0|x-person: p0",
+        "201 Created",
+        ready,
+        true,
+    )?;
+    are_answered(
+        &rt,
+        rt.alloc(),
+        UNKNOWN_PERSONS,
+        "401 Unauthorized",
+        person,
+        false,
+    )?;
+    are_answered(
+        &rt,
+        rt.alloc(),
+        "POST /tasks/1/claim HTTP/1.1|x-person: p1",
+        "404 Not Found",
+        task,
+        false,
+    )?;
+    are_answered(
+        &rt,
+        rt.alloc(),
+        "GET /tasks/1 HTTP/1.1|x-person: p1",
+        "404 Not Found",
+        task,
+        false,
+    )?;
+    are_answered(
+        &rt,
+        rt.alloc(),
+        UNKNOWN_ROUTES,
+        "404 Not Found",
+        route,
+        false,
+    )?;
+    are_answered(
+        &rt,
+        rt.alloc(),
+        "GET / HTTP/1.1|connection: close",
+        "404 Not Found",
+        route,
+        true,
+    )?;
     Ok(())
 }
 
@@ -323,21 +280,23 @@ fn an_empty_input_is_done(rt: HostRuntime) -> Result<(), Fail> {
     Ok(())
 }
 
+// One of the lines is empty: no words at all.
+const WRONG_WORDS: &str = "\
+run
+
+run --from 0
+run --from 0 --from 0
+run --from 0 --step 00
+run --from 0 --step +1
+run --from 0 --step 253402300800000
+run --from=0 --step=0
+run --from 0 --step 0 --limit 1048576
+serve --from 0 --step 0";
+
 #[test]
 fn wrong_words_are_told(rt: HostRuntime) -> Result<(), Fail> {
     let usage = "usage: office run, serve, check, load or export\n";
-    for line in [
-        "",
-        "run",
-        "run --from 0",
-        "run --from 0 --from 0",
-        "run --from 0 --step 00",
-        "run --from 0 --step +1",
-        "run --from 0 --step 253402300800000",
-        "run --from=0 --step=0",
-        "run --from 0 --step 0 --limit 1048576",
-        "serve --from 0 --step 0",
-    ] {
+    for line in WRONG_WORDS.lines() {
         let ran = run_with(rt.alloc(), line, CREATE, &[], &[])?;
         assert_eq!(rt; ran.status, Status(2), "{line:?}");
         assert_eq!(rt; ran.left, CREATE.len());
@@ -437,38 +396,48 @@ fn an_office_is_that_of_its_texts(rt: HostRuntime) -> Result<(), Fail> {
     Ok(())
 }
 
+// An office of these texts, where these reads of them fail, tells so with this status, and asks for
+// nothing.
+fn is_told(
+    rt: &impl Abort,
+    alloc: Global,
+    models: &str,
+    people: &str,
+    failing: &[u32],
+    status: u8,
+    line: &str,
+) -> Result<(), Fail> {
+    let office = Office {
+        texts: &[("m", models), ("p", people)],
+        failing,
+    };
+    let ran = run_office(alloc, WITH_TEXTS, &office, CREATE, &[], &[])?;
+    assert_eq!(rt; ran.status, Status(status), "{line:?}");
+    assert_eq!(rt; ran.complaints.written(), line.as_bytes());
+    assert_eq!(rt; ran.left, CREATE.len());
+    assert!(rt; ran.output.written().is_empty());
+    Ok(())
+}
+
 #[test]
 fn a_bad_text_is_told(rt: HostRuntime) -> Result<(), Fail> {
-    let long = "#".repeat(rt.alloc(), 262_145)?;
+    let alloc = rt.alloc();
+    let long = "#".repeat(alloc, 262_145)?;
     let long = long.as_str();
-    let circle = PEOPLE.replace(rt.alloc(), "\"ben\"]", "\"@clerks\"]")?;
+    let circle = PEOPLE.replace(alloc, "\"ben\"]", "\"@clerks\"]")?;
     let circle = circle.as_str();
     let key = "[[model]]\nname = \"a\"\n[[model]]\nname = \"b\"\ncolour = \"red\"\n";
-    let none: &[u32] = &[];
-    let table = [
-        (SHUT, PEOPLE, &[1u32] as &[u32], 3, "texts: m\n"),
-        (SHUT, PEOPLE, &[2u32], 3, "texts: p\n"),
-        (long, PEOPLE, none, 4, "models: TooLong\n"),
-        (SHUT, long, none, 4, "people: TooLong\n"),
-        ("[[", long, none, 4, "people: TooLong\n"),
-        (long, PEOPLE, &[2u32], 4, "models: TooLong\n"),
-        ("[[", "[[", none, 4, "models: Syntax\n"),
-        ("", PEOPLE, none, 4, "models: Field 0\n"),
-        (key, circle, none, 4, "models: Field 1\n"),
-        (SHUT, circle, none, 4, "people: Cycle 5\n"),
-        (SHUT, "[[", none, 4, "people: Syntax\n"),
-    ];
-    for (models, people, failing, status, line) in table {
-        let office = Office {
-            texts: &[("m", models), ("p", people)],
-            failing,
-        };
-        let ran = run_office(rt.alloc(), WITH_TEXTS, &office, CREATE, &[], &[])?;
-        assert_eq!(rt; ran.status, Status(status), "{line:?}");
-        assert_eq!(rt; ran.complaints.written(), line.as_bytes());
-        assert_eq!(rt; ran.left, CREATE.len());
-        assert!(rt; ran.output.written().is_empty());
-    }
+    is_told(&rt, alloc, SHUT, PEOPLE, &[1], 3, "texts: m\n")?;
+    is_told(&rt, alloc, SHUT, PEOPLE, &[2], 3, "texts: p\n")?;
+    is_told(&rt, alloc, long, PEOPLE, &[], 4, "models: TooLong\n")?;
+    is_told(&rt, alloc, SHUT, long, &[], 4, "people: TooLong\n")?;
+    is_told(&rt, alloc, "[[", long, &[], 4, "people: TooLong\n")?;
+    is_told(&rt, alloc, long, PEOPLE, &[2], 4, "models: TooLong\n")?;
+    is_told(&rt, alloc, "[[", "[[", &[], 4, "models: Syntax\n")?;
+    is_told(&rt, alloc, "", PEOPLE, &[], 4, "models: Field 0\n")?;
+    is_told(&rt, alloc, key, circle, &[], 4, "models: Field 1\n")?;
+    is_told(&rt, alloc, SHUT, circle, &[], 4, "people: Cycle 5\n")?;
+    is_told(&rt, alloc, SHUT, "[[", &[], 4, "people: Syntax\n")?;
     Ok(())
 }
 

@@ -1,5 +1,5 @@
 -- That the owner whom the potential owners give a task is a person, whom the state wants.
-use Rattle.std.proofs.Common.{◌≡◌, ℕ, ◌<◌, Bool, true, false, ◌||◌, List, [], ◌∷◌, IfSome, refl, sym, ap, eq-eqb}
+use Rattle.std.proofs.Common.{◌≡◌, ℕ, ◌<◌, false, ◌||◌, List, [], ◌∷◌, IfSome, refl, sym, ap, eq-eqb}
 use Rattle.ht_base.specs.declared.state.State.{State}
 use Rattle.ht_base.specs.Persons.{AllBelow}
 use Rattle.ht_tree.specs.Activation.{owner_by, state_by}

@@ -3,6 +3,7 @@ use Rattle.std.specs.Prelude.{◌≡◌, refl, ℕ, List, [], ◌∷◌, Some, N
 use Rattle.ht_base.specs.declared.moment.Moment.{Moment}
 use Rattle.ht_base.specs.declared.state.State.TheVariants.{Ready}
 use Rattle.ht_expr.specs.Assignments.{nobody, everybody, initiator, user, group, union, intersect, except}
+use Rattle.ht_models.specs.BuiltIn.{plain_model}
 use Rattle.ht_models.specs.Model.{ModelOf}
 use Rattle.ht_people.specs.declared.entries.PersonEntry.{PersonEntry}
 use Rattle.ht_people.specs.Directory.{DirectoryOf}
@@ -73,13 +74,10 @@ one_excluded = refl
 -- ---- a new task
 
 abbrev pub shut : ModelOf
-shut = record {
-  name = codes "shut";
+shut = record (plain_model (codes "shut")) {
   potential_owners = user (codes "anna");
   excluded_owners = user (codes "anna");
   administrators = Some (user (codes "cora"));
-  stakeholders = None;
-  size = 1;
 }
 
 abbrev pub unit : ModelOf

@@ -230,29 +230,26 @@ fn an_environment_is_that_of_a_row(rt: HostRuntime) -> Result<(), Fail> {
     Ok(())
 }
 
+// In each line an assignment stands before whom it finds.
+const FOUND: &str = "\
+nobody => []
+everybody => [Person(0), Person(1), Person(2), Person(3), Person(4)]
+initiator => [Person(3)]
+user('cora') => [Person(2)]
+user('no one') => []
+union(user('dan'), group('clerks')) => [Person(0), Person(1), Person(3)]
+intersect(everybody, user('ben')) => [Person(1)]
+except(group('clerks'), user('anna')) => [Person(1)]";
+
 #[test]
 fn assignments_find_persons(rt: HostRuntime) -> Result<(), Fail> {
     let mut tables = tables(rt.alloc())?;
     created(&rt, rt.alloc(), &mut tables, UNIT)?;
-    let table: [(&str, &[Person]); 8] = [
-        ("nobody", &[]),
-        (
-            "everybody",
-            &[Person(0), Person(1), Person(2), Person(3), Person(4)],
-        ),
-        ("initiator", &[Person(3)]),
-        ("user('cora')", &[Person(2)]),
-        ("user('no one')", &[]),
-        (
-            "union(user('dan'), group('clerks'))",
-            &[Person(0), Person(1), Person(3)],
-        ),
-        ("intersect(everybody, user('ben'))", &[Person(1)]),
-        ("except(group('clerks'), user('anna'))", &[Person(1)]),
-    ];
-    for (text, persons) in table {
+    for line in FOUND.lines() {
+        let (text, persons) = line.split_once(" => ").ok_or("an assignment and persons")?;
         let found = found(rt.alloc(), &tables, text)?;
-        assert_eq!(rt; found.as_slice(), persons, "{text}");
+        let found = format!(in rt.alloc(); "{:?}", found.as_slice())?;
+        assert_eq!(rt; found.as_str(), persons, "{text}");
     }
     Ok(())
 }

@@ -1,5 +1,5 @@
 use Rattle.std.proofs.Common.{◌≡◌, take}
-use Rattle.ht_models.specs.Refusals.{names_of}
+use Rattle.ht_models.specs.SubTrees.{names_of}
 use Rattle.ht_models.proofs.index.names_of.Given as goal
 
 abbrev pub invariant-loop-entry : goal.invariant-loop-entry

@@ -1,6 +1,6 @@
 use Rattle.std.proofs.Common.{◌≡◌, ◌+◌, ◌*◌, ◌∙◌, sym, ap, Some, refl}
-use Rattle.ht_models.specs.Instants.{IsInstant, moment_of}
-use Rattle.ht_models.proofs.InstantTexts.{unmarked, day_is_cut, time_is_cut, moment_is_cut, parts_of, parts_are_instant}
+use Rattle.ht_models.specs.Instants.{IsInstant, moment_of, parts_of}
+use Rattle.ht_models.proofs.InstantTexts.{unmarked, day_is_cut, time_is_cut, moment_is_cut, parts_are_instant}
 use Rattle.ht_models.proofs.Days.{counts}
 use Rattle.ht_models.proofs.instants.instant.Goals as goal
 

@@ -49,14 +49,14 @@ returns-clause-sound c = λ none early soon sound.
     let known : model_at t c.args.model ≡ Some m = ap (λ (ms : List ModelOf). slice_get ms c.args.model) (sym c.models.ensures.value) ∙ c.model.ensures.value in
     let is : row ≡ new_row u m c.args.model c.args.parent c.args.initiator c.args.input c.args.waits c.args.at = rw known at c.in_ok-row.ensures in
     let top : row ≡ new_row u m c.args.model None c.args.initiator c.args.input c.args.waits c.args.at = is ∙ ap (λ (p : Option (TaskId × ℕ)). new_row u m c.args.model p c.args.initiator c.args.input c.args.waits c.args.at) none in
-    let size : top_size t.models row ≡ 1 = ap (λ (r : Row). top_size t.models r) top ∙ ap (λ (o : Option ModelOf). option_map_or (λ (x : ModelOf). x.size) o 0) known ∙ c.model.ensures.size in
-    let room : total_size t.models u.rows + 1 ≤ most_tasks =
+    let size : top_size t.models row ≡ m.size = ap (λ (r : Row). top_size t.models r) top ∙ ap (λ (o : Option ModelOf). option_map_or (λ (x : ModelOf). x.size) o 0) known in
+    let some : 1 ≤ m.size = c.model.ensures.size.0 in
+    let room : total_size t.models u.rows + m.size ≤ most_tasks =
     elim c.else-is_none.branch [
       | else-is_none-via-then-is_none+else-size-gt-MOST_TASKS w ↦
           let value = w.size.ensures.value in
           let most = w.if-size-gt-MOST_TASKS.false in
           let one = c.from-size.ensures in
-          let single = c.model.ensures.size in
           omega arith
       | else-is_none-via-else-is_none w ↦ absurd (not_both c.args.parent none w.if-is_none.ensures)
     ] in

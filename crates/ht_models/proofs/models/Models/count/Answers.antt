@@ -1,5 +1,5 @@
-use Rattle.ht_models.proofs.Lookups.{single_there}
+use Rattle.ht_models.proofs.Lookups.{sized_there}
 use Rattle.ht_models.proofs.models.Models.count.Goals as goal
 
 pub returns-clause-sizes : goal.returns-clause-sizes
-returns-clause-sizes c = single_there c.self.inside c.args.self.now c.self.invariant c.self.view_is
+returns-clause-sizes c = sized_there c.self.inside c.args.self.now c.self.invariant c.self.view_is

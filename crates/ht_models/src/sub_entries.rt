@@ -1,0 +1,52 @@
+use crate::label::Label;
+use ht_base::Name;
+use ht_toml::{Misfit, Shape, TableShape, has_only, pairs_at, required, table_shape};
+use std::alloc::{AllocError, Global};
+use std::marker::Model;
+use toml::{Table, Value};
+
+/// A sub entry of a model: a sub task that its tasks may have.
+#[derive(Debug, Drop)]
+pub struct SubEntry {
+    pub name: Name,
+    /// The model of the sub task.
+    pub model: Name,
+    /// Input parts of the sub task, each beside the input part of the composite task from which it
+    /// takes its value.
+    pub input: Vec<(Label, Label)>,
+}
+
+impl Model for SubEntry {
+    ghost use Rattle.ht_models.specs.SubEntries.{SubEntry as Is, sub_entry};
+
+    ghost Value = { Is };
+
+    ghost view = { λ s. sub_entry s.name s.model s.input.items };
+}
+
+impl Shape for SubEntry {
+    ghost use Rattle.ht_models.specs.SubEntries.{sub_of};
+
+    ghost of = { sub_of };
+
+    fn read(alloc: Global, value: &Value) -> Result<Option<SubEntry>, AllocError> {
+        table_shape(alloc, value)
+    }
+}
+
+impl TableShape for SubEntry {
+    ghost use Rattle.ht_models.specs.SubEntries.{sub_in};
+
+    ghost in_table = { sub_in };
+
+    fn read_table(alloc: Global, table: &Table) -> Result<SubEntry, Misfit> {
+        if !has_only(table, &["name", "model", "input"]) {
+            return Err(Misfit::Shape);
+        }
+        Ok(SubEntry {
+            name: required::<Label>(alloc, table, "name")?.0,
+            model: required(alloc, table, "model")?,
+            input: pairs_at(alloc, table, "input")?,
+        })
+    }
+}
