@@ -1,4 +1,5 @@
 use crate::{Models, ModelsRefusal};
+use ht_base::Name;
 use std::alloc::{AllocError, Global};
 use std::process::Abort;
 use std::test::Fail;
@@ -252,11 +253,19 @@ fn chain(alloc: Global, subs: &[u32]) -> Result<String, AllocError> {
     Ok(text)
 }
 
+/// The tasks of the tree of the model with this name.
+fn size(models: &Models, name: &str) -> Result<u32, Fail> {
+    let name = Name::of(name.as_bytes()).ok_or("a name")?;
+    let place = models.find(name).ok_or("a model")?;
+    Ok(models.model(place).size)
+}
+
 #[test]
 fn a_tree_has_so_many_levels_and_tasks(rt: HostRuntime) -> Result<(), Fail> {
     let alloc = rt.alloc();
     let five = chain(alloc, &[1, 1, 1, 1, 0])?;
-    assert_eq!(rt; Models::read(alloc, five.as_bytes())?.model(0).size, 5);
+    let models = Models::read(alloc, five.as_bytes())?;
+    assert_eq!(rt; size(&models, "m0")?, 5);
     let six = chain(alloc, &[1, 1, 1, 1, 1, 0])?;
     assert_eq!(rt;
         Models::read(alloc, six.as_bytes()).err(),
@@ -264,9 +273,9 @@ fn a_tree_has_so_many_levels_and_tasks(rt: HostRuntime) -> Result<(), Fail> {
     );
     let most = chain(alloc, &[3, 4, 4, 4, 0])?;
     let models = Models::read(alloc, most.as_bytes())?;
-    assert_eq!(rt; models.model(0).size, 256);
-    assert_eq!(rt; models.model(1).size, 85);
-    assert_eq!(rt; models.model(4).size, 1);
+    assert_eq!(rt; size(&models, "m0")?, 256);
+    assert_eq!(rt; size(&models, "m1")?, 85);
+    assert_eq!(rt; size(&models, "m4")?, 1);
     let more = chain(alloc, &[4, 3, 4, 4, 0])?;
     assert_eq!(rt;
         Models::read(alloc, more.as_bytes()).err(),

@@ -97,7 +97,8 @@ set = [{part = \"sum\", from = \"n\", with = \"sum\"}]
 #[test]
 fn every_key_is_read(rt: HostRuntime) -> Result<(), Fail> {
     let models = Models::read(rt.alloc(), WHOLE.as_bytes())?;
-    let whole = models.model(1);
+    let place = models.find(name("whole")?).ok_or("a model")?;
+    let whole = models.model(place);
     assert!(rt; whole.priority.is_some());
     assert!(rt; whole.skipable);
     assert_eq!(rt; whole.delegation, Delegation::Other);
@@ -125,7 +126,8 @@ fn every_key_is_read(rt: HostRuntime) -> Result<(), Fail> {
 #[test]
 fn deadlines_are_read(rt: HostRuntime) -> Result<(), Fail> {
     let models = Models::read(rt.alloc(), WHOLE.as_bytes())?;
-    let deadlines = &models.model(1).deadlines;
+    let place = models.find(name("whole")?).ok_or("a model")?;
+    let deadlines = &models.model(place).deadlines;
     let one = deadlines.first().ok_or("a deadline")?;
     assert!(rt; one.name == name("one")?);
     assert_eq!(rt; one.kind, DeadlineKind::Completion);
@@ -232,6 +234,21 @@ fn documents_of_another_shape_are_refused(rt: HostRuntime) {
         (
             "model = [{name = 'a'}, 1]\nperson = []\n",
             ModelsRefusal::Field(0),
+        ),
+    ];
+    are_refused(&rt, rt.alloc(), &table);
+}
+
+#[test]
+fn a_model_has_a_name(rt: HostRuntime) {
+    let table = [
+        ("model = [1, {name = 'a'}]", ModelsRefusal::Field(0)),
+        ("model = [{name = 'a'}, {}]", ModelsRefusal::Field(1)),
+        ("model = [{name = 1}]", ModelsRefusal::Field(0)),
+        ("model = [{name = 'a b'}]", ModelsRefusal::Field(0)),
+        (
+            "model = [{name = 'a'}, {name = ''}]",
+            ModelsRefusal::Field(1),
         ),
     ];
     are_refused(&rt, rt.alloc(), &table);

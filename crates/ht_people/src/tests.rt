@@ -273,9 +273,11 @@ fn grouped(alloc: Global, groups: &str) -> Result<String, AllocError> {
     let mut text = String::new(alloc);
     for (place, members) in groups.split(" | ").enumerate() {
         write!(text, "[[group]]\nname = \"g{place}\"\nmembers = [")?;
-        for member in members.split(' ') {
+        for member in members.split(" ") {
             if member != "-" {
-                write!(text, "\"@g{member}\", ")?;
+                text.push_str("\"@g")?;
+                text.push_str(member)?;
+                text.push_str("\", ")?;
             }
         }
         text.push_str("]\n")?;
