@@ -12,8 +12,8 @@ use Rattle.ht_people.specs.Membership.{is_member}
 abbrev pub find_user : List ℕ → DirectoryOf → Option ℕ
 find_user text d = option_and_then (λ name. find name d) (name_of text)
 
--- The person is found, for a task with this initiator. No model that was read has an assignment with
--- a part or a `when`; the other trees are expressions, and find nobody.
+-- The person is found, for a task with this initiator. A part and `when` find nobody yet; the other trees
+-- are expressions, and find nobody.
 abbrev pub is_found : DirectoryOf → ℕ → Assignment → ℕ → Bool
 is_found d creator nobody person = false
 is_found d creator everybody person = true

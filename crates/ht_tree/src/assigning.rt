@@ -46,8 +46,8 @@ pub fn resolve(
     found(alloc, tables.people(), row.initiator, assign)
 }
 
-/// The persons of the directory whom an assignment finds for a task of this initiator. No assignment that
-/// a model has looks at more yet.
+/// The persons of the directory whom an assignment finds for a task of this initiator. An input and `when`
+/// find nobody yet.
 pub(crate) fn found(
     alloc: Global,
     people: &Directory,
@@ -59,7 +59,7 @@ pub(crate) fn found(
 {
     match assign {
         Assign::Nobody => Ok(Persons::new(alloc)),
-        // No model that was read has one of these: they come with inputs and values.
+        // These find nobody yet: they come with inputs and values.
         Assign::In(_) => Ok(Persons::new(alloc)),
         Assign::When(_, _, _) => Ok(Persons::new(alloc)),
         Assign::Everybody => everybody(alloc, people),
