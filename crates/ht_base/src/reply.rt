@@ -25,6 +25,8 @@ pub enum Refusal {
     /// The operation is not allowed in the task's state, but in the allowed ones.
     State { allowed: StateSet, state: State },
     Unknown(Unknown),
+    /// An input part that the task must have isn't given.
+    PartRefused(Name),
     Limit(Limit),
     /// There is not enough memory. Nothing was changed.
     Memory,

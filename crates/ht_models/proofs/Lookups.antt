@@ -12,6 +12,7 @@ use Rattle.ht_base.specs.Places.{place_in}
 use Rattle.ht_models.specs.declared.model.Model.{Model}
 use Rattle.ht_models.specs.declared.models.Models.TheInside.{Inside}
 use Rattle.ht_models.specs.Kept.{IsKept, kept_names}
+use Rattle.ht_models.specs.Kinded.{IsKinded}
 use Rattle.ht_models.specs.Model.{ModelOf, names}
 use Rattle.ht_models.specs.Shown.{model_of}
 
@@ -52,6 +53,13 @@ found_there m models i one kept view within is =
     let there : slice_get (kept_names m) i ≡ Some one.name = slice_get-map (λ (m : Model). m.name) m.models.items i ∙ ap (option_map (λ (m : Model). m.name)) at in
     let own = own_place one.name (kept_names m) i there (kept.distinct i) in
     rw (← view, names-map) own
+
+-- its expressions speak of its parts
+pub kinded_there : (m : Inside) (models : List ModelOf) (i : ℕ) (one : Model) → IsKept m → map model_of m.models.items ≡ models → i < length models → one ≡ get_or m.models.items i one → IsKinded one
+kinded_there m models i one kept view within is =
+    let long = ap (λ (ms : List ModelOf). length ms) view in
+    let same = length-map m.models.items model_of in
+    subst IsKinded (sym is) (kept.kinds i one (omega arith))
 
 -- each model is a tree of 1 to 256 tasks
 abbrev IsSized : ℕ → Type 0

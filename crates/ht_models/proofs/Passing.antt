@@ -17,6 +17,7 @@ use Rattle.ht_models.specs.declared.models.Models.TheInside.{Inside}
 use Rattle.ht_models.specs.declared.refusal.ModelsRefusal.{ModelsRefusal}
 use Rattle.ht_models.specs.declared.refusal.ModelsRefusal.TheVariants.{Field, UnknownModel, Cycle, Expression, Limit, Contradiction, Memory}
 use Rattle.ht_models.specs.Kept.{IsKept, kept_names}
+use Rattle.ht_models.specs.Kinded.{IsKinded}
 use Rattle.ht_models.specs.Model.{ModelOf}
 use Rattle.ht_models.specs.ModelEntries.{ModelEntry}
 use Rattle.ht_models.specs.ModelsText.{IsMisshapen, IsModelsText, models_text}
@@ -128,8 +129,8 @@ sizes_kept t ms limit are place d within =
     let small = small_tree t limit place low in
     (omega arith, omega arith)
 
-pub kept : (t : List ModelEntry) (m : Inside) → 1 ≤ length t → Never t IsTooMuch → Never t IsTwice → AreModels t (map model_of m.models.items) → IsIndex m.places (names_of t) → IsKept m
-kept t m some limit twice models index =
+pub kept : (t : List ModelEntry) (m : Inside) → 1 ≤ length t → Never t IsTooMuch → Never t IsTwice → AreModels t (map model_of m.models.items) → All IsKinded m.models.items → IsIndex m.places (names_of t) → IsKept m
+kept t m some limit twice models kinds index =
     let are = models.each in
     let few = few_models t limit in
     let names : names_of t ≡ kept_names m = same_names t m.models.items are in
@@ -138,6 +139,7 @@ kept t m some limit twice models index =
       index = rw (← names) index;
       distinct = rw (← names) (λ place repeated. twice place (inl repeated));
       sizes = sizes_kept t m.models.items limit models;
+      kinds = kinds;
       some = omega arith;
       few = omega arith;
     }

@@ -1,5 +1,5 @@
 -- What reading a text as an expression or an assignment says of the text.
-use Rattle.std.proofs.Common.{◌≡◌, ◌≢◌, ℕ, List, Option, None, Some, ap, sym, ◌∙◌, refl, Ok, Err, Result, true, false, inl, inr, IfErr, option_map}
+use Rattle.std.proofs.Common.{◌≡◌, ◌≢◌, ℕ, List, Option, None, Some, ap, sym, ◌∙◌, refl, Ok, Err, Result, true, false, inl, inr, IfErr, IfOk, option_map}
 use Rattle.std.proofs.lemmas.Bool.{both_ways}
 use Rattle.ht_base.specs.declared.kind.Kind.{Kind}
 use Rattle.ht_base.specs.declared.kind.Kind.TheVariants.{Text, Int, Truth, Person, Instant}
@@ -7,13 +7,14 @@ use Rattle.ht_expr.specs.Kinds.{Declared}
 use Rattle.ht_expr.specs.KindTable.{kind_of, same_kind}
 use Rattle.ht_expr.specs.Nodes.{ExprOf}
 use Rattle.ht_expr.specs.Reading as expression_reads
-use Rattle.ht_expr.specs.Shown.{shown_answer}
+use Rattle.ht_expr.specs.Shown.{AreDeclared, shown_answer}
 use Rattle.ht_expr.specs.Trees.{Tree, an_assignment, an_expression}
 use Rattle.ht_expr.specs.declared.assignment.Assign.{Assign}
 use Rattle.ht_expr.specs.declared.refusal.ExprRefusal.{ExprRefusal}
 use Rattle.ht_expr.specs.declared.refusal.ExprRefusal.TheVariants as refusal
 use Rattle.ht_expr.proofs.PublicLaws.{one_written}
 use Rattle.ht_models.specs.Expressions.{Asked, IsRefused, One, Spells, asked, assignment, expression}
+use Rattle.ht_models.specs.Kinded.{Assigns}
 use Rattle.ht_models.specs.Reading.{IsIfAny, IsOr}
 use Rattle.ht_models.specs.Shown.{tree_or}
 
@@ -46,6 +47,20 @@ other_kind kinds kind found text tree reads is other x spells =
     let one : Some found ≡ Some kind = sym is ∙ ap (kind_of kinds) same ∙ spells.1 in
     let alike : kind ≡ found = cc in
     both_ways (same_kind kind found) other (sym (ap (same_kind kind) alike) ∙ same_itself kind)
+
+-- ---- what was read has its kinds
+
+pub assigns_read : (kinds : Declared) (text : List ℕ) (r : Result Assign ExprRefusal) → expression_reads.Reads kinds an_assignment text (shown_answer r) → IfOk r (AreDeclared kinds) → IfOk r (Assigns kinds)
+assigns_read kinds text (Ok a) reads declared = record { declared = declared; fits = reads.1 }
+assigns_read kinds text (Err e) reads declared = tt
+
+pub same_is : (kind found : Kind) → same_kind kind found ≡ true → found ≡ kind
+same_is Text Text is = refl
+same_is Int Int is = refl
+same_is Truth Truth is = refl
+same_is Person Person is = refl
+same_is Instant Instant is = refl
+same_is a b is = absurd (cc)
 
 -- ---- a text is one tree
 

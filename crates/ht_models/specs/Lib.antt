@@ -10,6 +10,7 @@ pub mod FaultExamples
 pub mod Finishes
 pub mod Instants
 pub mod Kept
+pub mod Kinded
 pub mod Labels
 pub mod Limits
 pub mod Model

@@ -1,7 +1,8 @@
-ghost use Rattle.std.specs.Prelude.{◌≡◌, ◌≢◌, IfErr, IfOk, option_map};
+ghost use Rattle.std.specs.Prelude.{◌≡◌, ◌≢◌, IfErr, IfOk, IfSome, option_map};
 ghost use Rattle.ht_expr.specs.Shown.{shown};
 ghost use Rattle.ht_expr.specs.Trees.{nobody};
 ghost use Rattle.ht_models.specs.Expressions.{IsRefused, One, Spells, asked, assignment, expression};
+ghost use Rattle.ht_models.specs.Kinded.{Assigns, IsOfKind};
 ghost use Rattle.ht_models.specs.Reading.{IsIfAny, IsOr};
 
 use crate::declaring::is_of_kind;
@@ -12,6 +13,7 @@ use std::alloc::Global;
 /// The assignment that a text is.
 fn assignment(alloc: Global, text: &Txt, kinds: &Kinds) -> Result<Assign, ExprRefusal>
     ensures ok { IfOk result (λ a. Spells kinds.now (assignment, text.now) (shown a)) }
+    ensures kinds { IfOk result (Assigns kinds.now) }
     ensures refused { IfErr result (λ e. e ≢ ExprRefusal.Memory → IsRefused kinds.now (assignment, text.now)) }
 {
     Assign::read(alloc, text.as_str(), kinds)
@@ -24,6 +26,7 @@ pub fn assignment_or_nobody(
     kinds: &Kinds,
 ) -> Result<Assign, ExprRefusal>
     ensures ok { IfOk result (λ a. IsOr kinds.now assignment nobody text.now (shown a)) }
+    ensures kinds { IfOk result (Assigns kinds.now) }
     ensures refused { IfErr result (λ e. e ≢ ExprRefusal.Memory → One (IsRefused kinds.now) (asked assignment text.now)) }
 {
     match text {
@@ -39,6 +42,7 @@ pub fn assignment_if_any(
     kinds: &Kinds,
 ) -> Result<Option<Assign>, ExprRefusal>
     ensures ok { IfOk result (λ a. IsIfAny kinds.now assignment text.now (option_map shown a)) }
+    ensures kinds { IfOk result (λ a. IfSome a (Assigns kinds.now)) }
     ensures refused { IfErr result (λ e. e ≢ ExprRefusal.Memory → One (IsRefused kinds.now) (asked assignment text.now)) }
 {
     match text {
@@ -50,6 +54,7 @@ pub fn assignment_if_any(
 /// The expression of this kind that a text is.
 fn expression(alloc: Global, kind: Kind, text: &Txt, kinds: &Kinds) -> Result<Expr, ExprRefusal>
     ensures ok { IfOk result (λ e. Spells kinds.now (expression kind, text.now) e.tree) }
+    ensures kinds { IfOk result (IsOfKind kinds.now kind) }
     ensures refused { IfErr result (λ e. e ≢ ExprRefusal.Memory → IsRefused kinds.now (expression kind, text.now)) }
 {
     let expression = Expr::read(alloc, text.as_str(), kinds)?;
@@ -68,6 +73,7 @@ pub fn expression_if_any(
     kinds: &Kinds,
 ) -> Result<Option<Expr>, ExprRefusal>
     ensures ok { IfOk result (λ x. IsIfAny kinds.now (expression kind) text.now (option_map (λ e. e.tree) x)) }
+    ensures kinds { IfOk result (λ x. IfSome x (IsOfKind kinds.now kind)) }
     ensures refused { IfErr result (λ e. e ≢ ExprRefusal.Memory → One (IsRefused kinds.now) (asked (expression kind) text.now)) }
 {
     match text {

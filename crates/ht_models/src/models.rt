@@ -2,6 +2,7 @@ ghost use Rattle.std.specs.Prelude.{◌≡◌, ◌≤◌, ◌<◌, ℕ, IfSome, 
 ghost use Rattle.ht_base.specs.Places.{place_in};
 ghost use Rattle.ht_toml.specs.Refusals as text_reads;
 ghost use Rattle.ht_toml.specs.Refusals.{each_of};
+ghost use Rattle.ht_models.specs.Kinded.{IsKinded};
 ghost use Rattle.ht_models.specs.Model.{ModelOf, names};
 ghost use Rattle.ht_models.specs.Reading.{AreModels, Reads};
 ghost use Rattle.ht_models.specs.Refusals.{model_refusals};
@@ -101,6 +102,7 @@ impl Models {
         ensures value { slice_get self.now place ≡ Some (model_of result.now) }
         ensures found { place_in result.now.name (names self.now) ≡ Some place }
         ensures size { (1 ≤ result.now.size) × (result.now.size ≤ 256) }
+        ensures kinds { IsKinded result.now }
     {
         &self.models[place as usize]
     }

@@ -1,7 +1,8 @@
-ghost use Rattle.std.specs.Prelude.{◌≡◌, ◌≢◌, ◌<◌, ℕ, IfErr, IfOk, Some, map, slice_get, slice_index_or};
+ghost use Rattle.std.specs.Prelude.{◌≡◌, ◌≢◌, ◌<◌, ℕ, All, IfErr, IfOk, Some, map, slice_get, slice_index_or};
 ghost use Rattle.std.specs.List.{AllZip, flat_map};
 ghost use Rattle.ht_toml.specs.Refusals.{Passes, refused};
 ghost use Rattle.ht_models.specs.Expressions.{HasRefused, IsRefused, One, of_deadline, of_escalation, of_finish};
+ghost use Rattle.ht_models.specs.Kinded.{Ends, Escalates, Finishes, IsKinded};
 ghost use Rattle.ht_models.specs.Model.{ModelOf};
 ghost use Rattle.ht_models.specs.Reading.{IsDeadline, IsEscalation, IsFinish, IsModel};
 ghost use Rattle.ht_models.specs.Refusals.{IsUnreadable};
@@ -28,6 +29,7 @@ pub fn models_of(
 ) -> Result<Vec<Model>, ModelsRefusal>
     ensures models { IfOk result (λ models. AllZip IsModel entries.items (map model_of models.items)) }
     ensures sizes { IfOk result (λ models. (place : ℕ) (m : ModelOf) → slice_get (map model_of models.items) place ≡ Some m → m.size ≡ slice_index_or trees.now.sizes place 0) }
+    ensures kinds { IfOk result (λ models. All IsKinded models.items) }
     ensures passes { Passes ModelsRefusal.Memory (refused ModelsRefusal.Expression (IsUnreadable entries.items)) result }
 {
     let mut models = Vec::new(alloc);
@@ -54,6 +56,7 @@ fn refused_at(place: usize, refusal: ExprRefusal) -> ModelsRefusal
 fn model(alloc: Global, entry: ModelEntry, size: u32) -> Result<Model, ExprRefusal>
     ensures ok { IfOk result (λ model. IsModel entry (model_of model)) }
     ensures size { IfOk result (λ model. model.size ≡ size) }
+    ensures kinds { IfOk result IsKinded }
     ensures refused { IfErr result (λ e. e ≢ ExprRefusal.Memory → HasRefused entry) }
 {
     let kinds = declared(alloc, &entry)?;
@@ -86,6 +89,7 @@ fn deadlines_of(
     kinds: &Kinds,
 ) -> Result<Vec<Deadline>, ExprRefusal>
     ensures ok { IfOk result (λ deadlines. AllZip (IsDeadline kinds.now) texts.now (map deadline_of deadlines.items)) }
+    ensures kinds { IfOk result (λ deadlines. All (Ends kinds.now) deadlines.items) }
     ensures refused { IfErr result (λ e. e ≢ ExprRefusal.Memory → One (IsRefused kinds.now) (flat_map of_deadline texts.now)) }
 {
     let mut deadlines = Vec::new(alloc);
@@ -97,6 +101,7 @@ fn deadlines_of(
 
 fn deadline(alloc: Global, text: &DeadlineText, kinds: &Kinds) -> Result<Deadline, ExprRefusal>
     ensures ok { IfOk result (λ deadline. IsDeadline kinds.now text.now (deadline_of deadline)) }
+    ensures kinds { IfOk result (Ends kinds.now) }
     ensures refused { IfErr result (λ e. e ≢ ExprRefusal.Memory → One (IsRefused kinds.now) (of_deadline text.now)) }
 {
     Ok(Deadline {
@@ -115,6 +120,7 @@ fn escalations_of(
     kinds: &Kinds,
 ) -> Result<Vec<Escalation>, ExprRefusal>
     ensures ok { IfOk result (λ escalations. AllZip (IsEscalation kinds.now) texts.now (map escalation_of escalations.items)) }
+    ensures kinds { IfOk result (λ escalations. All (Escalates kinds.now) escalations.items) }
     ensures refused { IfErr result (λ e. e ≢ ExprRefusal.Memory → One (IsRefused kinds.now) (flat_map of_escalation texts.now)) }
 {
     let mut escalations = Vec::new(alloc);
@@ -130,6 +136,7 @@ fn escalation(
     kinds: &Kinds,
 ) -> Result<Escalation, ExprRefusal>
     ensures ok { IfOk result (λ escalation. IsEscalation kinds.now text.now (escalation_of escalation)) }
+    ensures kinds { IfOk result (Escalates kinds.now) }
     ensures refused { IfErr result (λ e. e ≢ ExprRefusal.Memory → One (IsRefused kinds.now) (of_escalation text.now)) }
 {
     Ok(Escalation {
@@ -146,6 +153,7 @@ fn finishes_of(
     kinds: &Kinds,
 ) -> Result<Vec<Finish>, ExprRefusal>
     ensures ok { IfOk result (λ finishes. AllZip (IsFinish kinds.now) texts.items (map finish_of finishes.items)) }
+    ensures kinds { IfOk result (λ finishes. All (Finishes kinds.now) finishes.items) }
     ensures refused { IfErr result (λ e. e ≢ ExprRefusal.Memory → One (IsRefused kinds.now) (flat_map of_finish texts.items)) }
 {
     let mut finishes = Vec::new(alloc);
@@ -157,6 +165,7 @@ fn finishes_of(
 
 fn finish(alloc: Global, text: FinishText, kinds: &Kinds) -> Result<Finish, ExprRefusal>
     ensures ok { IfOk result (λ finish. IsFinish kinds.now text (finish_of finish)) }
+    ensures kinds { IfOk result (Finishes kinds.now) }
     ensures refused { IfErr result (λ e. e ≢ ExprRefusal.Memory → One (IsRefused kinds.now) (of_finish text)) }
 {
     Ok(Finish {

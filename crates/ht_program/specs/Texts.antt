@@ -88,6 +88,7 @@ refusal_text refusal.Person = fault (codes "Person")
 refusal_text (refusal.Task task) = codes "{\"fault\":\"Task\",\"task\":" ++ decimal task.0 ++ codes "}"
 refusal_text (refusal.Role needs) = codes "{\"fault\":\"Role\",\"needs\":" ++ list_text (roles_of needs) ++ codes "}"
 refusal_text (refusal.Unknown (unknown.Model name)) = codes "{\"fault\":\"Unknown\",\"model\":" ++ quoted name ++ codes "}"
+refusal_text (refusal.PartRefused part) = codes "{\"fault\":\"PartRefused\",\"part\":" ++ quoted part ++ codes "}"
 refusal_text (refusal.State allowed state) =
     codes "{\"allowed\":" ++ list_text (states_of allowed) ++ codes ",\"fault\":\"State\",\"state\":" ++ quoted (state_name state) ++ codes "}"
 refusal_text (refusal.Limit limit) = codes "{\"fault\":\"Limit\",\"limit\":\"" ++ limit_name limit ++ codes "\"}"
@@ -99,6 +100,7 @@ refusal_status (refusal.Task task) = 404
 refusal_status (refusal.Role needs) = 403
 refusal_status (refusal.State allowed state) = 409
 refusal_status (refusal.Unknown what) = 422
+refusal_status (refusal.PartRefused part) = 422
 refusal_status (refusal.Limit limit) = 507
 refusal_status refusal.Memory = 500
 

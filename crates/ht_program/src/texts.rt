@@ -34,7 +34,7 @@ pub(crate) fn status_of(event: &Event, answer: &Answer) -> u16
         Answer::Refused(Refusal::Task(_)) => 404,
         Answer::Refused(Refusal::Role { .. }) => 403,
         Answer::Refused(Refusal::State { .. }) => 409,
-        Answer::Refused(Refusal::Unknown(_)) => 422,
+        Answer::Refused(Refusal::Unknown(_) | Refusal::PartRefused(_)) => 422,
         Answer::Refused(Refusal::Limit(_)) => 507,
         Answer::Refused(Refusal::Memory) => 500,
     }
@@ -122,6 +122,7 @@ fn write_refusal(refusal: &Refusal, into: &mut Bytes)
         Refusal::Task(task) => write_task_refusal(*task, into),
         Refusal::Role { needs } => write_role_refusal(needs, into),
         Refusal::Unknown(Unknown::Model(name)) => write_unknown_model(name, into),
+        Refusal::PartRefused(part) => write_part_refused(part, into),
         Refusal::State { allowed, state } => write_state_refusal(allowed, *state, into),
         Refusal::Limit(Limit::Tasks) => put(b"{\"fault\":\"Limit\",\"limit\":\"tasks\"}", into),
         Refusal::Memory => put(MEMORY_TEXT, into),
@@ -172,6 +173,17 @@ fn write_unknown_model(name: &Name, into: &mut Bytes)
 {
     put(b"{\"fault\":\"Unknown\",\"model\":", into);
     put_quoted(name.as_bytes(), into);
+    put(b"}", into);
+}
+
+fn write_part_refused(part: &Name, into: &mut Bytes)
+    requires empty { into.old.items ≡ [] }
+    requires room { 1024 ≤ into.old.spare }
+    ensures text { into.new.items ≡ refusal_text (Refusal.PartRefused part.now) }
+    ensures kept { into.old.spare ≤ into.new.spare + length into.new.items }
+{
+    put(b"{\"fault\":\"PartRefused\",\"part\":", into);
+    put_quoted(part.as_bytes(), into);
     put(b"}", into);
 }
 

@@ -63,7 +63,7 @@ invariant_of-result c =
     let limit = rw c.deref-4.ensures.value at (rw c.in-None-None.is-0 at c.first_too_much-too_much.ensures) in
     let counted = rw graph at c.in_ok-trees.ensures in
     let models = sized t _ _ c.in_ok-models.ensures.models counted limit c.in_ok-models.ensures.sizes in
-    kept t _ c.requires limit twice models (rw c.deref.ensures.value at c.in_ok-places.ensures.ok)
+    kept t _ c.requires limit twice models c.in_ok-models.ensures.kinds (rw c.deref.ensures.value at c.in_ok-places.ensures.ok)
 
 pub returns-in-None-None : goal.returns-in-None-None
 returns-in-None-None c =

@@ -1,0 +1,54 @@
+-- The expressions and assignments of a model that was read speak of the parts that the model declares,
+-- each as its kind is.
+use Rattle.std.specs.Prelude.{◌≡◌, true, All, List, ◌++◌, map, Some, IfSome}
+use Rattle.ht_base.specs.declared.kind.Kind.{Kind}
+use Rattle.ht_base.specs.declared.kind.Kind.TheVariants.{Int, Truth}
+use Rattle.ht_expr.specs.declared.assignment.Assign.{Assign}
+use Rattle.ht_expr.specs.declared.kinds.Side.TheVariants.{Input, Output}
+use Rattle.ht_expr.specs.Kinds.{Declared}
+use Rattle.ht_expr.specs.KindTable.{assigns, kind_of}
+use Rattle.ht_expr.specs.Nodes.{ExprOf}
+use Rattle.ht_expr.specs.Shown.{AreDeclared, shown}
+use Rattle.ht_models.specs.declared.model.Deadline.{Deadline}
+use Rattle.ht_models.specs.declared.model.Escalation.{Escalation}
+use Rattle.ht_models.specs.declared.model.Finish.{Finish}
+use Rattle.ht_models.specs.declared.model.Model.{Model}
+use Rattle.ht_models.specs.Parts.{Part}
+
+-- the parts that a model declares, of these inputs and outputs
+abbrev pub parts_of : List Part → List Part → Declared
+parts_of input output = map (λ p. (Input, p.name, p.kind)) input ++ map (λ p. (Output, p.name, p.kind)) output
+
+-- an expression of a kind
+pub record IsOfKind (kinds : Declared) (kind : Kind) (e : ExprOf) : Type 0 where
+  pub declared : e.kinds ≡ kinds
+  pub is : kind_of kinds e.tree ≡ Some kind
+
+-- an assignment whose parts are persons, and whose conditions are truths
+pub record Assigns (kinds : Declared) (a : Assign) : Type 0 where
+  pub declared : AreDeclared kinds a
+  pub fits : assigns kinds (shown a) ≡ true
+
+pub record Escalates (kinds : Declared) (e : Escalation) : Type 0 where
+  pub when : IfSome e.when (IsOfKind kinds Truth)
+  pub notify : IfSome e.notify (Assigns kinds)
+  pub reassign : IfSome e.reassign (Assigns kinds)
+
+abbrev pub Ends : Declared → Deadline → Type 0
+Ends kinds d = All (Escalates kinds) d.escalations.items
+
+abbrev pub Finishes : Declared → Finish → Type 0
+Finishes kinds f = IfSome f.when (IsOfKind kinds Truth)
+
+pub record IsKindedBy (kinds : Declared) (m : Model) : Type 0 where
+  pub priority : IfSome m.priority (IsOfKind kinds Int)
+  pub delegatees : IfSome m.delegatees (Assigns kinds)
+  pub potential_owners : Assigns kinds m.potential_owners
+  pub excluded_owners : Assigns kinds m.excluded_owners
+  pub administrators : IfSome m.administrators (Assigns kinds)
+  pub stakeholders : IfSome m.stakeholders (Assigns kinds)
+  pub deadlines : All (Ends kinds) m.deadlines.items
+  pub finishes : All (Finishes kinds) m.finishes.items
+
+abbrev pub IsKinded : Model → Type 0
+IsKinded m = IsKindedBy (parts_of m.input.items m.output.items) m
