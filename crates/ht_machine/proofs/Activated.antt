@@ -1,5 +1,5 @@
 -- That an activated row is sound, and where it is found.
-use Rattle.std.proofs.Common.{List, [], ◌∷◌, ◌<◌, IfSome, ◌≡◌, ℕ, Bool, false, if◌then◌else◌, length, Some, is_some, IsTrue, refl, ap, subst, ◌∙◌, eq-eqb, arith}
+use Rattle.std.proofs.Common.{◌≡◌, ℕ, Bool, false, if◌then◌else◌, length, Some, is_some, IsTrue, refl, ap, subst, ◌∙◌, eq-eqb, arith}
 use Rattle.ht_base.specs.declared.state.State.{State}
 use Rattle.ht_base.specs.declared.state.State.TheVariants.{Created}
 use Rattle.ht_machine.specs.Activating.{IsCreated, activated}
@@ -18,6 +18,7 @@ not_suspended row created until h = let P : State → Type 0 = λ s. IsTrue (is_
 activated_sound : (u : TablesOf) (row : Row) → row.state ≡ Created → IsSoundRow u row → IsSoundRow u (activated row)
 activated_sound u row created sound = record {
   filed = sound.filed;
+  held = sound.held;
   who = sound.who;
   whose = by_people (length u.people.persons) row.excluded_owners row.state row.potential_owners ((sound.who).known).potential_owners (sound.who).apart (ap is_owned created);
   when = record {
@@ -33,6 +34,7 @@ activated_sound u row created sound = record {
 activated_row_fits : (u : TablesOf) (row : Row) → row.state ≡ Created → Fits u row → Fits u (activated row)
 activated_row_fits u row created fits = record {
   filed = fits.filed;
+  held = fits.held;
   who = fits.who;
   owner = owner_known (length u.people.persons) row.potential_owners (fits.who).potential_owners;
   commenters = fits.commenters;

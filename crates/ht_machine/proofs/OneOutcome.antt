@@ -7,11 +7,12 @@ use Rattle.ht_base.specs.declared.event.Event.TheVariants.{Ask, Read}
 use Rattle.ht_base.specs.declared.record.Record.{Record}
 use Rattle.ht_base.specs.declared.record.Record.TheVariants.{Asked}
 use Rattle.ht_base.specs.declared.reply.Answer.{Answer}
+use Rattle.ht_base.specs.declared.reply.Refusal.{Refusal}
 use Rattle.ht_base.specs.declared.reply.Reply.{Reply}
 use Rattle.ht_base.specs.declared.task_id.TaskId.{TaskId}
 use Rattle.ht_base.specs.Events.{op_of}
 use Rattle.ht_machine.specs.Activating.{Activates, activated}
-use Rattle.ht_machine.specs.Commands.{ActsOn, AfterEffect, BehindGate, Comes, Creates, CreatesAt, CreatesNamed, CreatesOf, Outcome, accepted, refused}
+use Rattle.ht_machine.specs.Commands.{ActsOn, AfterEffect, BehindGate, Comes, Creates, CreatesAt, CreatesNamed, CreatesOf, CreatesUnless, Outcome, accepted, refused, why_not_created}
 use Rattle.ht_machine.specs.Deciding.{Attempts, Leads, Settles, Shows, done, effective}
 use Rattle.ht_machine.specs.Gate.{Gate, gate, opens, shuts}
 use Rattle.ht_machine.proofs.Created.{new_task}
@@ -41,10 +42,14 @@ same_new u caller moment place m (accepted v j) (refused why) a b = absurd (a.0 
 same_new u caller moment place m (refused why) (accepted w k) a b = absurd (b.0 a.0)
 same_new u caller moment place m (refused why) (refused other) a b = ap refused (a.1 ∙ sym b.1)
 
+same_unless : (u : TablesOf) (caller moment place : ℕ) (m : ModelOf) (why : Option Refusal) (o p : Outcome) → CreatesUnless u caller moment place m why o → CreatesUnless u caller moment place m why p → o ≡ p
+same_unless u caller moment place m None o p a b = same_new u caller moment place m o p a b
+same_unless u caller moment place m (Some why) o p a b = a ∙ sym b
+
 same_at : (u : TablesOf) (caller moment place : ℕ) (o p : Outcome) → CreatesAt u caller moment place o → CreatesAt u caller moment place p → o ≡ p
 same_at u caller moment place o p a b =
-    let P : ModelOf → Type 0 = λ m. CreatesOf u caller moment place m o in
-    same_new u caller moment place b.0 o p (subst P (one (model_at u place) a.0 b.0 a.1 b.1) a.2) b.2
+    let P : ModelOf → Type 0 = λ m. CreatesUnless u caller moment place m (why_not_created m) o in
+    same_unless u caller moment place b.0 (why_not_created b.0) o p (subst P (one (model_at u place) a.0 b.0 a.1 b.1) a.2) b.2
 
 same_create : (u : TablesOf) (caller moment : ℕ) (named : Option (List ℕ)) (o p : Outcome) → Creates u caller moment named o → Creates u caller moment named p → o ≡ p
 same_create u caller moment None o p a b = same_at u caller moment 0 o p a b

@@ -1,13 +1,6 @@
 -- Rows and persons that are found.
-use Rattle.std.proofs.Common.{◌≡◌, ℕ, ◌<◌, zero, suc, get_or, List, [], ◌∷◌, length, Option, Some, refl, arith}
-use Rattle.std.specs.Prelude.{slice_get}
+use Rattle.std.proofs.Common.{◌≡◌, ℕ, ◌<◌, zero, suc, get_or, List, [], ◌∷◌, length, Option, Some, arith}
 use Rattle.ht_base.specs.Persons.{AllBelow}
-
--- what stands at a place
-pub some_at : {X : Type 0} (xs : List X) (i : ℕ) → i < length xs → (x : X) × (slice_get xs i ≡ Some x)
-some_at [] i h = absurd (omega arith)
-some_at (x ∷ xs) zero h = (x, refl)
-some_at (x ∷ xs) (suc i) h = some_at xs i (omega arith)
 
 pub below_at : (n : ℕ) (ps : List ℕ) (i p : ℕ) → AllBelow n ps → i < length ps → p ≡ get_or ps i p → p < n
 below_at n [] i p all h is = absurd (omega arith)

@@ -1,29 +1,31 @@
 -- Worked examples of the definitions, by computation and by derivation. A wrong reading of one fails
 -- the check.
-use Rattle.std.specs.Prelude.{◌≡◌, refl, true, false, ℕ, List, ◌∷◌, [], Option, Some, None, codes}
+use Rattle.std.specs.Prelude.{◌≡◌, refl, ℕ, Bool, true, false, List, ◌∷◌, [], Option, Some, None, codes}
 use Rattle.std.proofs.Common.{arith}
 use Rattle.ht_base.specs.declared.event.Command.{Command}
 use Rattle.ht_base.specs.declared.event.Command.TheVariants.{Create, Claim}
 use Rattle.ht_base.specs.declared.event.Event.{Event}
 use Rattle.ht_base.specs.declared.event.Event.TheVariants.{Ask, Read}
 use Rattle.ht_base.specs.declared.event.Query.TheVariants as query
+use Rattle.ht_base.specs.declared.kind.Kind.TheVariants.{Int}
 use Rattle.ht_base.specs.declared.operation.Op.TheVariants as op
 use Rattle.ht_base.specs.declared.record.Record.{Record}
 use Rattle.ht_base.specs.declared.record.Record.TheVariants.{Asked}
 use Rattle.ht_base.specs.declared.reply.Answer.TheVariants.{Done, Refused}
-use Rattle.ht_base.specs.declared.reply.Refusal.TheVariants.{Person, Task, Role, State, Unknown}
+use Rattle.ht_base.specs.declared.reply.Refusal.TheVariants.{PartRefused, Person, Task, Role, State, Unknown}
 use Rattle.ht_base.specs.declared.reply.Unknown.TheVariants.{Model}
 use Rattle.ht_base.specs.declared.role.Role.TheVariants.{PotentialOwner}
 use Rattle.ht_base.specs.declared.state.State.TheVariants.{Ready, Reserved}
-use Rattle.ht_expr.specs.Assignments.{nobody, user, group}
+use Rattle.ht_expr.specs.Assignments.{user}
 use Rattle.ht_machine.specs.Activating.{activated}
-use Rattle.ht_machine.specs.Commands.{accepted, refused}
+use Rattle.ht_machine.specs.Commands.{accepted, refused, why_not_created}
 use Rattle.ht_machine.specs.Deciding.{Decides, reply_of}
 use Rattle.ht_machine.specs.Gate.{gate, shuts}
 use Rattle.ht_machine.specs.Sheets.{sheet_of}
+use Rattle.ht_models.specs.declared.deadlines.DeadlineKind.TheVariants.{Start}
 use Rattle.ht_models.specs.Model.{ModelOf}
-use Rattle.ht_people.specs.declared.entries.PersonEntry.{PersonEntry}
-use Rattle.ht_people.specs.Directory.{DirectoryOf}
+use Rattle.ht_models.specs.Parts.{Part}
+use Rattle.ht_models.specs.SubEntries.{sub_entry}
 use Rattle.ht_rules.specs.Judging.{needed}
 use Rattle.ht_rules.specs.Sets.{roles_of, states_of}
 use Rattle.ht_tree.specs.declared.row.Row.{Row}
@@ -48,6 +50,33 @@ kept caller moment task command = Some (Asked (record { 0 = moment }) caller (re
 -- a task of dan's, of a model at its place
 abbrev task_of : ModelOf → ℕ → Row
 task_of m place = new_row nothing_yet m place None 3 [] None (record { 0 = 1000 })
+
+-- ---- models of which no task can be created yet
+
+abbrev input : List ℕ → Bool → Part
+input name optional = record { name = name; kind = Int; optional = optional }
+
+nothing_is_missing : why_not_created (record unit { input = input (codes "a") true ∷ [] }) ≡ None
+nothing_is_missing = refl
+
+a_part_is_missing : why_not_created (record unit { input = input (codes "a") true ∷ input (codes "b") false ∷ input (codes "c") false ∷ [] }) ≡ Some (PartRefused (codes "b"))
+a_part_is_missing = refl
+
+-- an output may be missing
+no_output_is_asked : why_not_created (record unit { output = input (codes "a") false ∷ [] }) ≡ None
+no_output_is_asked = refl
+
+a_composite_task : why_not_created (record unit { input = input (codes "a") false ∷ []; subs = sub_entry (codes "x") (codes "solo") [] ∷ [] }) ≡ Some (Unknown (Model (codes "unit")))
+a_composite_task = refl
+
+a_task_with_a_finish : why_not_created (record unit { finishes = record { when = None; settings = [] } ∷ [] }) ≡ Some (Unknown (Model (codes "unit")))
+a_task_with_a_finish = refl
+
+a_task_without_an_owner : why_not_created (record unit { owner_required = false }) ≡ Some (Unknown (Model (codes "unit")))
+a_task_without_an_owner = refl
+
+a_task_with_a_deadline : why_not_created (record unit { deadlines = record { name = codes "one"; kind = Start; period = Some 1000; at = None; part = None; escalations = [] } ∷ [] }) ≡ Some (Unknown (Model (codes "unit")))
+a_task_with_a_deadline = refl
 
 -- ---- activation
 

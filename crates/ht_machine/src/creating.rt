@@ -1,13 +1,16 @@
 ghost use Rattle.std.specs.Prelude.{◌≡◌, ◌<◌, ◌≤◌, IfOk, length};
 ghost use Rattle.ht_base.specs.Moment.{last_moment};
+ghost use Rattle.ht_machine.specs.Commands as commands;
 ghost use Rattle.ht_machine.specs.Commands.{Creates};
 ghost use Rattle.ht_machine.specs.Planning as spec;
 ghost use Rattle.ht_machine.specs.Planning.{Finds, Tries};
+ghost use Rattle.ht_models.specs.Shown.{model_of};
 ghost use Rattle.ht_tree.specs.Plans.{IsPlanOf, planned};
 ghost use Rattle.ht_tree.specs.Soundness.{IsSound};
 
 use crate::activating::activate;
 use ht_base::{Limit, Moment, Name, Person, Refusal, TaskId, Unknown, Values};
+use ht_models::{Model, Part};
 use ht_owner::ActRefusal;
 use ht_tree::{CreateRefusal, Plan, Tables};
 use std::alloc::Global;
@@ -28,6 +31,9 @@ pub(crate) fn create(
     ensures { Tries tables.now.tables plan.old plan.new (Creates (planned tables.now.tables plan.old) caller at.0 model) result }
 {
     let place = place_of(tables, model)?;
+    if let Some(refusal) = why_not_created(tables.models().model(place)) {
+        return Err(ActRefusal::Refused(refusal));
+    }
     let input = Values::new(alloc);
     let created = ht_tree::create(alloc, tables, plan, place, None, caller, input, None, at);
     match created {
@@ -54,6 +60,39 @@ fn place_of(tables: &Tables, name: Option<Name>) -> Result<u32, ActRefusal>
         Some(place) => Ok(place),
         None => Err(ActRefusal::Refused(Refusal::Unknown(Unknown::Model(name)))),
     }
+}
+
+// Why no task of the model can be created, to which nothing is given.
+fn why_not_created(model: &Model) -> Option<Refusal>
+    ensures { result ≡ commands.why_not_created (model_of model.now) }
+{
+    if is_coming(model) {
+        return Some(Refusal::Unknown(Unknown::Model(model.name)));
+    }
+    match first_required(&model.input) {
+        Some(part) => Some(Refusal::PartRefused(part)),
+        None => None,
+    }
+}
+
+fn is_coming(model: &Model) -> bool
+    ensures { result ≡ commands.is_coming (model_of model.now) }
+{
+    !model.subs.is_empty()
+        || !model.finishes.is_empty()
+        || !model.owner_required
+        || !model.deadlines.is_empty()
+}
+
+fn first_required(parts: &[Part]) -> Option<Name>
+    ensures { result ≡ commands.first_required parts.now }
+{
+    for part in parts {
+        if !part.optional {
+            return Some(part.name);
+        }
+    }
+    None
 }
 
 fn refusal_of(refusal: CreateRefusal) -> ActRefusal

@@ -6,6 +6,8 @@ mod activating;
 mod answering;
 mod commanding;
 mod creating;
+#[cfg(test)]
+mod creating_tests;
 mod deciding;
 mod gating;
 mod laws;

@@ -14,7 +14,7 @@ use std::alloc::Global;
 use std::test::Fail;
 
 const MODELS: &[u8] =
-    b"[[model]]\nname = \"unit\"\npotentialOwners = \"group('clerks')\"\nadministrators = \"user('cora')\"\n[[model]]\nname = \"solo\"\npotentialOwners = \"user('anna')\"\n[[model]]\nname = \"shut\"\npotentialOwners = \"user('anna')\"\nexcludedOwners = \"user('anna')\"\nadministrators = \"user('cora')\"\n";
+    b"[[model]]\nname = \"unit\"\npotentialOwners = \"group('clerks')\"\nadministrators = \"user('cora')\"\n[[model]]\nname = \"solo\"\npotentialOwners = \"user('anna')\"\n[[model]]\nname = \"shut\"\npotentialOwners = \"user('anna')\"\nexcludedOwners = \"user('anna')\"\nadministrators = \"user('cora')\"\n[[model]]\nname = \"asks\"\ninput = [{name = \"sum\", kind = \"int\"}]\n";
 
 fn tables(alloc: Global) -> Result<Tables, Fail> {
     let models = Models::read(alloc, MODELS)?;
@@ -23,7 +23,7 @@ fn tables(alloc: Global) -> Result<Tables, Fail> {
 }
 
 // A create of the model with this name, or of the first where it is no name.
-fn create(caller: &str, at: u64, model: &str) -> Option<Event>
+pub(crate) fn create(caller: &str, at: u64, model: &str) -> Option<Event>
     ensures { IfSome result IsValid }
 {
     let caller = Name::of(caller.as_bytes())?;
@@ -65,7 +65,7 @@ fn get(caller: &str) -> Option<Event>
 }
 
 // The task, its state and its owner, where the event is accepted.
-fn done_of(answer: &Answer) -> Option<(TaskId, State, Option<Name>)> {
+pub(crate) fn done_of(answer: &Answer) -> Option<(TaskId, State, Option<Name>)> {
     match answer {
         Answer::Done { task, state, owner } => Some((*task, *state, *owner)),
         Answer::Sheet(_) => None,
@@ -74,7 +74,7 @@ fn done_of(answer: &Answer) -> Option<(TaskId, State, Option<Name>)> {
 }
 
 // Why the event is refused, if it is.
-fn refusal_of(answer: &Answer) -> Option<Refusal> {
+pub(crate) fn refusal_of(answer: &Answer) -> Option<Refusal> {
     match answer {
         Answer::Refused(refusal) => Some(*refusal),
         Answer::Done { .. } => None,
@@ -109,7 +109,7 @@ fn is_refused(
     Ok(is_told && !is_left && (tables.last(), tables.rows()) == before)
 }
 
-fn sheet_for(alloc: Global, tables: &mut Tables, caller: &str) -> Result<Sheet, Fail> {
+pub(crate) fn sheet_for(alloc: Global, tables: &mut Tables, caller: &str) -> Result<Sheet, Fail> {
     let event = get(caller).ok_or("an event")?;
     match run_one(alloc, tables, &event)?.answer {
         Answer::Sheet(sheet) => Ok(sheet),
@@ -273,5 +273,10 @@ fn tasks_are_created_up_to_the_limit(rt: HostRuntime) -> Result<(), Fail> {
     let reply = run_one(rt.alloc(), &mut tables, &event)?;
     let full = Refusal::Limit(Limit::Tasks);
     assert_eq!(rt; refusal_of(&reply.answer), Some(full));
+    // The model is looked at before the limit.
+    let event = create("dan", 1000, "asks").ok_or("an event")?;
+    let reply = run_one(rt.alloc(), &mut tables, &event)?;
+    let part = Refusal::PartRefused(Name::of(b"sum").ok_or("a name")?);
+    assert_eq!(rt; refusal_of(&reply.answer), Some(part));
     Ok(())
 }

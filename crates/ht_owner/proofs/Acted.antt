@@ -41,7 +41,7 @@ made u caller task command row new follow sound at known may is =
     let next : IsNext u.rows new = (let low = w.0 in omega arith, let high = w.1 in omega arith) in
     record {
       next = next;
-      fits = sound_row_fits (length u.models) (length u.people.persons) new after.0;
+      fits = sound_row_fits u.models (length u.people.persons) new after.0;
       keeps = λ fine. put_sound u new fine after.0 place;
       found = row_at-put_in u.rows new task next ∙ ap (λ (b : Bool). if b then Some new else row_at task u.rows) (eq-eqb new.task.0 task number);
     }

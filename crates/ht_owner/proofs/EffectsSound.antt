@@ -39,7 +39,7 @@ module _ (u : TablesOf) (caller : ℕ) (row : Row) (sound : IsSoundRow u row) (k
 
   -- of a command that names nobody
   plain : (o : Op) → (o ≡ op.Delegate → ⊥) → verdict o row.state (roles_in u row caller) ≡ Yes → IsSoundRow u (moved o caller caller row)
-  plain o other may = moved_sound (length u.models) (length u.people.persons) caller caller row sound o (λ h. owns o h may) (λ h. absurd (other (named_is_delegate row.state o h)))
+  plain o other may = moved_sound u (length u.people.persons) caller caller row sound o (λ h. owns o h may) (λ h. absurd (other (named_is_delegate row.state o h)))
 
   -- a command that may be done leaves a sound row, or is refused
   effect_sound : (command : Command) → verdict (op_of command) row.state (roles_in u row caller) ≡ Yes → IsSoundEffect u row (effect caller command row)

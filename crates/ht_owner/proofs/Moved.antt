@@ -1,10 +1,10 @@
 -- That a row stays sound as an operation moves it.
-use Rattle.std.proofs.Common.{◌≡◌, ℕ, ◌<◌, Bool, true, false, ◌||◌, List, [], ◌∷◌, refl, sym, ap, ◌∙◌, eq-eqb}
+use Rattle.std.proofs.Common.{◌≡◌, ℕ, ◌<◌, Bool, true, false, List, refl, sym, ◌∙◌}
 use Rattle.ht_base.specs.declared.operation.Op.{Op}
 use Rattle.ht_base.specs.declared.operation.Op.TheVariants.{Claim}
 use Rattle.ht_base.specs.declared.state.State.{State}
 use Rattle.ht_base.specs.declared.state.State.TheVariants.{Created, Ready, Reserved, InProgress, SuspendedReady, SuspendedReserved, SuspendedInProgress, Completed, Failed, Error, Exited, Obsolete}
-use Rattle.ht_base.specs.Persons.{AllBelow, has}
+use Rattle.ht_base.specs.Persons.{has}
 use Rattle.ht_owner.specs.Moving.{changed, moved, only_if, owner_after, state_after}
 use Rattle.ht_rules.specs.declared.changes.After.{After}
 use Rattle.ht_rules.specs.declared.changes.After.TheVariants as after
@@ -15,7 +15,8 @@ use Rattle.ht_rules.specs.Changes.{changing}
 use Rattle.ht_rules.proofs.PublicLaws.{IsCaller, IsNamed}
 use Rattle.ht_tree.specs.declared.row.Row.{Row}
 use Rattle.ht_tree.proofs.PublicLaws.{by_people}
-use Rattle.ht_tree.specs.Soundness.{AreApart, IsSoundIn, IsTimed, IsWhose, is_created, is_owned, is_suspended}
+use Rattle.ht_tree.specs.Tables.{TablesOf}
+use Rattle.ht_tree.specs.Soundness.{IsSoundIn, IsTimed, IsWhose, is_created, is_owned, is_suspended}
 
 -- ---- whose it is
 
@@ -52,7 +53,7 @@ pub record MayOwn (persons p : ℕ) (excluded : List ℕ) : Type 0 where
   pub known : p < persons
   pub allowed : has p excluded ≡ false
 
-module _ (models persons caller named : ℕ) (row : Row) (sound : IsSoundIn models persons row) where
+module _ (t : TablesOf) (persons caller named : ℕ) (row : Row) (sound : IsSoundIn t.models persons row) where
   whose : (c : Change) → Fits row.state c → (IsCaller c.owner → MayOwn persons caller row.excluded_owners) → (IsNamed c.owner → MayOwn persons named row.excluded_owners) → IsWhose persons row.excluded_owners (state_after c.after row.potential_owners row.state) (owner_after c.owner row.potential_owners row.owner caller named)
   whose c = at c.after c.owner
     where
@@ -73,11 +74,12 @@ module _ (models persons caller named : ℕ) (row : Row) (sound : IsSoundIn mode
   timed state false true c s = record { waits = λ f. c ∙ f; until = λ _. s; created_within = (sound.when).created_within; waits_within = tt; until_within = (sound.when).until_within }
   timed state false false c s = record { waits = λ f. c ∙ f; until = λ f. s ∙ f; created_within = (sound.when).created_within; waits_within = tt; until_within = tt }
 
-  changed_sound : (c : Change) → Fits row.state c → (IsCaller c.owner → MayOwn persons caller row.excluded_owners) → (IsNamed c.owner → MayOwn persons named row.excluded_owners) → IsSoundIn models persons (changed c caller named row)
+  changed_sound : (c : Change) → Fits row.state c → (IsCaller c.owner → MayOwn persons caller row.excluded_owners) → (IsNamed c.owner → MayOwn persons named row.excluded_owners) → IsSoundIn t.models persons (changed c caller named row)
   changed_sound c fit may told =
       let state = state_after c.after row.potential_owners row.state in
       record {
         filed = sound.filed;
+        held = sound.held;
         who = sound.who;
         whose = whose c fit may told;
         when = timed state (is_created state) (is_suspended state) refl refl;
@@ -85,5 +87,5 @@ module _ (models persons caller named : ℕ) (row : Row) (sound : IsSoundIn mode
       }
 
   -- whichever operation of the table moves it
-  pub moved_sound : (op : Op) → (IsCaller (changing row.state op).owner → MayOwn persons caller row.excluded_owners) → (IsNamed (changing row.state op).owner → MayOwn persons named row.excluded_owners) → IsSoundIn models persons (moved op caller named row)
+  pub moved_sound : (op : Op) → (IsCaller (changing row.state op).owner → MayOwn persons caller row.excluded_owners) → (IsNamed (changing row.state op).owner → MayOwn persons named row.excluded_owners) → IsSoundIn t.models persons (moved op caller named row)
   moved_sound op = changed_sound (changing row.state op) (fits row.state op)

@@ -1,6 +1,6 @@
 -- How an operation moves a task: its state and its owner by the table of changes
 -- (WS-HumanTask 1.1, 4.10).
-use Rattle.std.specs.Prelude.{ℕ, Bool, List, [], ◌∷◌, Option, Some, None, if◌then◌else◌}
+use Rattle.std.specs.Prelude.{ℕ, Bool, List, Option, Some, None, if◌then◌else◌}
 use Rattle.ht_base.specs.declared.operation.Op.{Op}
 use Rattle.ht_base.specs.declared.state.State.{State}
 use Rattle.ht_rules.specs.declared.changes.After.{After}

@@ -396,6 +396,25 @@ fn an_office_is_that_of_its_texts(rt: HostRuntime) -> Result<(), Fail> {
     Ok(())
 }
 
+#[test]
+fn a_task_is_what_its_model_says(rt: HostRuntime) -> Result<(), Fail> {
+    let urgent = "[[model]]\nname = \"urgent\"\npriority = \"-1\"\n\
+        potentialOwners = \"when(priority == 0, user('anna'), nobody)\"\n";
+    let due = "[[model]]\nname = \"due\"\ninput = [{name = \"sum\", kind = \"int\"}]\n\
+        deadline = [{name = \"one\", kind = \"start\", for = \"PT1S\"}]\n";
+    let asks = "[[model]]\nname = \"asks\"\ninput = [{name = \"sum\", kind = \"int\"}]\n";
+    let reserved = "{\"owner\":\"anna\",\"state\":\"Reserved\",\"task\":1}";
+    let unknown = "{\"fault\":\"Unknown\",\"model\":\"due\"}";
+    let part = "{\"fault\":\"PartRefused\",\"part\":\"sum\"}";
+    let urgent_row = [("POST /tasks", "dan", "201 Created", reserved)];
+    let due_row = [("POST /tasks", "dan", "422 Unprocessable Entity", unknown)];
+    let asks_row = [("POST /tasks", "dan", "422 Unprocessable Entity", part)];
+    assert!(rt; answers(rt.alloc(), urgent, &urgent_row)?);
+    assert!(rt; answers(rt.alloc(), due, &due_row)?);
+    assert!(rt; answers(rt.alloc(), asks, &asks_row)?);
+    Ok(())
+}
+
 // An office of these texts, where these reads of them fail, tells so with this status, and asks for
 // nothing.
 fn is_told(

@@ -1,6 +1,7 @@
 -- That a new row fits.
 use Rattle.std.proofs.Common.{◌==◌, if◌then◌else◌, ◌≡◌, ℕ, ◌+◌, ◌<◌, ◌≤◌, zero, suc, Bool, true, false, cond, List, [], ◌∷◌, length, filter, fold, Option, Some, None, IfSome, Bor, refl, sym, ◌∙◌, subst, arith}
 use Rattle.std.specs.List.{range_with_len}
+use Rattle.std.specs.Prelude.{pos, negsuc, slice_get}
 use Rattle.std.specs.Option.{option_map_or}
 use Rattle.ht_base.specs.declared.moment.Moment.{Moment}
 use Rattle.ht_base.specs.declared.task_id.TaskId.{TaskId}
@@ -8,15 +9,16 @@ use Rattle.ht_base.specs.declared.values.Values.{Values}
 use Rattle.ht_expr.specs.Assignments.{Assignment}
 use Rattle.ht_models.specs.Model.{ModelOf}
 use Rattle.ht_tree.specs.declared.row.Row.{Row}
-use Rattle.ht_tree.specs.Assigning.{is_found, potential_owners, resolved}
+use Rattle.ht_expr.specs.Values.{Outcome, a_moment, a_number, a_person, a_text, a_truth, nothing}
+use Rattle.ht_tree.specs.Assigning.{Sight, is_found, potential_owners, resolved}
 use Rattle.ht_tree.specs.declared.comments.Comment.{Comment}
 use Rattle.std.specs.List.{All}
-use Rattle.ht_tree.specs.Creating.{bare_row, new_row, parent_row, role_or}
+use Rattle.ht_tree.specs.Creating.{IsInput, bare_row, level_of, new_row, parent_row, role_or, seen, with_priority}
 use Rattle.ht_tree.specs.Plans.{Follow, IsPlanOf, PlanOf, last_of, later_or, planned}
 use Rattle.ht_tree.specs.Rows.{put_in, row_at}
 use Rattle.ht_base.specs.Persons.{AllBelow, Ascends}
 use Rattle.ht_base.specs.Moment.{last_moment}
-use Rattle.ht_tree.specs.Soundness.{AreKnown, Fits, FitsIn, IsFiled, IsSound, IsSoundIn, IsSoundRow}
+use Rattle.ht_tree.specs.Soundness.{AreKnown, Fits, FitsIn, IsFiled, IsHeldBy, IsSound, IsSoundIn, IsSoundRow}
 use Rattle.ht_tree.specs.Tables.{TablesOf, administrators_of, stakeholders_of, task_row}
 use Rattle.ht_tree.proofs.Putting.{row_at-put_in}
 use Rattle.ht_tree.proofs.Selecting.{selected_apart, selected_ascends}
@@ -35,9 +37,10 @@ all_selected t test = selected_persons t test 0 (length t.people.persons) (omega
 
 -- ---- what is sound fits
 
-pub sound_row_fits : (models persons : ℕ) (row : Row) → IsSoundIn models persons row → FitsIn models persons row
+pub sound_row_fits : (models : List ModelOf) (persons : ℕ) (row : Row) → IsSoundIn models persons row → FitsIn models persons row
 sound_row_fits models persons row sound = record {
   filed = sound.filed;
+  held = sound.held;
   who = (sound.who).known;
   owner = (sound.whose).known;
   commenters = (sound.how).known;
@@ -48,7 +51,7 @@ sound_row_fits models persons row sound = record {
 -- and so does a sound row that was found
 pub sound_fits : (t : TablesOf) (found : Option (Bor Row)) → IfSome found (λ r. IsSoundRow t r.now) → IfSome found (λ r. Fits t r.now)
 sound_fits t None sound = tt
-sound_fits t (Some r) sound = sound_row_fits (length t.models) (length t.people.persons) r.now sound
+sound_fits t (Some r) sound = sound_row_fits t.models (length t.people.persons) r.now sound
 
 -- every row after some were put fits, where those before did
 pub fits_after : (t : TablesOf) (rows puts : List Row) → ((task : ℕ) (row : Row) → row_at task rows ≡ Some row → Fits t row) → Follow t rows puts → (task : ℕ) (row : Row) → row_at task (fold put_in rows puts) ≡ Some row → Fits t row
@@ -64,7 +67,7 @@ fits_after t rows (p ∷ puts) fit f task row at = fits_after t (put_in rows p) 
 
 -- each row of planned tables fits
 planned_fits : (t : TablesOf) (p : PlanOf) → IsSound t → IsPlanOf t p → (task : ℕ) (row : Row) → task_row (planned t p) task ≡ Some row → Fits t row
-planned_fits t p sound fit = fits_after t t.rows (p.changes).rows (λ task r is. sound_row_fits (length t.models) (length t.people.persons) r (sound.rows_sound task r is)) fit.changes_fit
+planned_fits t p sound fit = fits_after t t.rows (p.changes).rows (λ task r is. sound_row_fits t.models (length t.people.persons) r (sound.rows_sound task r is)) fit.changes_fit
 
 pub parent_fits : (t : TablesOf) (p : PlanOf) (parent : Option (TaskId × ℕ)) → IsSound t → IsPlanOf t p → IfSome (parent_row (planned t p) parent) (Fits t)
 parent_fits t p None sound fit = tt
@@ -76,6 +79,20 @@ parent_fits t p (Some above) sound fit = at (task_row (planned t p) above.0.0) r
 
 -- ---- a new row
 
+-- it holds what is given, and has set and passed nothing
+held_new : (persons : ℕ) (o : Option ModelOf) (input : Values) → IsInput persons o input → IfSome o (λ m. IsHeldBy persons m input [] [])
+held_new persons None input given = tt
+held_new persons (Some m) input given = record { input = given; output = record { declared = refl; known = refl; texts_within = refl }; taken = tt; taken_ascend = tt }
+
+level_low : (o : Outcome) → level_of o ≤ 10
+level_low (a_text x) = omega arith
+level_low (a_number (pos n)) = omega arith
+level_low (a_number (negsuc n)) = omega arith
+level_low (a_truth b) = omega arith
+level_low (a_person p) = omega arith
+level_low (a_moment m) = omega arith
+level_low nothing = omega arith
+
 no_comment : (P : Comment → Type 0) → All P []
 no_comment P k c h = absurd (omega arith)
 
@@ -86,33 +103,22 @@ filed_below models rows place parent known below = record { model = known; paren
     at None h = tt
     at (Some p) h = (h.0, let high = h.1 in omega arith)
 
--- before its roles are set
-pub bare_row_fits : (t : TablesOf) (rows : ℕ) (model : ℕ) (parent : Option (TaskId × ℕ)) (initiator : ℕ) (input : Values) (waits : Option Moment) (at : Moment) → model < length t.models → initiator < length t.people.persons → IfSome parent (λ p. (1 ≤ p.0.0) × (p.0.0 ≤ rows)) → Fits t (bare_row (record { 0 = rows + 1 }) model parent initiator input waits at)
-bare_row_fits t rows model parent initiator input waits at known person below = record {
-  filed = filed_below (length t.models) rows model parent known below;
-  who = record { initiator = person; last_owner = tt; potential_owners = tt; excluded_owners = tt; administrators = tt; stakeholders = tt };
-  owner = tt;
-  commenters = no_comment _;
-  waits = λ _. refl;
-  until = λ h. absurd cc;
-}
-
-role_persons : (t : TablesOf) (creator : ℕ) (a : Option Assignment) (inherited : List ℕ) → AllBelow (length t.people.persons) inherited → AllBelow (length t.people.persons) (role_or t.people creator a inherited)
-role_persons t creator None inherited all = all
-role_persons t creator (Some a) inherited all = all_selected t (is_found t.people creator a)
+role_persons : (t : TablesOf) (s : Sight) (a : Option Assignment) (inherited : List ℕ) → AllBelow (length t.people.persons) inherited → AllBelow (length t.people.persons) (role_or t.people s a inherited)
+role_persons t s None inherited all = all
+role_persons t s (Some a) inherited all = all_selected t (is_found t.people s a)
 
 inherited_persons : (t : TablesOf) (role : Row → List ℕ) (above : Option Row) → IfSome above (λ r. AllBelow (length t.people.persons) (role r)) → AllBelow (length t.people.persons) (option_map_or role above [])
 inherited_persons t role None all = tt
 inherited_persons t role (Some r) all = all
 
-new_known : (t : TablesOf) (m : ModelOf) (model : ℕ) (parent : Option (TaskId × ℕ)) (initiator : ℕ) → initiator < length t.people.persons → IfSome (parent_row t parent) (Fits t) → AreKnown (length t.people.persons) initiator None (potential_owners t.people initiator m.potential_owners m.excluded_owners) (resolved t.people initiator m.excluded_owners) (role_or t.people initiator m.administrators (option_map_or (administrators_of t) (parent_row t parent) [])) (role_or t.people initiator m.stakeholders (option_map_or (stakeholders_of t) (parent_row t parent) []))
-new_known t m model parent initiator person above = record {
+new_known : (t : TablesOf) (m : ModelOf) (s : Sight) (parent : Option (TaskId × ℕ)) (initiator : ℕ) → initiator < length t.people.persons → IfSome (parent_row t parent) (Fits t) → AreKnown (length t.people.persons) initiator None (potential_owners t.people s m.potential_owners m.excluded_owners) (resolved t.people s m.excluded_owners) (role_or t.people s m.administrators (option_map_or (administrators_of t) (parent_row t parent) [])) (role_or t.people s m.stakeholders (option_map_or (stakeholders_of t) (parent_row t parent) []))
+new_known t m s parent initiator person above = record {
   initiator = person;
   last_owner = tt;
   potential_owners = all_selected t _;
   excluded_owners = all_selected t _;
-  administrators = role_persons t initiator m.administrators _ (inherited_persons t (administrators_of t) (parent_row t parent) (admins (parent_row t parent) above));
-  stakeholders = role_persons t initiator m.stakeholders _ (inherited_persons t (stakeholders_of t) (parent_row t parent) (holders (parent_row t parent) above));
+  administrators = role_persons t s m.administrators _ (inherited_persons t (administrators_of t) (parent_row t parent) (admins (parent_row t parent) above));
+  stakeholders = role_persons t s m.stakeholders _ (inherited_persons t (stakeholders_of t) (parent_row t parent) (holders (parent_row t parent) above));
 }
   where
     admins : (o : Option Row) → IfSome o (Fits t) → IfSome o (λ r. AllBelow (length t.people.persons) r.administrators)
@@ -123,35 +129,41 @@ new_known t m model parent initiator person above = record {
     holders None f = tt
     holders (Some r) f = (f.who).stakeholders
 
-pub new_row_fits : (t : TablesOf) (m : ModelOf) (model : ℕ) (parent : Option (TaskId × ℕ)) (initiator : ℕ) (input : Values) (waits : Option Moment) (at : Moment) → model < length t.models → initiator < length t.people.persons → IfSome parent (λ p. (1 ≤ p.0.0) × (p.0.0 ≤ length t.rows)) → IfSome (parent_row t parent) (Fits t) → Fits t (new_row t m model parent initiator input waits at)
-new_row_fits t m model parent initiator input waits at known person below above = record {
+-- what a new task's assignments see
+abbrev at_creation : TablesOf → ModelOf → ℕ → Option (TaskId × ℕ) → ℕ → Values → Option Moment → Moment → Sight
+at_creation t m model parent initiator input waits at = seen m (with_priority m (bare_row (record { 0 = length t.rows + 1 }) model parent initiator input waits at))
+
+pub new_row_fits : (t : TablesOf) (m : ModelOf) (model : ℕ) (parent : Option (TaskId × ℕ)) (initiator : ℕ) (input : Values) (waits : Option Moment) (at : Moment) → model < length t.models → initiator < length t.people.persons → IfSome parent (λ p. (1 ≤ p.0.0) × (p.0.0 ≤ length t.rows)) → IfSome (parent_row t parent) (Fits t) → IsInput (length t.people.persons) (slice_get t.models model) input → Fits t (new_row t m model parent initiator input waits at)
+new_row_fits t m model parent initiator input waits at known person below above given = record {
   filed = filed_below (length t.models) (length t.rows) model parent known below;
-  who = new_known t m model parent initiator person above;
+  held = held_new (length t.people.persons) (slice_get t.models model) input given;
+  who = new_known t m (at_creation t m model parent initiator input waits at) parent initiator person above;
   owner = tt;
   commenters = no_comment _;
   waits = λ _. refl;
   until = λ h. absurd cc;
 }
 
-role_ascends : (t : TablesOf) (creator : ℕ) (a : Option Assignment) → Ascends (role_or t.people creator a [])
-role_ascends t creator None = tt
-role_ascends t creator (Some a) = selected_ascends (is_found t.people creator a) (length t.people.persons)
+role_ascends : (t : TablesOf) (s : Sight) (a : Option Assignment) → Ascends (role_or t.people s a [])
+role_ascends t s None = tt
+role_ascends t s (Some a) = selected_ascends (is_found t.people s a) (length t.people.persons)
 
 -- of a top task
-pub new_row_sound : (t : TablesOf) (m : ModelOf) (model initiator : ℕ) (input : Values) (waits : Option Moment) (at : Moment) → model < length t.models → initiator < length t.people.persons → at.0 ≤ last_moment → IfSome waits (λ m. m.0 ≤ last_moment) → IsSoundRow t (new_row t m model None initiator input waits at)
-new_row_sound t m model initiator input waits at known person early soon = record {
+pub new_row_sound : (t : TablesOf) (m : ModelOf) (model initiator : ℕ) (input : Values) (waits : Option Moment) (at : Moment) → model < length t.models → initiator < length t.people.persons → at.0 ≤ last_moment → IfSome waits (λ m. m.0 ≤ last_moment) → IsInput (length t.people.persons) (slice_get t.models model) input → IsSoundRow t (new_row t m model None initiator input waits at)
+new_row_sound t m model initiator input waits at known person early soon given = record {
   filed = filed_below (length t.models) (length t.rows) model None known tt;
+  held = held_new (length t.people.persons) (slice_get t.models model) input given;
   who = record {
-    known = new_known t m model None initiator person tt;
-    apart = selected_apart (is_found t.people initiator m.potential_owners) (is_found t.people initiator m.excluded_owners) (length t.people.persons);
+    known = new_known t m (at_creation t m model None initiator input waits at) None initiator person tt;
+    apart = selected_apart _ _ (length t.people.persons);
     potential_ascend = selected_ascends _ (length t.people.persons);
     excluded_ascend = selected_ascends _ (length t.people.persons);
-    administrators_ascend = role_ascends t initiator m.administrators;
-    stakeholders_ascend = role_ascends t initiator m.stakeholders;
+    administrators_ascend = role_ascends t (at_creation t m model None initiator input waits at) m.administrators;
+    stakeholders_ascend = role_ascends t (at_creation t m model None initiator input waits at) m.stakeholders;
   };
   whose = record { owned = refl; known = tt; allowed = tt };
   when = record { waits = λ _. refl; until = λ h. absurd cc; created_within = early; waits_within = soon; until_within = tt };
-  how = record { priority_within = omega arith; few = omega arith; known = no_comment _; moments_within = no_comment _; texts_within = no_comment _ };
+  how = record { priority_within = level_low _; few = omega arith; known = no_comment _; moments_within = no_comment _; texts_within = no_comment _ };
 }
 
 -- a row that is put fits

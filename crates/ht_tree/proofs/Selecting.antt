@@ -181,6 +181,16 @@ select_one test n q within is = selected test n (q ∷ []) (omega arith, tt) eac
       | inr d ↦ rw (apart q p d, is p, apart p q (λ e. d (sym e))) (sym (and_false (nat_lt p n)))
     ]
 
+-- nobody of them is one who isn't there
+pub select_past : (test : ℕ → Bool) (n q : ℕ) → n ≤ q → ((p : ℕ) → test p ≡ (p == q)) → [] ≡ filter test (range_with_len 0 n)
+select_past test n q past is = selected test n [] tt each
+  where
+    each : (p : ℕ) → false ≡ (nat_lt p n && test p)
+    each p = elim (cases_eq q p) [
+      | inl e ↦ rw (past_is p n (omega arith)) refl
+      | inr d ↦ rw (is p, apart p q (λ e. d (sym e))) (sym (and_false (nat_lt p n)))
+    ]
+
 -- ---- of two sets
 
 -- what is answered of two sets, where a test of both goes with being there

@@ -11,7 +11,7 @@ use Rattle.ht_tree.specs.Plans.{IsNext, Replaces}
 use Rattle.ht_tree.specs.Puts.{HaveModels, IsResized}
 use Rattle.ht_tree.specs.Rows.{put_in, row_at}
 use Rattle.ht_tree.specs.Sizes.{most_tasks, size_of, size_under, top_size, total_size}
-use Rattle.ht_tree.specs.Soundness.{IsSound, IsSoundRow}
+use Rattle.ht_tree.specs.Soundness.{IsOfEntry, IsSound, IsSoundRow, model_of_entry}
 use Rattle.ht_tree.specs.Tables.{TablesOf, at_moment, empty_tables, with_row}
 use Rattle.ht_tree.proofs.Counting.{resized_put, total_push}
 use Rattle.ht_tree.proofs.Putting.{length-put_in, row_at-put_in}
@@ -24,6 +24,7 @@ pub empty_sound : (models : List ModelOf) (people : DirectoryOf) → IsSound (em
 empty_sound models people = record {
   numbered = λ task row at. absurd (no_row task row at);
   rows_sound = λ task row at. absurd (no_row task row at);
+  entries = λ task row at. absurd (no_row task row at);
   last_within = omega arith;
   tasks_counted = omega arith;
   tasks_within = omega arith;
@@ -44,10 +45,18 @@ behind_is (x ∷ rows) row r (suc (suc i)) at = elim (behind_is rows row r (suc 
   | inr h ↦ inr (let e = h.0 in omega arith, h.1)
 ]
 
-pub push_sound : (t : TablesOf) (row : Row) → IsSound t → row.task.0 ≡ length t.rows + 1 → IsSoundRow t row → 1 ≤ top_size t.models row → total_size t.models t.rows + top_size t.models row ≤ most_tasks → IsSound (record t { rows = t.rows ++ row ∷ [] })
-push_sound t row sound next fine some room = record {
+still_there : (rows : List Row) (row r : Row) (task : ℕ) → row_at task rows ≡ Some r → row_at task (rows ++ row ∷ []) ≡ Some r
+still_there rows row r zero at = cc
+still_there [] row r (suc i) at = absurd (no_row (suc i) r at)
+still_there (x ∷ rows) row r (suc zero) at = at
+still_there (x ∷ rows) row r (suc (suc i)) at = still_there rows row r (suc i) at
+
+-- of a top task
+pub push_sound : (t : TablesOf) (row : Row) → IsSound t → row.task.0 ≡ length t.rows + 1 → row.parent ≡ None → IsSoundRow t row → 1 ≤ top_size t.models row → total_size t.models t.rows + top_size t.models row ≤ most_tasks → IsSound (record t { rows = t.rows ++ row ∷ [] })
+push_sound t row sound next top fine some room = record {
   numbered = λ task r at. number task r (behind_is t.rows row r task at);
   rows_sound = λ task r at. sound_row task r (behind_is t.rows row r task at);
+  entries = λ task r at. entry task r (behind_is t.rows row r task at);
   last_within = sound.last_within;
   tasks_counted =
       let long = length-append t.rows (row ∷ []) in
@@ -64,6 +73,16 @@ push_sound t row sound next fine some room = record {
     sound_row : (task : ℕ) (r : Row) → ((row_at task t.rows ≡ Some r) ⊎ ((task ≡ length t.rows + 1) × (row ≡ r))) → IsSoundRow t r
     sound_row task r (inl h) = sound.rows_sound task r h
     sound_row task r (inr h) = let P : Row → Type 0 = λ x. IsSoundRow t x in subst P h.1 fine
+
+    stays : (model : ℕ) (parent : Option (TaskId × ℕ)) → IfSome parent (IsOfEntry t.models t.rows model) → IfSome parent (IsOfEntry t.models (t.rows ++ row ∷ []) model)
+    stays model None e = tt
+    stays model (Some p) e = record { above = e.above; there = still_there t.rows row e.above p.0.0 e.there; named = e.named }
+
+    entry : (task : ℕ) (r : Row) → ((row_at task t.rows ≡ Some r) ⊎ ((task ≡ length t.rows + 1) × (row ≡ r))) → IfSome r.parent (IsOfEntry t.models (t.rows ++ row ∷ []) r.model)
+    entry task r (inl h) = stays r.model r.parent (sound.entries task r h)
+    entry task r (inr h) =
+        let P : Option (TaskId × ℕ) → Type 0 = λ p. IfSome p (IsOfEntry t.models (t.rows ++ row ∷ []) r.model) in
+        subst P (sym top ∙ ap (λ (x : Row). x.parent) h.1) tt
 
 -- a row that was found is sound
 pub found_sound : (t : TablesOf) (task : ℕ) (found : Option (Bor Row)) → IsSound t → option_map (λ r. r.now) found ≡ row_at task t.rows → IfSome found (λ r. IsSoundRow t r.now)
@@ -86,6 +105,7 @@ pub put_sound : (t : TablesOf) (row : Row) → IsSound t → IsSoundRow t row �
 put_sound t row sound fine place = record {
   numbered = λ task r at. (in_place task r (row.task.0 == task) refl (sym (row_at-put_in t.rows row task next) ∙ at)).0;
   rows_sound = λ task r at. (in_place task r (row.task.0 == task) refl (sym (row_at-put_in t.rows row task next) ∙ at)).1;
+  entries = λ task r at. entry task r (row.task.0 == task) refl (sym (row_at-put_in t.rows row task next) ∙ at);
   last_within = sound.last_within;
   tasks_counted =
       let long = length-put_in t.rows row next in
@@ -106,6 +126,34 @@ put_sound t row sound fine place = record {
         subst P same (eqb-true row.task.0 task is, fine)
     in_place task r false is at = (sound.numbered task r at, sound.rows_sound task r at)
 
+    -- the parent's row may be the one that is put
+    put_above : (p : TaskId × ℕ) (model : ℕ) (e : IsOfEntry t.models t.rows model p) (b : Bool) → (row.task.0 == p.0.0) ≡ b → IsOfEntry t.models (put_in t.rows row) model p
+    put_above p model e true is =
+        let same : (place.before).model ≡ (e.above).model = let one = sym place.there ∙ ap (λ (k : ℕ). row_at k t.rows) (eqb-true row.task.0 p.0.0 is) ∙ e.there in cc in
+        record {
+          above = row;
+          there = row_at-put_in t.rows row p.0.0 next ∙ ap (λ (b : Bool). if b then Some row else row_at p.0.0 t.rows) is;
+          named = ap (λ (k : ℕ). model_of_entry t.models k p.1) (place.model ∙ same) ∙ e.named;
+        }
+    put_above p model e false is = record {
+      above = e.above;
+      there = row_at-put_in t.rows row p.0.0 next ∙ ap (λ (b : Bool). if b then Some row else row_at p.0.0 t.rows) is ∙ e.there;
+      named = e.named;
+    }
+
+    stays : (model : ℕ) (parent : Option (TaskId × ℕ)) → IfSome parent (IsOfEntry t.models t.rows model) → IfSome parent (IsOfEntry t.models (put_in t.rows row) model)
+    stays model None e = tt
+    stays model (Some p) e = put_above p model e (row.task.0 == p.0.0) refl
+
+    entry : (task : ℕ) (r : Row) (b : Bool) → (row.task.0 == task) ≡ b → (if b then Some row else row_at task t.rows) ≡ Some r → IfSome r.parent (IsOfEntry t.models (put_in t.rows row) r.model)
+    entry task r false is at = stays r.model r.parent (sound.entries task r at)
+    entry task r true is at =
+        let same : row ≡ r = cc in
+        let P : Row → Type 0 = λ x. IfSome x.parent (IsOfEntry t.models (put_in t.rows row) x.model) in
+        let Q : Option (TaskId × ℕ) → Type 0 = λ p. IfSome p (IsOfEntry t.models (put_in t.rows row) row.model) in
+        let R : ℕ → Type 0 = λ m. IfSome (place.before).parent (IsOfEntry t.models (put_in t.rows row) m) in
+        subst P same (subst Q (sym place.parent) (subst R (sym place.model) (stays (place.before).model (place.before).parent (sound.entries row.task.0 place.before place.there))))
+
     total : total_size t.models (put_in t.rows row) ≡ total_size t.models t.rows
     total =
         let P : Option Row → Type 0 = λ o. IsResized t.models (total_size t.models t.rows) row o (total_size t.models (put_in t.rows row)) in
@@ -119,6 +167,7 @@ pub sound_at : (t : TablesOf) (at : ℕ) → IsSound t → at ≤ last_moment �
 sound_at t at sound early = record {
   numbered = sound.numbered;
   rows_sound = sound.rows_sound;
+  entries = sound.entries;
   last_within = early;
   tasks_counted = sound.tasks_counted;
   tasks_within = sound.tasks_within;

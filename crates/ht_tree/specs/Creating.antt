@@ -1,15 +1,20 @@
 -- A new task (WS-HumanTask 1.1, 4.10): its roles by its model's assignments, and nothing done yet.
-use Rattle.std.specs.Prelude.{ℕ, ◌+◌, ◌<◌, false, not, List, [], length, Option, Some, None}
+use Rattle.std.specs.Prelude.{ℕ, ◌+◌, ◌<◌, min, pos, negsuc, false, not, List, [], length, Option, Some, None, IfSome}
 use Rattle.std.specs.Option.{option_and_then, option_map_or}
 use Rattle.ht_base.specs.declared.moment.Moment.{Moment}
 use Rattle.ht_base.specs.declared.state.State.TheVariants.{Created}
 use Rattle.ht_base.specs.declared.task_id.TaskId.{TaskId}
 use Rattle.ht_base.specs.declared.values.Values.{Values}
 use Rattle.ht_expr.specs.Assignments.{Assignment, is_individual}
+use Rattle.ht_expr.specs.declared.environment.Env.{Env}
+use Rattle.ht_expr.specs.declared.kinds.Side.TheVariants.{Input}
+use Rattle.ht_expr.specs.Values.{Outcome, a_number, value}
+use Rattle.ht_models.specs.Kinded.{parts_of}
 use Rattle.ht_models.specs.Model.{ModelOf}
 use Rattle.ht_people.specs.Directory.{DirectoryOf}
 use Rattle.ht_tree.specs.declared.row.Row.{Row}
-use Rattle.ht_tree.specs.Assigning.{potential_owners, resolved}
+use Rattle.ht_tree.specs.Assigning.{Sight, potential_owners, resolved, sight}
+use Rattle.ht_tree.specs.Soundness.{AreHeld}
 use Rattle.ht_tree.specs.Sizes.{most_tasks, size_of, total_size}
 use Rattle.ht_tree.specs.Tables.{TablesOf, administrators_of, directory, stakeholders_of, task_row}
 
@@ -18,13 +23,19 @@ abbrev pub parent_row : TablesOf → Option (TaskId × ℕ) → Option Row
 parent_row t parent = option_and_then (λ p. task_row t p.0.0) parent
 
 -- the persons of a role: by the model's assignment, or where it has none the parent's
-abbrev pub role_or : DirectoryOf → ℕ → Option Assignment → List ℕ → List ℕ
-role_or d creator None inherited = inherited
-role_or d creator (Some a) inherited = resolved d creator a
+abbrev pub role_or : DirectoryOf → Sight → Option Assignment → List ℕ → List ℕ
+role_or d s None inherited = inherited
+role_or d s (Some a) inherited = resolved d s a
 
--- the priority where the model gives none, between 0, the highest, and 10
+-- the priority between 0, the highest, and 10, where the model gives none and as its expression sees it
 abbrev pub middle_priority : ℕ
 middle_priority = 5
+
+-- the number that an expression gives, moved between 0 and 10
+abbrev pub level_of : Outcome → ℕ
+level_of (a_number (pos n)) = min n 10
+level_of (a_number (negsuc n)) = 0
+level_of _ = middle_priority
 
 -- the row of a new task before any of its roles is set, as assignments see it
 abbrev pub bare_row : TaskId → ℕ → Option (TaskId × ℕ) → ℕ → Values → Option Moment → Moment → Row
@@ -53,15 +64,35 @@ bare_row task model parent initiator input waits at = record {
   comments = [];
 }
 
--- the row of a new task, before it is activated
-abbrev pub new_row : TablesOf → ModelOf → ℕ → Option (TaskId × ℕ) → ℕ → Values → Option Moment → Moment → Row
-new_row t m model parent initiator input waits at = record (bare_row (record { 0 = length t.rows + 1 }) model parent initiator input waits at) {
-  potential_owners = potential_owners (directory t) initiator m.potential_owners m.excluded_owners;
-  excluded_owners = resolved (directory t) initiator m.excluded_owners;
-  administrators = role_or (directory t) initiator m.administrators (option_map_or (administrators_of t) (parent_row t parent) []);
-  stakeholders = role_or (directory t) initiator m.stakeholders (option_map_or (stakeholders_of t) (parent_row t parent) []);
+-- what expressions see of a row. It has no sub tasks yet
+abbrev pub env_of : Row → Env
+env_of row = record { input = row.input; output = row.output; priority = pos row.priority; initiator = row.initiator; subs = [] }
+
+abbrev pub seen : ModelOf → Row → Sight
+seen m row = sight (parts_of m.input m.output) (env_of row)
+
+-- with the priority that its model says
+abbrev pub with_priority : ModelOf → Row → Row
+with_priority m row = record row { priority = level_of (value (parts_of m.input m.output) (env_of row) m.priority) }
+
+-- with the persons of each role, of whom its assignments see none
+abbrev pub with_roles : TablesOf → ModelOf → Option Row → Row → Row
+with_roles t m above row = record row {
+  potential_owners = potential_owners (directory t) (seen m row) m.potential_owners m.excluded_owners;
+  excluded_owners = resolved (directory t) (seen m row) m.excluded_owners;
+  administrators = role_or (directory t) (seen m row) m.administrators (option_map_or (administrators_of t) above []);
+  stakeholders = role_or (directory t) (seen m row) m.stakeholders (option_map_or (stakeholders_of t) above []);
   by_group = not (is_individual m.potential_owners);
 }
+
+-- the row of a new task, before it is activated: first its priority, and then its roles
+abbrev pub new_row : TablesOf → ModelOf → ℕ → Option (TaskId × ℕ) → ℕ → Values → Option Moment → Moment → Row
+new_row t m model parent initiator input waits at =
+    with_roles t m (parent_row t parent) (with_priority m (bare_row (record { 0 = length t.rows + 1 }) model parent initiator input waits at))
+
+-- what is given to a new task is of parts that its model declares
+abbrev pub IsInput : ℕ → Option ModelOf → Values → Type 0
+IsInput persons model input = IfSome model (λ m. AreHeld (parts_of m.input m.output) persons Input input)
 
 -- with the tree of a new task of this model there would be too many
 abbrev pub IsFull : TablesOf → ℕ → Type 0

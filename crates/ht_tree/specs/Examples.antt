@@ -1,15 +1,22 @@
 -- Worked examples of the definitions. A wrong reading of one fails the check.
-use Rattle.std.specs.Prelude.{◌≡◌, refl, ℕ, List, [], ◌∷◌, Some, None, codes, true, false}
+use Rattle.std.specs.Prelude.{◌≡◌, refl, ℕ, ℤ, pos, List, [], ◌∷◌, Some, None, codes, true, false}
 use Rattle.ht_base.specs.declared.moment.Moment.{Moment}
 use Rattle.ht_base.specs.declared.state.State.TheVariants.{Ready}
-use Rattle.ht_expr.specs.Assignments.{nobody, everybody, initiator, user, group, union, intersect, except}
+use Rattle.ht_base.specs.declared.kind.Kind.TheVariants as Kind
+use Rattle.ht_base.specs.declared.value.Value.TheVariants as values
+use Rattle.ht_base.specs.declared.values.Values.{Values}
+use Rattle.ht_expr.specs.declared.environment.Env.{Env}
+use Rattle.ht_expr.specs.declared.kinds.Side.TheVariants.{Input}
+use Rattle.ht_expr.specs.declared.operator.Operator.TheVariants as operator
+use Rattle.ht_expr.specs.Kinds.{Declared}
+use Rattle.ht_expr.specs.Trees.{Tree, binary, choice, everybody, except, group, initiator, integer, intersect, negative, nobody, part, priority, truth, union, user, when}
 use Rattle.ht_models.specs.BuiltIn.{plain_model}
 use Rattle.ht_models.specs.Model.{ModelOf}
 use Rattle.ht_people.specs.declared.entries.PersonEntry.{PersonEntry}
 use Rattle.ht_people.specs.Directory.{DirectoryOf}
 use Rattle.ht_tree.specs.declared.row.Row.{Row}
-use Rattle.ht_tree.specs.Assigning.{potential_owners, resolved}
-use Rattle.ht_tree.specs.Creating.{new_row}
+use Rattle.ht_tree.specs.Assigning.{Sight, potential_owners, resolved, sight}
+use Rattle.ht_tree.specs.Creating.{new_row, with_priority}
 use Rattle.ht_tree.specs.Roles.{roles_in}
 use Rattle.ht_tree.specs.Rows.{row_at}
 use Rattle.ht_tree.specs.Sizes.{total_size}
@@ -32,43 +39,76 @@ office = record {
 
 -- ---- whom an assignment finds, for a task of dan's
 
-all_of_them : resolved office 3 everybody ≡ 0 ∷ 1 ∷ 2 ∷ 3 ∷ 4 ∷ []
+abbrev env : ℤ → Values → Env
+env number input = record { input = input; output = []; priority = number; initiator = 3; subs = [] }
+
+-- a task of dan's without parts
+abbrev dans : Sight
+dans = sight [] (env (pos 5) [])
+
+-- one whose input parts are a person and a number
+abbrev boss_and_sum : Declared
+boss_and_sum = (Input, codes "boss", Kind.Person) ∷ (Input, codes "sum", Kind.Int) ∷ []
+
+abbrev given_boss : Sight
+given_boss = sight boss_and_sum (env (pos 2) ((codes "boss", values.Person 1) ∷ []))
+
+abbrev given_nothing : Sight
+given_nothing = sight boss_and_sum (env (pos 2) [])
+
+all_of_them : resolved office dans everybody ≡ 0 ∷ 1 ∷ 2 ∷ 3 ∷ 4 ∷ []
 all_of_them = refl
 
-none_of_them : resolved office 3 nobody ≡ []
+none_of_them : resolved office dans nobody ≡ []
 none_of_them = refl
 
-who_created_it : resolved office 3 initiator ≡ 3 ∷ []
+who_created_it : resolved office dans initiator ≡ 3 ∷ []
 who_created_it = refl
 
-one_of_them : resolved office 3 (user (codes "cora")) ≡ 2 ∷ []
+one_of_them : resolved office dans (user (codes "cora")) ≡ 2 ∷ []
 one_of_them = refl
 
 -- a group is no user, and a name of nobody finds nobody
-a_group_as_user : resolved office 3 (user (codes "clerks")) ≡ []
+a_group_as_user : resolved office dans (user (codes "clerks")) ≡ []
 a_group_as_user = refl
 
-no_name : resolved office 3 (group (codes "no clerks")) ≡ []
+no_name : resolved office dans (group (codes "no clerks")) ≡ []
 no_name = refl
 
-the_clerks : resolved office 3 (group (codes "clerks")) ≡ 0 ∷ 1 ∷ []
+the_clerks : resolved office dans (group (codes "clerks")) ≡ 0 ∷ 1 ∷ []
 the_clerks = refl
 
 -- in ascending order, and nobody twice
-clerks_and_others : resolved office 3 (union (user (codes "dan")) (union (group (codes "clerks")) (user (codes "anna")))) ≡ 0 ∷ 1 ∷ 3 ∷ []
+clerks_and_others : resolved office dans (union (user (codes "dan")) (union (group (codes "clerks")) (user (codes "anna")))) ≡ 0 ∷ 1 ∷ 3 ∷ []
 clerks_and_others = refl
 
-clerks_but_one : resolved office 3 (except (group (codes "clerks")) (user (codes "anna"))) ≡ 1 ∷ []
+clerks_but_one : resolved office dans (except (group (codes "clerks")) (user (codes "anna"))) ≡ 1 ∷ []
 clerks_but_one = refl
 
-clerks_and_one : resolved office 3 (intersect everybody (user (codes "ben"))) ≡ 1 ∷ []
+clerks_and_one : resolved office dans (intersect everybody (user (codes "ben"))) ≡ 1 ∷ []
 clerks_and_one = refl
 
+who_is_given : resolved office given_boss (part Input (codes "boss")) ≡ 1 ∷ []
+who_is_given = refl
+
+nobody_is_given : resolved office given_nothing (part Input (codes "boss")) ≡ []
+nobody_is_given = refl
+
+by_the_priority : resolved office given_nothing (when (binary operator.Less priority (integer 3)) (user (codes "anna")) everybody) ≡ 0 ∷ []
+by_the_priority = refl
+
+by_another_priority : resolved office dans (when (binary operator.Less priority (integer 3)) everybody (user (codes "ben"))) ≡ 1 ∷ []
+by_another_priority = refl
+
+-- an unset part is nobody, who is no initiator
+by_who_is_unset : resolved office given_nothing (when (binary operator.Equal initiator (part Input (codes "boss"))) everybody nobody) ≡ []
+by_who_is_unset = refl
+
 -- an excluded owner is never a potential owner
-all_excluded : potential_owners office 3 (user (codes "anna")) (user (codes "anna")) ≡ []
+all_excluded : potential_owners office dans (user (codes "anna")) (user (codes "anna")) ≡ []
 all_excluded = refl
 
-one_excluded : potential_owners office 3 (group (codes "clerks")) (user (codes "ben")) ≡ 0 ∷ []
+one_excluded : potential_owners office dans (group (codes "clerks")) (user (codes "ben")) ≡ 0 ∷ []
 one_excluded = refl
 
 -- ---- a new task
@@ -91,6 +131,39 @@ nothing_yet = empty_tables (shut ∷ unit ∷ []) office
 
 abbrev first : Row
 first = new_row nothing_yet shut 0 None 3 [] None (at 1000)
+
+-- ---- priorities
+
+abbrev level : Tree → ℕ
+level tree = (with_priority (record (plain_model (codes "m")) { priority = tree }) first).priority
+
+the_middle : level (integer 5) ≡ 5
+the_middle = refl
+
+above_the_end : level (integer 20) ≡ 10
+above_the_end = refl
+
+below_the_end : level (negative (integer 1)) ≡ 0
+below_the_end = refl
+
+by_itself : level (binary operator.Minus priority (integer 2)) ≡ 3
+by_itself = refl
+
+by_a_choice : level (choice (truth false) (integer 1) (integer 7)) ≡ 7
+by_a_choice = refl
+
+-- roles see the priority that the task gets
+abbrev urgent : ModelOf
+urgent = record (plain_model (codes "urgent")) {
+  priority = integer 12;
+  potential_owners = when (binary operator.Equal priority (integer 10)) (user (codes "anna")) everybody;
+  excluded_owners = when (binary operator.Less priority (integer 10)) everybody nobody;
+}
+
+by_its_priority : (new_row nothing_yet urgent 0 None 3 [] None (at 1000)).potential_owners ≡ 0 ∷ []
+by_its_priority = refl
+
+-- ---- its roles
 
 nobody_may_own_it : first.potential_owners ≡ []
 nobody_may_own_it = refl

@@ -1,13 +1,23 @@
 -- What always holds of the tables: of each row, in groups by the fields that they speak of, and of
 -- all rows together.
-use Rattle.std.specs.Prelude.{◌≡◌, ℕ, ◌<◌, ◌≤◌, Bool, true, false, List, length, Option, Some, is_some, IsTrue, IfSome}
-use Rattle.std.specs.List.{All}
+use Rattle.std.specs.Prelude.{◌≡◌, ℕ, ◌+◌, ◌<◌, ◌≤◌, nat_lt, Bool, true, false, ◌&&◌, List, length, slice_get, Option, Some, is_some, option_map, IsTrue, IfSome}
+use Rattle.std.specs.Option.{option_and_then}
+use Rattle.std.specs.List.{All, list_all}
 use Rattle.ht_base.specs.declared.moment.Moment.{Moment}
 use Rattle.ht_base.specs.declared.state.State.{State}
 use Rattle.ht_base.specs.declared.task_id.TaskId.{TaskId}
+use Rattle.ht_base.specs.declared.value.Value.{Value}
+use Rattle.ht_base.specs.declared.value.Value.TheVariants as values
+use Rattle.ht_base.specs.declared.values.Values.{Values}
 use Rattle.ht_base.specs.Moment.{last_moment}
 use Rattle.ht_base.specs.Persons.{AllBelow, Ascends, has}
 use Rattle.ht_base.specs.State.{contains_state}
+use Rattle.ht_expr.specs.declared.kinds.Side.{Side}
+use Rattle.ht_expr.specs.declared.kinds.Side.TheVariants.{Input, Output}
+use Rattle.ht_expr.specs.Environment.{may_be}
+use Rattle.ht_expr.specs.Kinds.{Declared, declared_kind}
+use Rattle.ht_models.specs.Kinded.{parts_of}
+use Rattle.ht_models.specs.Model.{ModelOf}
 use Rattle.ht_rules.specs.States.{created, owned, suspended}
 use Rattle.ht_tree.specs.declared.comments.Comment.{Comment}
 use Rattle.ht_tree.specs.declared.row.Row.{Row}
@@ -86,22 +96,55 @@ pub record IsNoted (persons level : ℕ) (comments : List Comment) : Type 0 wher
   pub moments_within : All (λ c. c.moment.0 ≤ last_moment) comments
   pub texts_within : All (λ c. (1 ≤ length c.text) × (length c.text ≤ 512)) comments
 
+-- ---- what it holds of what its model declares
+
+-- the value is one of a declared part, and of its kind
+abbrev pub is_declared : Declared → Side → List ℕ × Value → Bool
+is_declared kinds side v = is_some (declared_kind kinds side v.0) && may_be (declared_kind kinds side v.0) v.1
+
+-- a person who is a value is one of as many
+abbrev pub is_known : ℕ → List ℕ × Value → Bool
+is_known persons (name, values.Person p) = nat_lt p persons
+is_known persons _ = true
+
+-- a text that is a value is one of as many bytes
+abbrev pub is_short : ℕ → List ℕ × Value → Bool
+is_short most (name, values.Text text) = nat_lt (length text) (most + 1)
+is_short most _ = true
+
+pub record AreHeld (kinds : Declared) (persons : ℕ) (side : Side) (parts : Values) : Type 0 where
+  pub declared : list_all (is_declared kinds side) parts ≡ true
+  pub known : list_all (is_known persons) parts ≡ true
+  pub texts_within : list_all (is_short 512) parts ≡ true
+
+pub record IsHeldBy (persons : ℕ) (m : ModelOf) (given set : Values) (passed : List ℕ) : Type 0 where
+  pub input : AreHeld (parts_of m.input m.output) persons Input given
+  pub output : AreHeld (parts_of m.input m.output) persons Output set
+  -- the deadlines that were taken are the model's, each once
+  pub taken : AllBelow (length m.deadlines) passed
+  pub taken_ascend : Ascends passed
+
+abbrev pub IsHeld : List ModelOf → ℕ → ℕ → Values → Values → List ℕ → Type 0
+IsHeld models persons place input output taken = IfSome (slice_get models place) (λ m. IsHeldBy persons m input output taken)
+
 -- ---- a row is sound
 
-pub record IsSoundIn (models persons : ℕ) (row : Row) : Type 0 where
-  pub filed : IsFiled models row.task row.parent row.model
+pub record IsSoundIn (models : List ModelOf) (persons : ℕ) (row : Row) : Type 0 where
+  pub filed : IsFiled (length models) row.task row.parent row.model
+  pub held : IsHeld models persons row.model row.input row.output row.taken
   pub who : ArePeople persons row.initiator row.last_owner row.potential_owners row.excluded_owners row.administrators row.stakeholders
   pub whose : IsWhose persons row.excluded_owners row.state row.owner
   pub when : IsTimed row.state row.created row.waits row.until
   pub how : IsNoted persons row.priority row.comments
 
 abbrev pub IsSoundRow : TablesOf → Row → Type 0
-IsSoundRow t row = IsSoundIn (length t.models) (length t.people.persons) row
+IsSoundRow t row = IsSoundIn t.models (length t.people.persons) row
 
 -- ---- a row fits: what it names is there
 
-pub record FitsIn (models persons : ℕ) (row : Row) : Type 0 where
-  pub filed : IsFiled models row.task row.parent row.model
+pub record FitsIn (models : List ModelOf) (persons : ℕ) (row : Row) : Type 0 where
+  pub filed : IsFiled (length models) row.task row.parent row.model
+  pub held : IsHeld models persons row.model row.input row.output row.taken
   pub who : AreKnown persons row.initiator row.last_owner row.potential_owners row.excluded_owners row.administrators row.stakeholders
   pub owner : IfSome row.owner (λ p. p < persons)
   pub commenters : All (λ c. c.person < persons) row.comments
@@ -109,7 +152,18 @@ pub record FitsIn (models persons : ℕ) (row : Row) : Type 0 where
   pub until : IsTrue (is_some row.until) → IsTrue (is_suspended row.state)
 
 abbrev pub Fits : TablesOf → Row → Type 0
-Fits t row = FitsIn (length t.models) (length t.people.persons) row
+Fits t row = FitsIn t.models (length t.people.persons) row
+
+-- ---- a sub task is of the model that its parent's model says
+
+-- the name of the model of the sub tasks of an entry, by its place
+abbrev pub model_of_entry : List ModelOf → ℕ → ℕ → Option (List ℕ)
+model_of_entry models place entry = option_map (λ e. e.model) (option_and_then (λ m. slice_get m.subs entry) (slice_get models place))
+
+pub record IsOfEntry (models : List ModelOf) (rows : List Row) (model : ℕ) (parent : TaskId × ℕ) : Type 0 where
+  pub above : Row
+  pub there : row_at parent.0.0 rows ≡ Some above
+  pub named : model_of_entry models above.model parent.1 ≡ option_map (λ m. m.name) (slice_get models model)
 
 -- ---- tables are sound
 
@@ -117,6 +171,8 @@ pub record IsSound (t : TablesOf) : Type 0 where
   -- the rows are in the order of their numbers, from 1 without gaps
   pub numbered : (task : ℕ) (row : Row) → row_at task t.rows ≡ Some row → row.task.0 ≡ task
   pub rows_sound : (task : ℕ) (row : Row) → row_at task t.rows ≡ Some row → IsSoundRow t row
+  -- each sub task is of an entry of its parent's model
+  pub entries : (task : ℕ) (row : Row) → row_at task t.rows ≡ Some row → IfSome row.parent (IsOfEntry t.models t.rows row.model)
   pub last_within : t.last ≤ last_moment
   -- every task is counted in the tree of its top task
   pub tasks_counted : length t.rows ≤ total_size t.models t.rows

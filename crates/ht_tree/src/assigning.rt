@@ -1,15 +1,20 @@
-ghost use Rattle.std.specs.Prelude.{◌≡◌, ◌<◌, ℕ, [], ◌∷◌, IfOk, length, pos};
-ghost use Rattle.ht_expr.specs.Assignments.{group, user};
+ghost use Rattle.std.specs.Prelude.{◌≡◌, ◌<◌, [], ◌∷◌, IfOk, IfSome, IsTrue, length, option_map};
+ghost use Rattle.ht_expr.specs.Assignments.{group, part, user};
+ghost use Rattle.ht_expr.specs.Environment.{has_parts};
+ghost use Rattle.ht_expr.specs.Kinds.{Declared};
 ghost use Rattle.ht_expr.specs.Shown.{shown};
+ghost use Rattle.ht_models.specs.Kinded.{Assigns, parts_of};
 ghost use Rattle.ht_people.specs.Membership as membership;
-ghost use Rattle.ht_tree.specs.Assigning.{resolved};
+ghost use Rattle.ht_tree.specs.Assigning as spec;
+ghost use Rattle.ht_tree.specs.Assigning.{Sight, resolved, sight};
+ghost use Rattle.ht_tree.specs.Creating.{env_of, seen};
 ghost use Rattle.ht_tree.specs.Plans.{IsPlanOf};
 ghost use Rattle.ht_tree.specs.Soundness.{Fits};
-ghost use Rattle.ht_tree.specs.Tables.{directory};
+ghost use Rattle.ht_tree.specs.Tables.{directory, model_of};
 
 use crate::{Plan, Row, Tables};
-use ht_base::{Memory, Name, Person, Persons};
-use ht_expr::{Assign, Env, Subs};
+use ht_base::{Memory, Name, Person, Persons, Value, Values};
+use ht_expr::{Assign, Env, Side, Subs};
 use ht_people::{Directory, except, intersect, union};
 use std::alloc::Global;
 
@@ -17,10 +22,7 @@ use std::alloc::Global;
 pub fn env(alloc: Global, _tables: &Tables, _plan: &Plan, row: &Row) -> Result<Env, Memory>
     requires plan { IsPlanOf _tables.now.tables _plan.now }
     requires row { Fits _tables.now.tables row.now }
-    ensures initiator { IfOk result (λ e. e.initiator ≡ row.now.initiator) }
-    ensures parts { IfOk result (λ e. (e.input ≡ row.now.input) × (e.output ≡ row.now.output)) }
-    ensures priority { IfOk result (λ e. e.priority ≡ pos row.now.priority) }
-    ensures subs { IfOk result (λ e. e.subs ≡ []) }
+    ensures { IfOk result (λ e. e ≡ env_of row.now) }
 {
     Ok(Env {
         input: row.input.copy(alloc)?,
@@ -31,56 +33,111 @@ pub fn env(alloc: Global, _tables: &Tables, _plan: &Plan, row: &Row) -> Result<E
     })
 }
 
-/// The persons whom an assignment finds for a row, in ascending order (WS-HumanTask 1.1, 3.5).
+/// The persons whom an assignment of the row's model finds for the row, in ascending order
+/// (WS-HumanTask 1.1, 3.5).
 pub fn resolve(
     alloc: Global,
     tables: &Tables,
-    _plan: &Plan,
+    plan: &Plan,
     row: &Row,
     assign: &Assign,
 ) -> Result<Persons, Memory>
-    requires plan { IsPlanOf tables.now.tables _plan.now }
+    requires plan { IsPlanOf tables.now.tables plan.now }
     requires row { Fits tables.now.tables row.now }
-    ensures { IfOk result (λ persons. persons ≡ resolved (directory tables.now.tables) row.now.initiator (shown assign.now)) }
+    requires assign { IfSome (model_of tables.now.tables row.now) (λ m. Assigns (parts_of m.input m.output) assign.now) }
+    ensures { IfOk result (λ persons. IfSome (model_of tables.now.tables row.now) (λ m. persons ≡ resolved (directory tables.now.tables) (seen m row.now) (shown assign.now))) }
 {
-    found(alloc, tables.people(), row.initiator, assign)
+    if assign.is_plain() {
+        return found(
+            alloc,
+            tables.people(),
+            &env_without_values(alloc, row),
+            assign,
+        );
+    }
+    let env = env(alloc, tables, plan, row)?;
+    found(alloc, tables.people(), &env, assign)
 }
 
-/// The persons of the directory whom an assignment finds for a task of this initiator. An input and `when`
-/// find nobody yet.
+// For an assignment that looks at no value, so that none is copied.
+fn env_without_values(alloc: Global, row: &Row) -> Env
+    ensures initiator { result.initiator ≡ row.now.initiator }
+    ensures input { result.input ≡ [] }
+    ensures output { result.output ≡ [] }
+{
+    Env {
+        input: Values::new(alloc),
+        output: Values::new(alloc),
+        priority: i64::from(row.priority),
+        initiator: row.initiator,
+        subs: Subs::new(alloc),
+    }
+}
+
+/// The persons of the directory whom an assignment finds in an environment.
 pub(crate) fn found(
     alloc: Global,
     people: &Directory,
-    initiator: Person,
+    env: &Env,
     assign: &Assign,
 ) -> Result<Persons, Memory>
-    requires { initiator < length people.now.persons }
-    ensures { IfOk result (λ persons. persons ≡ resolved people.now initiator (shown assign.now)) }
+    requires initiator { env.now.initiator < length people.now.persons }
+    requires kinds { (kinds : Declared) × Assigns kinds assign.now × IsTrue (has_parts kinds env.now) }
+    ensures { IfOk result (λ persons. (kinds : Declared) → Assigns kinds assign.now → persons ≡ resolved people.now (sight kinds env.now) (shown assign.now)) }
 {
     match assign {
         Assign::Nobody => Ok(Persons::new(alloc)),
-        // These find nobody yet: they come with inputs and values.
-        Assign::In(_) => Ok(Persons::new(alloc)),
-        Assign::When(_, _, _) => Ok(Persons::new(alloc)),
         Assign::Everybody => everybody(alloc, people),
-        Assign::Initiator => alone(alloc, initiator),
+        Assign::Initiator => alone(alloc, env.initiator),
+        Assign::In(name) => person_given(alloc, people, env, name.as_str()),
         Assign::User(text) => persons_named(alloc, people, text.as_str()),
         Assign::Group(text) => members_of(alloc, people, text.as_str()),
         Assign::Union(a, b) => {
-            let first = found(alloc, people, initiator, a)?;
-            let second = found(alloc, people, initiator, b)?;
+            let first = found(alloc, people, env, a)?;
+            let second = found(alloc, people, env, b)?;
             union(alloc, &first, &second)
         }
         Assign::Intersect(a, b) => {
-            let first = found(alloc, people, initiator, a)?;
-            let second = found(alloc, people, initiator, b)?;
+            let first = found(alloc, people, env, a)?;
+            let second = found(alloc, people, env, b)?;
             intersect(alloc, &first, &second)
         }
         Assign::Except(a, b) => {
-            let first = found(alloc, people, initiator, a)?;
-            let second = found(alloc, people, initiator, b)?;
+            let first = found(alloc, people, env, a)?;
+            let second = found(alloc, people, env, b)?;
             except(alloc, &first, &second)
         }
+        Assign::When(test, a, b) => {
+            if test.truth(env) {
+                found(alloc, people, env, a)
+            } else {
+                found(alloc, people, env, b)
+            }
+        }
+    }
+}
+
+// The person whom an input part names, if the directory has the person.
+fn person_given(alloc: Global, people: &Directory, env: &Env, name: &str) -> Result<Persons, Memory>
+    ensures { IfOk result (λ persons. (kinds : Declared) → persons ≡ resolved people.now (sight kinds env.now) (part Side.Input name.now)) }
+{
+    let Some(person) = person_of(env.given(Side::Input, name)) else {
+        return Ok(Persons::new(alloc));
+    };
+    if person.0 < people.persons() {
+        alone(alloc, person)
+    } else {
+        Ok(Persons::new(alloc))
+    }
+}
+
+// The person that a value is, where it is one.
+fn person_of(value: Option<&Value>) -> Option<Person>
+    ensures { result ≡ spec.person_of (option_map (λ v. v.now) value.entry) }
+{
+    match value {
+        Some(Value::Person(person)) => Some(*person),
+        _ => None,
     }
 }
 
@@ -105,7 +162,7 @@ fn alone(alloc: Global, person: Person) -> Result<Persons, Memory>
 
 // The person with this name, where the text is a name.
 fn persons_named(alloc: Global, people: &Directory, text: &str) -> Result<Persons, Memory>
-    ensures { IfOk result (λ persons. (creator : ℕ) → persons ≡ resolved people.now creator (user text.now)) }
+    ensures { IfOk result (λ persons. (s : Sight) → persons ≡ resolved people.now s (user text.now)) }
 {
     let Some(name) = Name::of(text.as_bytes()) else {
         return Ok(Persons::new(alloc));
@@ -118,7 +175,7 @@ fn persons_named(alloc: Global, people: &Directory, text: &str) -> Result<Person
 
 // The members of the group with this name, where the text is a name.
 fn members_of(alloc: Global, people: &Directory, text: &str) -> Result<Persons, Memory>
-    ensures { IfOk result (λ persons. (creator : ℕ) → persons ≡ resolved people.now creator (group text.now)) }
+    ensures { IfOk result (λ persons. (s : Sight) → persons ≡ resolved people.now s (group text.now)) }
 {
     match Name::of(text.as_bytes()) {
         Some(name) => people.members(alloc, name),

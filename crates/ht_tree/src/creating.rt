@@ -1,11 +1,16 @@
-ghost use Rattle.std.specs.Prelude.{◌≡◌, ◌<◌, ◌≤◌, ◌+◌, ◌^◌, [], IfOk, IfSome, OnErr, OnOk, None, Some, Err, length, option_map};
+ghost use Rattle.std.specs.Prelude.{◌≡◌, ◌<◌, ◌≤◌, ◌+◌, ◌^◌, [], IfOk, IfSome, IsTrue, OnErr, OnOk, None, Some, Err, length, option_map, pos};
 ghost use Rattle.std.specs.Option.{option_map_or};
 ghost use Rattle.ht_base.specs.Moment.{last_moment};
+ghost use Rattle.ht_expr.specs.Environment.{has_parts};
+ghost use Rattle.ht_expr.specs.Kinds.{Declared};
 ghost use Rattle.ht_expr.specs.Shown.{shown};
+ghost use Rattle.ht_expr.specs.Values.{a_number, value};
+ghost use Rattle.ht_models.specs.Kinded.{Assigns, IsKinded, parts_of};
 ghost use Rattle.ht_models.specs.Model.{ModelOf};
-ghost use Rattle.ht_tree.specs.Assigning.{potential_owners, resolved};
+ghost use Rattle.ht_models.specs.Shown.{model_of};
+ghost use Rattle.ht_tree.specs.Assigning.{potential_owners, resolved, sight};
 ghost use Rattle.ht_tree.specs.Creating as spec;
-ghost use Rattle.ht_tree.specs.Creating.{IsFull, role_or};
+ghost use Rattle.ht_tree.specs.Creating.{IsFull, IsInput, level_of, middle_priority, role_or};
 ghost use Rattle.ht_tree.specs.Plans.{Goes, IsPlanOf, planned};
 ghost use Rattle.ht_tree.specs.Soundness.{KeepsSound};
 ghost use Rattle.ht_tree.specs.Tables.{model_at, with_row};
@@ -13,7 +18,7 @@ ghost use Rattle.ht_tree.specs.Tables.{model_at, with_row};
 use crate::assigning::found;
 use crate::{Comments, Plan, Row, Tables, Taken};
 use ht_base::{Memory, Moment, Person, Persons, State, TaskId, Values};
-use ht_expr::Assign;
+use ht_expr::{Assign, Env, Subs};
 use ht_models::Model;
 use ht_people::{Directory, except};
 use std::alloc::Global;
@@ -47,9 +52,10 @@ impl From<Memory> for CreateRefusal {
 }
 
 /// Puts the row of a new task into the plan, before it is activated, and gives its number
-/// (WS-HumanTask 1.1, 4.10). `parent` is the parent of a sub task, with the place among its sub
-/// entries: a sub task takes the parent's administrators or stakeholders where its model gives none,
-/// and the limit isn't tested for it.
+/// (WS-HumanTask 1.1, 4.10): first its priority is found, and then, at that priority, the persons of
+/// each role. `input` has values of parts that the model declares. `parent` is the parent of a sub
+/// task, with the place among its sub entries: a sub task takes the parent's administrators or
+/// stakeholders where its model gives none, and the limit isn't tested for it.
 #[allow(clippy::too_many_arguments)]
 pub fn create(
     alloc: Global,
@@ -67,6 +73,7 @@ pub fn create(
     requires model { model < length tables.now.tables.models }
     requires parent { IfSome parent (λ p. (1 ≤ p.0.0) × (p.0.0 ≤ length (planned tables.now.tables plan.old).rows)) }
     requires initiator { initiator < length tables.now.tables.people.persons }
+    requires input { IsInput (length tables.now.tables.people.persons) (model_at tables.now.tables model) input }
     ensures id { IfOk result (λ id. id.0 ≡ length (planned tables.now.tables plan.old).rows + 1) }
     ensures goes { OnOk result ((m : ModelOf) × (model_at tables.now.tables model ≡ Some m) × Goes tables.now.tables plan.old plan.new (planned tables.now.tables plan.old) (with_row (planned tables.now.tables plan.old) (spec.new_row (planned tables.now.tables plan.old) m model parent initiator input waits at))) }
     ensures sound { OnOk result (parent ≡ None → at.0 ≤ last_moment → IfSome waits (λ m. m.0 ≤ last_moment) → KeepsSound (planned tables.now.tables plan.old) (planned tables.now.tables plan.new)) }
@@ -86,7 +93,7 @@ pub fn create(
     Ok(task)
 }
 
-// The row of a new task, for whose roles expressions and assignments see it before any is set.
+// The row of a new task. It is seen by expressions before any role is set.
 #[allow(clippy::too_many_arguments)]
 fn new_row(
     alloc: Global,
@@ -105,46 +112,17 @@ fn new_row(
     requires model { model < length tables.now.tables.models }
     requires parent { IfSome parent (λ p. (1 ≤ p.0.0) × (p.0.0 ≤ length (planned tables.now.tables plan.now).rows)) }
     requires initiator { initiator < length tables.now.tables.people.persons }
+    requires input { IsInput (length tables.now.tables.people.persons) (model_at tables.now.tables model) input }
     ensures { IfOk result (λ row. IfSome (model_at tables.now.tables model) (λ m. row ≡ spec.new_row (planned tables.now.tables plan.now) m model parent initiator input waits at)) }
 {
-    let people = tables.people();
     let m = tables.models().model(model);
-    let mut row = bare_row(alloc, task, model, parent, initiator, input, waits, at);
     let above = parent_row(tables, plan, parent);
-    row.excluded_owners = found(alloc, people, initiator, &m.excluded_owners)?;
-    row.potential_owners = owners(alloc, people, initiator, m, &row.excluded_owners)?;
-    row.administrators = role(
-        alloc,
-        people,
-        initiator,
-        &m.administrators,
-        administrators_of(above),
-    )?;
-    row.stakeholders = role(
-        alloc,
-        people,
-        initiator,
-        &m.stakeholders,
-        stakeholders_of(above),
-    )?;
-    row.by_group = !m.potential_owners.individual();
-    Ok(row)
-}
-
-#[allow(clippy::too_many_arguments)]
-fn bare_row(
-    alloc: Global,
-    task: TaskId,
-    model: u32,
-    parent: Option<(TaskId, u32)>,
-    initiator: Person,
-    input: Values,
-    waits: Option<Moment>,
-    at: Moment,
-) -> Row
-    ensures { result ≡ spec.bare_row task model parent initiator input waits at }
-{
-    Row {
+    let env = first_env(alloc, input, initiator);
+    let priority = priority_of(m, &env);
+    let env = at_priority(env, priority);
+    let roles = roles_of(alloc, tables.people(), &env, m, above)?;
+    let (input, output) = values_of(env);
+    Ok(Row {
         task,
         parent,
         model,
@@ -152,22 +130,124 @@ fn bare_row(
         owner: None,
         last_owner: None,
         initiator,
-        potential_owners: Persons::new(alloc),
-        excluded_owners: Persons::new(alloc),
-        administrators: Persons::new(alloc),
-        stakeholders: Persons::new(alloc),
-        by_group: false,
+        potential_owners: roles.potential_owners,
+        excluded_owners: roles.excluded_owners,
+        administrators: roles.administrators,
+        stakeholders: roles.stakeholders,
+        by_group: !m.potential_owners.individual(),
         started: false,
-        priority: MIDDLE_PRIORITY,
+        priority,
         input,
-        output: Values::new(alloc),
+        output,
         created: at,
         waits,
         until: None,
         fault: None,
         taken: Taken::new(alloc),
         comments: Comments::new(alloc),
+    })
+}
+
+// What the expression of a new task's priority sees.
+fn first_env(alloc: Global, input: Values, initiator: Person) -> Env
+    ensures { result ≡ record { input = input; output = []; priority = pos middle_priority; initiator = initiator; subs = [] } }
+{
+    Env {
+        input,
+        output: Values::new(alloc),
+        priority: i64::from(MIDDLE_PRIORITY),
+        initiator,
+        subs: Subs::new(alloc),
     }
+}
+
+fn at_priority(env: Env, priority: u8) -> Env
+    ensures { result ≡ record env { priority = pos priority } }
+{
+    Env {
+        priority: i64::from(priority),
+        ..env
+    }
+}
+
+fn values_of(env: Env) -> (Values, Values)
+    ensures { result ≡ (env.input, env.output) }
+{
+    let Env { input, output, .. } = env;
+    (input, output)
+}
+
+// The priority that a model says, in this environment.
+fn priority_of(model: &Model, env: &Env) -> u8
+    requires kinds { IsKinded model.now }
+    requires parts { IsTrue (has_parts (parts_of model.now.input.items model.now.output.items) env.now) }
+    ensures { result ≡ level_of (value (parts_of model.now.input.items model.now.output.items) env.now (model_of model.now).priority) }
+{
+    match &model.priority {
+        Some(expression) => level(expression.int(env)),
+        None => MIDDLE_PRIORITY,
+    }
+}
+
+fn level(number: i64) -> u8
+    ensures { result ≡ level_of (a_number number) }
+{
+    if number < 0 {
+        0
+    } else if number > 10 {
+        10
+    } else {
+        number as u8
+    }
+}
+
+/// The persons of the roles of a new task.
+#[derive(Drop)]
+struct Roles {
+    potential_owners: Persons,
+    excluded_owners: Persons,
+    administrators: Persons,
+    stakeholders: Persons,
+}
+
+fn roles_of(
+    alloc: Global,
+    people: &Directory,
+    env: &Env,
+    model: &Model,
+    above: Option<&Row>,
+) -> Result<Roles, Memory>
+    requires initiator { env.now.initiator < length people.now.persons }
+    requires kinds { IsKinded model.now }
+    requires parts { IsTrue (has_parts (parts_of model.now.input.items model.now.output.items) env.now) }
+    ensures potential_owners { let s = sight (parts_of model.now.input.items model.now.output.items) env.now in
+        IfOk result (λ r. r.potential_owners ≡ potential_owners people.now s (shown model.now.potential_owners) (shown model.now.excluded_owners)) }
+    ensures excluded_owners { let s = sight (parts_of model.now.input.items model.now.output.items) env.now in
+        IfOk result (λ r. r.excluded_owners ≡ resolved people.now s (shown model.now.excluded_owners)) }
+    ensures administrators { let s = sight (parts_of model.now.input.items model.now.output.items) env.now in
+        IfOk result (λ r. r.administrators ≡ role_or people.now s (option_map shown model.now.administrators) (option_map_or (λ r. r.now.administrators) above.entry [])) }
+    ensures stakeholders { let s = sight (parts_of model.now.input.items model.now.output.items) env.now in
+        IfOk result (λ r. r.stakeholders ≡ role_or people.now s (option_map shown model.now.stakeholders) (option_map_or (λ r. r.now.stakeholders) above.entry [])) }
+{
+    let excluded_owners = found(alloc, people, env, &model.excluded_owners)?;
+    Ok(Roles {
+        potential_owners: owners(alloc, people, env, model, &excluded_owners)?,
+        excluded_owners,
+        administrators: role(
+            alloc,
+            people,
+            env,
+            &model.administrators,
+            administrators_of(above),
+        )?,
+        stakeholders: role(
+            alloc,
+            people,
+            env,
+            &model.stakeholders,
+            stakeholders_of(above),
+        )?,
+    })
 }
 
 // The row of the parent, of a sub task.
@@ -189,15 +269,17 @@ fn parent_row<'a>(
 fn owners(
     alloc: Global,
     people: &Directory,
-    initiator: Person,
+    env: &Env,
     model: &Model,
     excluded: &Persons,
 ) -> Result<Persons, Memory>
-    requires initiator { initiator < length people.now.persons }
-    requires excluded { excluded.now ≡ resolved people.now initiator (shown model.now.excluded_owners) }
-    ensures { IfOk result (λ ps. ps ≡ potential_owners people.now initiator (shown model.now.potential_owners) (shown model.now.excluded_owners)) }
+    requires initiator { env.now.initiator < length people.now.persons }
+    requires kinds { IsKinded model.now }
+    requires parts { IsTrue (has_parts (parts_of model.now.input.items model.now.output.items) env.now) }
+    requires excluded { excluded.now ≡ resolved people.now (sight (parts_of model.now.input.items model.now.output.items) env.now) (shown model.now.excluded_owners) }
+    ensures { IfOk result (λ ps. ps ≡ potential_owners people.now (sight (parts_of model.now.input.items model.now.output.items) env.now) (shown model.now.potential_owners) (shown model.now.excluded_owners)) }
 {
-    let candidates = found(alloc, people, initiator, &model.potential_owners)?;
+    let candidates = found(alloc, people, env, &model.potential_owners)?;
     if excluded.as_slice().is_empty() {
         return Ok(candidates);
     }
@@ -208,15 +290,16 @@ fn owners(
 fn role(
     alloc: Global,
     people: &Directory,
-    initiator: Person,
+    env: &Env,
     assign: &Option<Assign>,
     inherited: Option<&Persons>,
 ) -> Result<Persons, Memory>
-    requires { initiator < length people.now.persons }
-    ensures { IfOk result (λ ps. ps ≡ role_or people.now initiator (option_map shown assign.now) (option_map_or (λ p. p.now) inherited.entry [])) }
+    requires initiator { env.now.initiator < length people.now.persons }
+    requires kinds { (kinds : Declared) × IfSome assign.now (Assigns kinds) × IsTrue (has_parts kinds env.now) }
+    ensures { IfOk result (λ ps. (kinds : Declared) → IfSome assign.now (Assigns kinds) → ps ≡ role_or people.now (sight kinds env.now) (option_map shown assign.now) (option_map_or (λ p. p.now) inherited.entry [])) }
 {
     match assign {
-        Some(assign) => found(alloc, people, initiator, assign),
+        Some(assign) => found(alloc, people, env, assign),
         None => match inherited {
             Some(persons) => Ok(persons.copy(alloc)?),
             None => Ok(Persons::new(alloc)),

@@ -4,7 +4,6 @@ ghost use Rattle.ht_tree.specs.Soundness.{KeepsSound};
 
 use crate::{Comment, CreateRefusal, Plan, Tables, create, env, resolve};
 use ht_base::{LAST, Moment, Person, Persons, Role, Roles, State, TaskId, Txt, Values};
-use ht_expr::{Assign, Kinds};
 use ht_models::Models;
 use ht_people::Directory;
 use ht_samples::PEOPLE;
@@ -209,14 +208,6 @@ fn roles_are_those_of_the_row(rt: HostRuntime) -> Result<(), Fail> {
     Ok(())
 }
 
-// Whom an assignment finds for the first task.
-fn found(alloc: Global, tables: &Tables, text: &str) -> Result<Persons, Fail> {
-    let assign = Assign::read(alloc, text, &Kinds::new(alloc))?;
-    let plan = Plan::begin(alloc)?;
-    let row = tables.row(TaskId(1)).ok_or("a row")?;
-    Ok(resolve(alloc, tables, &plan, row, &assign)?)
-}
-
 #[test]
 fn an_environment_is_that_of_a_row(rt: HostRuntime) -> Result<(), Fail> {
     let mut tables = tables(rt.alloc())?;
@@ -230,6 +221,29 @@ fn an_environment_is_that_of_a_row(rt: HostRuntime) -> Result<(), Fail> {
     Ok(())
 }
 
+// A task of dan's whose model has these potential owners, priority 7 and two parts, which are unset.
+fn owned_by(rt: &impl Abort, alloc: Global, owners: &str) -> Result<Tables, Fail> {
+    let mut text = String::new(alloc);
+    text.push_str(
+        "[[model]]\nname = \"m\"\npriority = \"7\"\ninput = [{name = \"boss\", kind = \"person\"}, {name = \"sum\", kind = \"int\"}]\npotentialOwners = \"",
+    )?;
+    text.push_str(owners)?;
+    text.push_str("\"\n")?;
+    let models = Models::read(alloc, text.as_bytes())?;
+    let people = Directory::read(alloc, PEOPLE.as_bytes())?;
+    let mut tables = Tables::new(alloc, models, people)?;
+    created(rt, alloc, &mut tables, 0)?;
+    Ok(tables)
+}
+
+// Whom its model's assignment of potential owners finds for the first task.
+fn found(alloc: Global, tables: &Tables) -> Result<Persons, Fail> {
+    let plan = Plan::begin(alloc)?;
+    let row = tables.row(TaskId(1)).ok_or("a row")?;
+    let model = tables.models().model(row.model);
+    Ok(resolve(alloc, tables, &plan, row, &model.potential_owners)?)
+}
+
 // In each line an assignment stands before whom it finds.
 const FOUND: &str = "\
 nobody => []
@@ -239,17 +253,23 @@ user('cora') => [Person(2)]
 user('no one') => []
 union(user('dan'), group('clerks')) => [Person(0), Person(1), Person(3)]
 intersect(everybody, user('ben')) => [Person(1)]
-except(group('clerks'), user('anna')) => [Person(1)]";
+except(group('clerks'), user('anna')) => [Person(1)]
+in.boss => []
+when(priority == 7, user('anna'), everybody) => [Person(0)]
+when(priority < 7, user('anna'), group('clerks')) => [Person(0), Person(1)]
+when(initiator == in.boss, everybody, user('ben')) => [Person(1)]
+when(set(in.sum) or in.sum != 0, everybody, union(initiator, in.boss)) => [Person(3)]";
 
 #[test]
 fn assignments_find_persons(rt: HostRuntime) -> Result<(), Fail> {
-    let mut tables = tables(rt.alloc())?;
-    created(&rt, rt.alloc(), &mut tables, UNIT)?;
     for line in FOUND.lines() {
         let (text, persons) = line.split_once(" => ").ok_or("an assignment and persons")?;
-        let found = found(rt.alloc(), &tables, text)?;
+        let tables = owned_by(&rt, rt.alloc(), text)?;
+        let found = found(rt.alloc(), &tables)?;
         let found = format!(in rt.alloc(); "{:?}", found.as_slice())?;
         assert_eq!(rt; found.as_str(), persons, "{text}");
+        let row = tables.row(TaskId(1)).ok_or("a row")?;
+        assert_eq!(rt; row.priority, 7);
     }
     Ok(())
 }

@@ -11,4 +11,4 @@ pub returns-in-None : goal.returns-in-None
 returns-in-None c =
     let d = c.args.people.now in
     let none : name_of c.args.text.now ≡ None = sym (ap (λ (l : List ℕ). name_of l) c.as_bytes.ensures.value) ∙ sym c.in-None.ensures in
-    λ creator. c.new.ensures ∙ select_none (is_found d creator (group c.args.text.now)) (everybody d) (λ p. ap (λ (o : Option (List ℕ)). option_map_or (λ name. is_member d name p) o false) none)
+    λ s. c.new.ensures ∙ select_none (is_found d s (group c.args.text.now)) (everybody d) (λ p. ap (λ (o : Option (List ℕ)). option_map_or (λ name. is_member d name p) o false) none)

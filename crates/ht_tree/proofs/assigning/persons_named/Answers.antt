@@ -4,7 +4,7 @@ use Rattle.ht_base.specs.Name.{name_of}
 use Rattle.ht_expr.specs.Assignments.{user}
 use Rattle.ht_people.specs.Directory.{find}
 use Rattle.ht_people.specs.Membership.{everybody}
-use Rattle.ht_tree.specs.Assigning.{find_user, is_found, resolved}
+use Rattle.ht_tree.specs.Assigning.{Sight, find_user, is_found, resolved}
 use Rattle.ht_tree.proofs.Selecting.{if_ok, select_none, select_one}
 use Rattle.ht_tree.proofs.assigning.persons_named.Goals as goal
 
@@ -13,7 +13,7 @@ returns-in_default c =
     let d = c.args.people.now in
     let none : name_of c.args.text.now ≡ None = sym (ap (λ (l : List ℕ). name_of l) c.as_bytes.ensures.value) ∙ sym c.in_default.ensures in
     let unknown : find_user c.args.text.now d ≡ None = ap (λ (o : Option (List ℕ)). option_and_then (λ name. find name d) o) none in
-    λ creator. c.new.ensures ∙ select_none (is_found d creator (user c.args.text.now)) (everybody d) (λ p. ap (λ (o : Option ℕ). option_map_or (λ q. p == q) o false) unknown)
+    λ s. c.new.ensures ∙ select_none (is_found d s (user c.args.text.now)) (everybody d) (λ p. ap (λ (o : Option ℕ). option_map_or (λ q. p == q) o false) unknown)
 
 pub returns-in-Some-find : goal.returns-in-Some-find
 returns-in-Some-find c =
@@ -21,13 +21,13 @@ returns-in-Some-find c =
     let name : name_of c.args.text.now ≡ Some c.in-Some.name = sym (ap (λ (l : List ℕ). name_of l) c.as_bytes.ensures.value) ∙ sym c.in-Some.ensures in
     let known : find_user c.args.text.now d ≡ Some c.in-Some-find.person = ap (λ (o : Option (List ℕ)). option_and_then (λ name. find name d) o) name ∙ sym c.in-Some-find.ensures.value in
     let q = c.in-Some-find.person in
-    let one : (creator : ℕ) → q ∷ [] ≡ resolved d creator (user c.args.text.now) =
-    λ creator. select_one (is_found d creator (user c.args.text.now)) (length d.persons) q c.in-Some-find.ensures.within (λ p. ap (λ (o : Option ℕ). option_map_or (λ r. p == r) o false) known) in
-    if_ok (λ (l : List ℕ). l ≡ q ∷ []) (λ (l : List ℕ). (creator : ℕ) → l ≡ resolved d creator (user c.args.text.now)) c.alone.result (λ l e creator. e ∙ one creator) c.alone.ensures
+    let one : (s : Sight) → q ∷ [] ≡ resolved d s (user c.args.text.now) =
+    λ s. select_one (is_found d s (user c.args.text.now)) (length d.persons) q c.in-Some-find.ensures.within (λ p. ap (λ (o : Option ℕ). option_map_or (λ r. p == r) o false) known) in
+    if_ok (λ (l : List ℕ). l ≡ q ∷ []) (λ (l : List ℕ). (s : Sight) → l ≡ resolved d s (user c.args.text.now)) c.alone.result (λ l e s. e ∙ one s) c.alone.ensures
 
 pub returns-in-None : goal.returns-in-None
 returns-in-None c =
     let d = c.args.people.now in
     let name : name_of c.args.text.now ≡ Some c.in-Some.name = sym (ap (λ (l : List ℕ). name_of l) c.as_bytes.ensures.value) ∙ sym c.in-Some.ensures in
     let unknown : find_user c.args.text.now d ≡ None = ap (λ (o : Option (List ℕ)). option_and_then (λ name. find name d) o) name ∙ sym c.in-None.ensures.value in
-    λ creator. c.new-in-None.ensures ∙ select_none (is_found d creator (user c.args.text.now)) (everybody d) (λ p. ap (λ (o : Option ℕ). option_map_or (λ q. p == q) o false) unknown)
+    λ s. c.new-in-None.ensures ∙ select_none (is_found d s (user c.args.text.now)) (everybody d) (λ p. ap (λ (o : Option ℕ). option_map_or (λ q. p == q) o false) unknown)

@@ -28,7 +28,7 @@ put-requires-clause-fits c =
     let at : model_at t c.args.model ≡ Some m = ap (λ (ms : List ModelOf). slice_get ms c.args.model) (sym c.models.ensures.value) ∙ c.model.ensures.value in
     let is : c.in_ok-row.row ≡ new_row u m c.args.model c.args.parent c.args.initiator c.args.input c.args.waits c.args.at = rw at at c.in_ok-row.ensures in
     let P : Row → Type 0 = λ r. Fits t r in
-    subst P (sym is) (new_row_fits u m c.args.model c.args.parent c.args.initiator c.args.input c.args.waits c.args.at c.requires.model c.requires.initiator c.requires.parent (parent_fits t c.args.plan.now c.args.parent c.models.ensures.sound c.requires.plan))
+    subst P (sym is) (new_row_fits u m c.args.model c.args.parent c.args.initiator c.args.input c.args.waits c.args.at c.requires.model c.requires.initiator c.requires.parent (parent_fits t c.args.plan.now c.args.parent c.models.ensures.sound c.requires.plan) c.requires.input)
 
 pub returns-clause-goes : goal.returns-clause-goes
 returns-clause-goes c =
@@ -62,8 +62,8 @@ returns-clause-sound c = λ none early soon sound.
     ] in
     let number : row.task.0 ≡ length u.rows + 1 = ap (λ (r : Row). r.task.0) top in
     let P : Row → Type 0 = λ r. IsSoundRow t r in
-    let fine : IsSoundRow t row = subst P (sym top) (new_row_sound u m c.args.model c.args.initiator c.args.input c.args.waits c.args.at c.requires.model c.requires.initiator early soon) in
+    let fine : IsSoundRow t row = subst P (sym top) (new_row_sound u m c.args.model c.args.initiator c.args.input c.args.waits c.args.at c.requires.model c.requires.initiator early soon c.requires.input) in
     let behind : planned t c.put.new.self ≡ record u { rows = u.rows ++ row ∷ [] } =
     c.in_ok-put.ensures.goes.to ∙ ap (λ (l : List Row). record u { rows = l }) (put_new u.rows row (omega arith)) in
     let Q : TablesOf → Type 0 = λ v. IsSound v in
-    subst Q (sym behind) (push_sound u row sound number fine (omega arith) (omega arith))
+    subst Q (sym behind) (push_sound u row sound number (ap (λ (r : Row). r.parent) top) fine (omega arith) (omega arith))

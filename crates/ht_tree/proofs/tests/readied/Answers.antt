@@ -16,6 +16,7 @@ made_ready row = record row { state = Ready; owner = None; waits = None; until =
 still_sound : (t : TablesOf) (row : Row) → IsSoundRow t row → IsSoundRow t (made_ready row)
 still_sound t row sound = record {
   filed = sound.filed;
+  held = sound.held;
   who = sound.who;
   whose = record { owned = refl; known = tt; allowed = tt };
   when = record { waits = λ h. absurd cc; until = λ h. absurd cc; created_within = (sound.when).created_within; waits_within = tt; until_within = tt };

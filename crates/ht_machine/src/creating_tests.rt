@@ -1,0 +1,190 @@
+use crate::run_one;
+use crate::tests::{create, done_of, refusal_of, sheet_for};
+use ht_base::{Name, Names, Refusal, Unknown};
+use ht_models::Models;
+use ht_people::Directory;
+use ht_samples::{MODELS, PEOPLE};
+use ht_tree::Tables;
+use std::alloc::Global;
+use std::test::Fail;
+
+fn tables_of(alloc: Global, models: &str) -> Result<Tables, Fail> {
+    let models = Models::read(alloc, models.as_bytes())?;
+    let people = Directory::read(alloc, PEOPLE.as_bytes())?;
+    Ok(Tables::new(alloc, models, people)?)
+}
+
+// Tables whose first model has this priority and these potential owners, and two parts.
+fn tables_by(alloc: Global, priority: &str, owners: &str) -> Result<Tables, Fail> {
+    let mut text = String::new(alloc);
+    text.push_str(
+        "[[model]]\nname = \"m\"\ninput = [{name = \"boss\", kind = \"person\", optional = true}, {name = \"sum\", kind = \"int\", optional = true}]\npriority = \"",
+    )?;
+    text.push_str(priority)?;
+    text.push_str("\"\npotentialOwners = \"")?;
+    text.push_str(owners)?;
+    text.push_str("\"\nexcludedOwners = \"when(priority == 9, user('anna'), nobody)\"\n")?;
+    tables_of(alloc, text.as_str())
+}
+
+fn text_of(alloc: Global, names: &Names) -> Result<String, Fail> {
+    let mut text = String::new(alloc);
+    for name in names.as_slice() {
+        text.push_str(" ")?;
+        text.push_str(std::str::from_utf8(name.as_bytes())?)?;
+    }
+    Ok(text)
+}
+
+// What comes of a create of the model with this name: the state of the task, or the refusal.
+fn outcome(alloc: Global, tables: &mut Tables, name: &str) -> Result<&'static str, Fail> {
+    let event = create("dan", 1000, name).ok_or("an event")?;
+    let model = Name::of(name.as_bytes()).ok_or("a name")?;
+    let part = Name::of(b"b").ok_or("a name")?;
+    let reply = run_one(alloc, tables, &event)?;
+    let refusal = refusal_of(&reply.answer);
+    if refusal == Some(Refusal::Unknown(Unknown::Model(model))) {
+        return Ok("Unknown");
+    }
+    if refusal == Some(Refusal::PartRefused(part)) {
+        return Ok("b");
+    }
+    match done_of(&reply.answer) {
+        Some((_, state, _)) => Ok(state.name()),
+        None => Ok("another answer"),
+    }
+}
+
+// In each line a priority of a model stands before the priority of its tasks.
+const PRIORITIES: &str = "\
+20 => 10
+-1 => 0
+0 => 0
+10 => 10
+11 => 10
+9223372036854775807 => 10
+-9223372036854775807 - 2 => 0
+priority => 5
+priority - 2 => 3
+in.sum => 0
+in.sum + 7 => 7
+if set(in.sum) then 1 else 8 => 8
+if in.boss == initiator then 1 else 2 => 2
+if priority == 5 then 4 else 6 => 4";
+
+#[test]
+fn priorities_are_between_their_ends(rt: HostRuntime) -> Result<(), Fail> {
+    for line in PRIORITIES.lines() {
+        let (text, priority) = line.split_once(" => ").ok_or("two numbers")?;
+        let mut tables = tables_by(rt.alloc(), text, "group('clerks')")?;
+        let event = create("dan", 1000, "m").ok_or("an event")?;
+        run_one(rt.alloc(), &mut tables, &event)?;
+        let sheet = sheet_for(rt.alloc(), &mut tables, "dan")?;
+        let found = format!(in rt.alloc(); "{}", sheet.priority)?;
+        assert_eq!(rt; found.as_str(), priority, "{text}");
+    }
+    Ok(())
+}
+
+// In each line a priority and an assignment stand before whom it finds, none of them excluded.
+const OWNERS: &str = "\
+2; when(priority < 3, group('clerks'), nobody) => anna ben
+3; when(priority < 3, group('clerks'), user('cora')) => cora
+12; when(priority == 10, user('anna'), user('ben')) => anna
+priority + 1; when(priority == 5, user('anna'), user('ben')) => ben
+9; group('clerks') => ben
+5; when(initiator == in.boss, everybody, user('ben')) => ben
+5; when(set(in.boss), in.boss, initiator) => dan
+5; in.boss =>
+1; except(when(priority <= 1, everybody, nobody), group('clerks')) => cora dan root";
+
+#[test]
+fn roles_see_the_priority(rt: HostRuntime) -> Result<(), Fail> {
+    for line in OWNERS.lines() {
+        let (texts, names) = line.split_once(" =>").ok_or("texts and names")?;
+        let (priority, owners) = texts.split_once("; ").ok_or("two texts")?;
+        let mut tables = tables_by(rt.alloc(), priority, owners)?;
+        let event = create("dan", 1000, "m").ok_or("an event")?;
+        run_one(rt.alloc(), &mut tables, &event)?;
+        let sheet = sheet_for(rt.alloc(), &mut tables, "dan")?;
+        let found = text_of(rt.alloc(), &sheet.potential_owners)?;
+        assert_eq!(rt; found.as_str(), names, "{line}");
+    }
+    Ok(())
+}
+
+// In each line a model of the samples stands before what comes of its create.
+const SAMPLES: &str = "\
+unit => Ready
+solo => Reserved
+shut => Created
+pair => Ready
+both => Unknown
+seq => Unknown
+ballot => Ready
+vote => Unknown
+timed => Unknown
+late => Unknown";
+
+#[test]
+fn samples_are_created_or_refused(rt: HostRuntime) -> Result<(), Fail> {
+    let mut tables = tables_of(rt.alloc(), MODELS)?;
+    for line in SAMPLES.lines() {
+        let (model, want) = line.split_once(" => ").ok_or("a model and an outcome")?;
+        let found = outcome(rt.alloc(), &mut tables, model)?;
+        assert_eq!(rt; found, want, "{model}");
+    }
+    assert_eq!(rt; tables.rows(), 5);
+    Ok(())
+}
+
+// Models each with something that a task can't have yet, or with parts.
+const PARTS: &str = "\
+[[model]]
+name = \"spare\"
+input = [{name = \"a\", kind = \"int\", optional = true}]
+output = [{name = \"b\", kind = \"int\"}]
+[[model]]
+name = \"asks\"
+input = [{name = \"a\", kind = \"int\", optional = true}, {name = \"b\", kind = \"int\"}, {name = \"c\", kind = \"text\"}]
+[[model]]
+name = \"whole\"
+sub = [{name = \"x\", model = \"spare\"}]
+[[model]]
+name = \"ends\"
+finish = [{set = []}]
+[[model]]
+name = \"free\"
+ownerRequired = false
+instantiation = \"automatic\"
+completion = \"automatic\"
+[[model]]
+name = \"due\"
+deadline = [{name = \"one\", kind = \"start\", for = \"PT1S\"}]
+[[model]]
+name = \"asks-due\"
+input = [{name = \"b\", kind = \"int\"}]
+deadline = [{name = \"one\", kind = \"start\", for = \"PT1S\"}]
+";
+
+// In each line a model of these stands before what comes of its create.
+const REFUSALS: &str = "\
+spare => Created
+asks => b
+whole => Unknown
+ends => Unknown
+free => Unknown
+due => Unknown
+asks-due => Unknown";
+
+#[test]
+fn what_is_not_there_yet_is_refused(rt: HostRuntime) -> Result<(), Fail> {
+    let mut tables = tables_of(rt.alloc(), PARTS)?;
+    for line in REFUSALS.lines() {
+        let (model, want) = line.split_once(" => ").ok_or("a model and an outcome")?;
+        let found = outcome(rt.alloc(), &mut tables, model)?;
+        assert_eq!(rt; found, want, "{model}");
+    }
+    assert_eq!(rt; tables.rows(), 1);
+    Ok(())
+}
