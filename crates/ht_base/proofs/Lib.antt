@@ -9,3 +9,4 @@ mod Naming
 mod PeriodCuts
 mod PeriodTexts
 pub mod PublicLaws
+mod Spelling

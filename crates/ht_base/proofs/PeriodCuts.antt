@@ -1,7 +1,7 @@
 -- The function that reads periods' texts reads just the periods.
-use Rattle.std.proofs.Common.{◌≡◌, ℕ, ◌+◌, ◌*◌, ◌≤◌, Bool, true, false, not, ◌||◌, ◌==◌, length, List, [], ◌∷◌, ◌++◌, take, drop, position, Option, Some, None, IfSome, option_map, if◌then◌else◌, refl, sym, ap, ◌∙◌, arith, eqb-true, ne_eqb}
-use Rattle.ht_base.specs.Numbers.{IsNumber, is_number}
-use Rattle.ht_base.specs.Periods.{TimeText, PeriodText, IsTime, IsPeriod, Begins, amount, time_text, marked_time, time_millis, marked_time_millis, millis, letter_d, letter_h, letter_m, letter_p, letter_s, letter_t, cut_at, cut, time_of, marked_time_of, parts_of, period_text_of, period_of}
+use Rattle.std.proofs.Common.{◌≡◌, ℕ, ◌+◌, ◌≤◌, Bool, true, false, not, ◌||◌, ◌==◌, length, List, [], ◌∷◌, take, drop, position, Option, Some, None, IfSome, option_map, if◌then◌else◌, refl, sym, ap, ◌∙◌, arith, eqb-true, ne_eqb}
+use Rattle.ht_base.specs.Numbers.{is_number}
+use Rattle.ht_base.specs.Periods.{TimeText, PeriodText, IsTime, IsPeriod, Begins, amount, time_text, marked_time, time_millis, marked_time_millis, millis, letter_d, letter_h, letter_m, letter_p, letter_s, letter_t, cut_at, cut, time_of, marked_time_of, period_of}
 use Rattle.ht_base.proofs.Amounts.{reads_to_end, reads_none, reads_no_number}
 use Rattle.ht_base.proofs.PeriodTexts.{is_nil, not_nil, time_is_read, read_is_time, days_are_read, read_is_period}
 

@@ -1,25 +1,63 @@
 -- Commands and events: which operation a command asks for, and which events are valid.
-use Rattle.std.specs.Prelude.{◌≡◌, ◌≤◌}
+use Rattle.std.specs.Prelude.{◌≡◌, ◌≤◌, ℕ, nat_lt, ◌+◌, Bool, true, List, length}
+use Rattle.std.specs.List.{list_all}
 use Rattle.ht_base.specs.declared.event.Command.{Command}
-use Rattle.ht_base.specs.declared.event.Command.TheVariants.{Create, Claim}
+use Rattle.ht_base.specs.declared.event.Command.TheVariants.{Create, Claim, Start, Stop, Release, Delegate, Forward, Nominate, Activate, SetRole, SetPriority}
 use Rattle.ht_base.specs.declared.event.Event.{Event}
 use Rattle.ht_base.specs.declared.event.Event.TheVariants.{Ask, Read}
 use Rattle.ht_base.specs.declared.event.Query.TheVariants as query
 use Rattle.ht_base.specs.declared.operation.Op.{Op}
 use Rattle.ht_base.specs.declared.operation.Op.TheVariants as op
+use Rattle.ht_base.specs.declared.scalar.Scalar.{Scalar}
+use Rattle.ht_base.specs.declared.scalar.Scalar.TheVariants as scalar
 use Rattle.ht_base.specs.declared.task_id.TaskId.{TaskId}
 use Rattle.ht_base.specs.Moment.{last_moment}
+use Rattle.ht_base.specs.Places.{IsRepeated}
 
 abbrev pub op_of : Command → Op
-op_of (Create model) = op.Create
+op_of (Create model input) = op.Create
 op_of Claim = op.Claim
+op_of Start = op.Start
+op_of Stop = op.Stop
+op_of Release = op.Release
+op_of (Delegate person) = op.Delegate
+op_of (Forward persons) = op.Forward
+op_of (Nominate persons) = op.Nominate
+op_of Activate = op.Activate
+op_of (SetRole role persons) = op.SetRole
+op_of (SetPriority priority) = op.SetPriority
 
 -- the task is one that the command may name: none, exactly for a create
 abbrev pub IsTaskOf : Command → TaskId → Type 0
-IsTaskOf (Create model) task = task.0 ≡ 0
+IsTaskOf (Create model input) task = task.0 ≡ 0
 IsTaskOf _ task = 1 ≤ task.0
 
--- its moment is at most the last there is, and just a create names no task
+-- ---- what a command may give
+
+-- a text that is given has at most as many bytes
+abbrev pub is_short : ℕ → List ℕ × Scalar → Bool
+is_short most (name, scalar.Text text) = nat_lt (length text) (most + 1)
+is_short most _ = true
+
+pub record AreGiven (parts : List (List ℕ × Scalar)) : Type 0 where
+  pub few : length parts ≤ 8
+  pub short : list_all (is_short 512) parts ≡ true
+
+pub record AreNames (names : List (List ℕ)) : Type 0 where
+  pub few : length names ≤ 1024
+  pub distinct : (place : ℕ) → IsRepeated names place → ⊥
+
+abbrev pub IsCommand : Command → Type 0
+IsCommand (Create model input) = AreGiven input
+IsCommand (Forward persons) = AreNames persons × 1 ≤ length persons
+IsCommand (Nominate persons) = AreNames persons × 1 ≤ length persons
+IsCommand (SetRole role persons) = AreNames persons
+IsCommand (SetPriority priority) = priority ≤ 10
+IsCommand _ = Unit {0}
+
+-- ---- events
+
+-- its moment is at most the last there is, just a create names no task, and what it gives is in its limits
 abbrev pub IsValid : Event → Type 0
-IsValid (Ask at caller task command) = (at.0 ≤ last_moment) × IsTaskOf command task
+IsValid (Ask at caller task command) = (at.0 ≤ last_moment) × IsTaskOf command task × IsCommand command
 IsValid (Read caller (query.Sheet task)) = 1 ≤ task.0

@@ -1,8 +1,9 @@
-ghost use Rattle.std.specs.Prelude.{◌≡◌, ◌+◌, ◌≤◌, [], ◌++◌, length, IsOk, IfOk, OnOk, OnErr};
+ghost use Rattle.std.specs.Prelude.{◌≡◌, ◌+◌, ◌-◌, ◌≤◌, [], ◌++◌, length, vec_capacity, vec_len, IsOk, IfOk, OnOk, OnErr};
 
 use crate::Memory;
 use std::alloc::Global;
 use std::marker::Model;
+use std::mem;
 
 /// A list of bytes. A contract sees its `items`, and in `spare` how many more it takes without
 /// memory.
@@ -78,5 +79,22 @@ impl Bytes {
         ensures spare { self.old.spare + length self.old.items ≤ self.new.spare }
     {
         self.items.clear();
+    }
+
+    /// Lends its vector, with all that it holds.
+    pub fn lend(&mut self, alloc: Global) -> Vec<u8>
+        ensures items { result.items ≡ self.old.items }
+        ensures spare { vec_capacity result - vec_len result ≡ self.old.spare }
+        ensures left { self.new.items ≡ [] }
+    {
+        mem::replace(&mut self.items, Vec::new(alloc))
+    }
+
+    /// Takes a vector in the place of its own.
+    pub fn give_back(&mut self, items: Vec<u8>)
+        ensures items { self.new.items ≡ items.items }
+        ensures spare { self.new.spare ≡ vec_capacity items - vec_len items }
+    {
+        self.items = items;
     }
 }

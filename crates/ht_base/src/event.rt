@@ -1,16 +1,35 @@
 ghost use Rattle.std.specs.Prelude.{◌≡◌, IfOk};
 ghost use Rattle.ht_base.specs.Events.{op_of};
 
-use crate::{Memory, Moment, Name, Op, TaskId};
+use crate::{Memory, Moment, Name, Names, Op, Parts, RoleList, TaskId};
 use std::alloc::Global;
 
-/// What a command does.
+/// What a command does (WS-HumanTask 1.1, 7.1.1 "Participant operations").
 #[derive(Debug, Drop)]
 pub enum Command {
-    /// A new task of a model, or else of the first, created by the caller.
-    Create { model: Option<Name> },
+    /// A new task of a model, or else of the first, created by the caller, with what is given for its
+    /// input.
+    Create { model: Option<Name>, input: Parts },
     /// The caller becomes the actual owner of a ready task.
     Claim,
+    /// The task is worked on.
+    Start,
+    /// The task isn't worked on any more. It keeps its owner.
+    Stop,
+    /// The task has no owner any more.
+    Release,
+    /// A person becomes the actual owner.
+    Delegate { person: Name },
+    /// The task is handed on to other potential owners.
+    Forward { persons: Names },
+    /// A created task gets its potential owners.
+    Nominate { persons: Names },
+    /// A created task is activated.
+    Activate,
+    /// The persons of a role are replaced.
+    SetRole { role: RoleList, persons: Names },
+    /// 0, the highest, to 10.
+    SetPriority { priority: u8 },
 }
 
 impl Command {
@@ -21,15 +40,45 @@ impl Command {
         match self {
             Command::Create { .. } => Op::Create,
             Command::Claim => Op::Claim,
+            Command::Start => Op::Start,
+            Command::Stop => Op::Stop,
+            Command::Release => Op::Release,
+            Command::Delegate { .. } => Op::Delegate,
+            Command::Forward { .. } => Op::Forward,
+            Command::Nominate { .. } => Op::Nominate,
+            Command::Activate => Op::Activate,
+            Command::SetRole { .. } => Op::SetRole,
+            Command::SetPriority { .. } => Op::SetPriority,
         }
     }
 
-    pub fn copy(&self, _alloc: Global) -> Result<Command, Memory>
+    pub fn copy(&self, alloc: Global) -> Result<Command, Memory>
         ensures { IfOk result (λ c. c ≡ self.now) }
     {
         Ok(match self {
-            Command::Create { model } => Command::Create { model: *model },
+            Command::Create { model, input } => Command::Create {
+                model: *model,
+                input: input.copy(alloc)?,
+            },
             Command::Claim => Command::Claim,
+            Command::Start => Command::Start,
+            Command::Stop => Command::Stop,
+            Command::Release => Command::Release,
+            Command::Delegate { person } => Command::Delegate { person: *person },
+            Command::Forward { persons } => Command::Forward {
+                persons: persons.copy(alloc)?,
+            },
+            Command::Nominate { persons } => Command::Nominate {
+                persons: persons.copy(alloc)?,
+            },
+            Command::Activate => Command::Activate,
+            Command::SetRole { role, persons } => Command::SetRole {
+                role: *role,
+                persons: persons.copy(alloc)?,
+            },
+            Command::SetPriority { priority } => Command::SetPriority {
+                priority: *priority,
+            },
         })
     }
 }

@@ -4,6 +4,7 @@ ghost use Rattle.ht_base.specs.Name.{is_name_byte, is_name, name_of, IsName};
 
 use std::cmp::Ordering;
 use std::marker::Model;
+use std::str;
 
 /// The most bytes that a [`Name`] has.
 const MOST: usize = 32;
@@ -54,6 +55,15 @@ impl Name {
         ensures short { length self.now ≤ 32 }
     {
         &self.bytes[..usize::from(self.len)]
+    }
+
+    /// Its bytes as a text.
+    pub fn as_str(&self) -> &str
+        ensures value { result.now ≡ self.now }
+        ensures name { IsName self.now }
+    {
+        let bytes = self.as_bytes();
+        unsafe { str::from_utf8_unchecked(bytes) }
     }
 }
 

@@ -11,12 +11,30 @@ pub enum Limit {
 #[derive(Clone, Copy, Debug, PartialEq, Eq)]
 pub enum Unknown {
     Model(Name),
+    Person(Name),
 }
 
-/// Why an event is refused.
+/// Why a request is refused.
 #[derive(Clone, Copy, Debug, PartialEq, Eq)]
 pub enum Refusal {
-    /// The caller is no person of the directory.
+    /// The bytes are no head of a request, or end before the request does.
+    Head,
+    /// The head has too many bytes, or too many fields.
+    Fields,
+    /// The body is coded.
+    Coding,
+    /// The body has too many bytes.
+    Body,
+    /// No path of the interface is this one.
+    Route,
+    /// The path is one of the interface, with another method.
+    Method,
+    /// The body is no JSON.
+    Json,
+    /// The value of this key is missing or doesn't fit. `body` where the body is no object, or has a
+    /// key that isn't one of the operation's.
+    Field(Name),
+    /// The request names no caller, or one who is no person of the directory.
     Person,
     /// There is no such task.
     Task(TaskId),
@@ -25,8 +43,18 @@ pub enum Refusal {
     /// The operation is not allowed in the task's state, but in the allowed ones.
     State { allowed: StateSet, state: State },
     Unknown(Unknown),
-    /// An input part that the task must have isn't given.
+    /// A part that the task doesn't declare, of another kind, or that it must have and that isn't given.
     PartRefused(Name),
+    /// The task has no owner, by its model.
+    Ownerless,
+    /// The potential owners weren't named one by one.
+    ByGroup,
+    /// The person is an excluded owner, or the actual owner who would become one.
+    Excluded(Name),
+    /// The task can't be delegated to this person, by its model.
+    NotDelegatee(Name),
+    /// There is no potential owner for whom the task could be activated.
+    NoOwners,
     Limit(Limit),
     /// There is not enough memory. Nothing was changed.
     Memory,

@@ -1,9 +1,9 @@
 use crate::{
-    Bytes, Command, Event, How, IndexFault, Kind, LAST, Moment, Name, Names, Op, Person, Persons,
-    Query, Record, Role, Roles, State, StateSet, TaskId, Txt, Value, Values, index, name_places,
-    number, period,
+    Bytes, Command, Event, How, IndexFault, Kind, LAST, Moment, Name, Names, Op, Parts, Person,
+    Persons, Query, Record, Role, RoleList, Roles, Scalar, State, StateSet, TaskId, Txt, Value,
+    Values, index, name_places, number, period,
 };
-use std::alloc::AllocError;
+use std::alloc::{AllocError, Global};
 use std::test::Fail;
 
 const NAMES: &str = "\
@@ -24,7 +24,10 @@ a\0";
 fn names_are_read(rt: HostRuntime) -> Result<(), Fail> {
     for text in NAMES.lines() {
         match Name::of(text.as_bytes()) {
-            Some(name) => assert_eq!(rt; name.as_bytes(), text.as_bytes()),
+            Some(name) => {
+                assert_eq!(rt; name.as_bytes(), text.as_bytes());
+                assert_eq!(rt; name.as_str(), text);
+            }
             None => return Err(Fail::new(text)),
         }
     }
@@ -48,8 +51,13 @@ fn bytes_grow_and_are_copied(rt: HostRuntime) -> Result<(), Fail> {
     bytes.extend(b"s")?;
     assert_eq!(rt; bytes.as_slice(), b"s".as_slice());
     assert_eq!(rt; copy.as_slice(), b"task".as_slice());
-    let of = Bytes::of(rt.alloc(), b"row")?;
-    assert_eq!(rt; of.as_slice(), b"row".as_slice());
+    let mut of = Bytes::of(rt.alloc(), b"row")?;
+    let mut lent = of.lend(rt.alloc());
+    assert_eq!(rt; lent.as_slice(), b"row".as_slice());
+    assert!(rt; of.as_slice().is_empty());
+    lent.push(b's')?;
+    of.give_back(lent);
+    assert_eq!(rt; of.as_slice(), b"rows".as_slice());
     Ok(())
 }
 
@@ -248,8 +256,20 @@ fn names_have_their_places(rt: HostRuntime) -> Result<(), Fail> {
 #[test]
 fn events_and_records_are_copied(rt: HostRuntime) -> Result<(), Fail> {
     let anna = Name::of(b"anna").ok_or("a name")?;
-    let unit = Command::Create { model: Some(anna) };
-    for (command, op) in [(unit, Op::Create), (Command::Claim, Op::Claim)] {
+    for op in [
+        Op::Create,
+        Op::Claim,
+        Op::Start,
+        Op::Stop,
+        Op::Release,
+        Op::Delegate,
+        Op::Forward,
+        Op::Nominate,
+        Op::Activate,
+        Op::SetRole,
+        Op::SetPriority,
+    ] {
+        let command = command_of(rt.alloc(), op, anna)?;
         let asked = Event::Ask {
             at: Moment(1000),
             caller: anna,
@@ -272,6 +292,58 @@ fn events_and_records_are_copied(rt: HostRuntime) -> Result<(), Fail> {
     };
     assert_eq!(rt; op_asked(&read.copy(rt.alloc())?), None);
     Ok(())
+}
+
+// A command of this operation, which names this person.
+fn command_of(alloc: Global, op: Op, name: Name) -> Result<Command, Fail> {
+    let mut persons = Names::new(alloc);
+    persons.push(name)?;
+    let mut input = Parts::new(alloc);
+    input.push(name, Scalar::Text(Txt::of(alloc, "soon")?))?;
+    Ok(match op {
+        Op::Create => Command::Create {
+            model: Some(name),
+            input,
+        },
+        Op::Claim => Command::Claim,
+        Op::Start => Command::Start,
+        Op::Stop => Command::Stop,
+        Op::Release => Command::Release,
+        Op::Delegate => Command::Delegate { person: name },
+        Op::Forward => Command::Forward { persons },
+        Op::Nominate => Command::Nominate { persons },
+        Op::Activate => Command::Activate,
+        Op::SetRole => Command::SetRole {
+            role: RoleList::Stakeholders,
+            persons,
+        },
+        Op::SetPriority => Command::SetPriority { priority: 10 },
+        _ => return Err(Fail::from("no such command")),
+    })
+}
+
+#[test]
+fn what_is_given_is_copied(rt: HostRuntime) -> Result<(), Fail> {
+    let name = Name::of(b"due").ok_or("a name")?;
+    let text = Txt::of(rt.alloc(), "soon")?;
+    for scalar in [Scalar::Text(text), Scalar::Int(-1), Scalar::Truth(true)] {
+        let mut parts = Parts::new(rt.alloc());
+        parts.push(name, scalar.copy(rt.alloc())?)?;
+        let copy = parts.copy(rt.alloc())?;
+        let (key, copied) = copy.as_slice().first().ok_or("a part")?;
+        assert!(rt; *key == name);
+        assert!(rt; is_same_scalar(copied, &scalar));
+    }
+    Ok(())
+}
+
+fn is_same_scalar(one: &Scalar, other: &Scalar) -> bool {
+    match (one, other) {
+        (Scalar::Text(a), Scalar::Text(b)) => a.as_str() == b.as_str(),
+        (Scalar::Int(a), Scalar::Int(b)) => a == b,
+        (Scalar::Truth(a), Scalar::Truth(b)) => a == b,
+        _ => false,
+    }
 }
 
 fn op_asked(event: &Event) -> Option<Op> {

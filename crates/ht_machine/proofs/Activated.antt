@@ -1,15 +1,13 @@
 -- That an activated row is sound, and where it is found.
-use Rattle.std.proofs.Common.{◌≡◌, ℕ, Bool, false, if◌then◌else◌, length, Some, is_some, IsTrue, refl, ap, subst, ◌∙◌, eq-eqb, arith}
+use Rattle.std.proofs.Common.{◌≡◌, ℕ, false, length, Some, is_some, IsTrue, refl, ap, subst}
 use Rattle.ht_base.specs.declared.state.State.{State}
 use Rattle.ht_base.specs.declared.state.State.TheVariants.{Created}
 use Rattle.ht_machine.specs.Activating.{IsCreated, activated}
 use Rattle.ht_machine.proofs.Rows.{one}
 use Rattle.ht_tree.specs.declared.row.Row.{Row}
-use Rattle.ht_tree.specs.Plans.{IsNext, Replaces}
-use Rattle.ht_tree.specs.Rows.{row_at}
-use Rattle.ht_tree.specs.Soundness.{Fits, IsSoundRow, KeepsSound, is_owned, is_suspended}
-use Rattle.ht_tree.specs.Tables.{TablesOf, task_row, with_row}
-use Rattle.ht_tree.proofs.PublicLaws.{by_people, owner_known, put_sound, row_at-put_in, within}
+use Rattle.ht_tree.specs.Soundness.{Fits, IsSoundRow, is_owned, is_suspended}
+use Rattle.ht_tree.specs.Tables.{TablesOf, task_row}
+use Rattle.ht_tree.proofs.PublicLaws.{IsPutAgain, put_again_of, by_people, owner_known}
 
 -- a created task isn't suspended
 not_suspended : (row : Row) → row.state ≡ Created → (IsTrue (is_some row.until) → IsTrue (is_suspended row.state)) → IsTrue (is_some row.until) → IsTrue false
@@ -51,23 +49,7 @@ created_is u task row there created =
 pub activated_fits : (u : TablesOf) (task : ℕ) (row : Row) → task_row u task ≡ Some row → IsCreated u task → Fits u row → Fits u (activated row)
 activated_fits u task row there created = activated_row_fits u row (created_is u task row there created).1
 
--- the activated row in its task's place
-pub record IsActivated (u : TablesOf) (task : ℕ) (row : Row) : Type 0 where
-  pub number : row.task.0 ≡ task
-  pub next : IsNext u.rows (activated row)
-  pub keeps : KeepsSound u (with_row u (activated row))
-  pub found : task_row (with_row u (activated row)) task ≡ Some (activated row)
-
-pub activates : (u : TablesOf) (task : ℕ) (row : Row) → task_row u task ≡ Some row → IsCreated u task → IsActivated u task row
+pub activates : (u : TablesOf) (task : ℕ) (row : Row) → task_row u task ≡ Some row → IsCreated u task → IsPutAgain u task row (activated row)
 activates u task row there created =
     let is = created_is u task row there created in
-    let number = is.0 in
-    let w = within u.rows row task there in
-    let next : IsNext u.rows (activated row) = (let low = w.0 in omega arith, let high = w.1 in omega arith) in
-    let place : Replaces u.rows (activated row) = record { before = row; there = ap (λ (n : ℕ). row_at n u.rows) number ∙ there; parent = refl; model = refl } in
-    record {
-      number = number;
-      next = next;
-      keeps = λ sound. put_sound u (activated row) sound (activated_sound u row is.1 (sound.rows_sound task row there)) place;
-      found = row_at-put_in u.rows (activated row) task next ∙ ap (λ (b : Bool). if b then Some (activated row) else row_at task u.rows) (eq-eqb row.task.0 task number);
-    }
+    put_again_of u task row (activated row) there is.0 refl (activated_sound u row is.1)

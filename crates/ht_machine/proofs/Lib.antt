@@ -1,4 +1,5 @@
 mod Activated
+mod Begun
 mod Asking
 mod Commanded
 mod Created

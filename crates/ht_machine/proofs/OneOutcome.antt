@@ -4,6 +4,7 @@ use Rattle.ht_base.specs.declared.event.Command.{Command}
 use Rattle.ht_base.specs.declared.event.Command.TheVariants as command
 use Rattle.ht_base.specs.declared.event.Event.{Event}
 use Rattle.ht_base.specs.declared.event.Event.TheVariants.{Ask, Read}
+use Rattle.ht_base.specs.declared.parts.Parts.{Parts}
 use Rattle.ht_base.specs.declared.record.Record.{Record}
 use Rattle.ht_base.specs.declared.record.Record.TheVariants.{Asked}
 use Rattle.ht_base.specs.declared.reply.Answer.{Answer}
@@ -12,17 +13,17 @@ use Rattle.ht_base.specs.declared.reply.Reply.{Reply}
 use Rattle.ht_base.specs.declared.task_id.TaskId.{TaskId}
 use Rattle.ht_base.specs.Events.{op_of}
 use Rattle.ht_machine.specs.Activating.{Activates, activated}
-use Rattle.ht_machine.specs.Commands.{ActsOn, AfterEffect, BehindGate, Comes, Creates, CreatesAt, CreatesNamed, CreatesOf, CreatesUnless, Outcome, accepted, refused, why_not_created}
+use Rattle.ht_machine.specs.Commands.{ActsOn, AfterEffect, BehindGate, Comes, Creates, CreatesAt, CreatesNamed, CreatesOf, CreatesUnless, Outcome, accepted, new_task, refused, why_not_created}
 use Rattle.ht_machine.specs.Deciding.{Attempts, Leads, Settles, Shows, done, effective}
 use Rattle.ht_machine.specs.Gate.{Gate, gate, opens, shuts}
-use Rattle.ht_machine.proofs.Created.{new_task}
+use Rattle.ht_machine.specs.Starting.{Begins, begun}
 use Rattle.ht_machine.proofs.Rows.{one}
 use Rattle.ht_models.specs.Model.{ModelOf}
-use Rattle.ht_owner.specs.declared.follow.Follow.TheVariants.{Nothing}
+use Rattle.ht_owner.specs.declared.follow.Follow.TheVariants.{Began, Nothing}
 use Rattle.ht_owner.specs.Effects.{Effect, does, effect, refuses}
 use Rattle.ht_people.specs.Directory.{find}
 use Rattle.ht_tree.specs.declared.row.Row.{Row}
-use Rattle.ht_tree.specs.Tables.{TablesOf, directory, model_at, model_named, task_row, with_row}
+use Rattle.ht_tree.specs.Tables.{TablesOf, directory, model_at, model_named, model_of, task_row, with_row}
 
 both : (u v : TablesOf) (m n : ℕ) → u ≡ v → m ≡ n → accepted u m ≡ accepted v n
 both u v m n e f = ap (λ x. accepted x m) e ∙ ap (λ k. accepted v k) f
@@ -32,50 +33,56 @@ both u v m n e f = ap (λ x. accepted x m) e ∙ ap (λ k. accepted v k) f
 same_activation : (u : TablesOf) (task : ℕ) (v w : TablesOf) → Activates u task v → Activates u task w → v ≡ w
 same_activation u task v w a b = a.2 ∙ ap (λ (r : Row). with_row u (activated r)) (one (task_row u task) a.0 b.0 a.1 b.1) ∙ sym b.2
 
-same_new : (u : TablesOf) (caller moment place : ℕ) (m : ModelOf) (o p : Outcome) → CreatesOf u caller moment place m o → CreatesOf u caller moment place m p → o ≡ p
-same_new u caller moment place m (accepted v j) (accepted w k) a b =
+same_new : (u : TablesOf) (caller moment place : ℕ) (input : Parts) (m : ModelOf) (o p : Outcome) → CreatesOf u caller moment place input m o → CreatesOf u caller moment place input m p → o ≡ p
+same_new u caller moment place input m (accepted v j) (accepted w k) a b =
     let task : j ≡ k = a.1 ∙ sym b.1 in
-    let u1 = with_row u (new_task u caller moment place m) in
+    let u1 = with_row u (new_task u caller moment place input m) in
     let A : ℕ → Type 0 = λ n. Activates u1 n v in
     both v w j k (same_activation u1 k v w (subst A task a.2) b.2) task
-same_new u caller moment place m (accepted v j) (refused why) a b = absurd (a.0 b.0)
-same_new u caller moment place m (refused why) (accepted w k) a b = absurd (b.0 a.0)
-same_new u caller moment place m (refused why) (refused other) a b = ap refused (a.1 ∙ sym b.1)
+same_new u caller moment place input m (accepted v j) (refused why) a b = absurd (a.0 b.0)
+same_new u caller moment place input m (refused why) (accepted w k) a b = absurd (b.0 a.0)
+same_new u caller moment place input m (refused why) (refused other) a b = ap refused (a.1 ∙ sym b.1)
 
-same_unless : (u : TablesOf) (caller moment place : ℕ) (m : ModelOf) (why : Option Refusal) (o p : Outcome) → CreatesUnless u caller moment place m why o → CreatesUnless u caller moment place m why p → o ≡ p
-same_unless u caller moment place m None o p a b = same_new u caller moment place m o p a b
-same_unless u caller moment place m (Some why) o p a b = a ∙ sym b
+same_unless : (u : TablesOf) (caller moment place : ℕ) (input : Parts) (m : ModelOf) (why : Option Refusal) (o p : Outcome) → CreatesUnless u caller moment place input m why o → CreatesUnless u caller moment place input m why p → o ≡ p
+same_unless u caller moment place input m None o p a b = same_new u caller moment place input m o p a b
+same_unless u caller moment place input m (Some why) o p a b = a ∙ sym b
 
-same_at : (u : TablesOf) (caller moment place : ℕ) (o p : Outcome) → CreatesAt u caller moment place o → CreatesAt u caller moment place p → o ≡ p
-same_at u caller moment place o p a b =
-    let P : ModelOf → Type 0 = λ m. CreatesUnless u caller moment place m (why_not_created m) o in
-    same_unless u caller moment place b.0 (why_not_created b.0) o p (subst P (one (model_at u place) a.0 b.0 a.1 b.1) a.2) b.2
+same_at : (u : TablesOf) (caller moment place : ℕ) (input : Parts) (o p : Outcome) → CreatesAt u caller moment place input o → CreatesAt u caller moment place input p → o ≡ p
+same_at u caller moment place input o p a b =
+    let P : ModelOf → Type 0 = λ m. CreatesUnless u caller moment place input m (why_not_created (directory u) m input) o in
+    same_unless u caller moment place input b.0 (why_not_created (directory u) b.0 input) o p (subst P (one (model_at u place) a.0 b.0 a.1 b.1) a.2) b.2
 
-same_create : (u : TablesOf) (caller moment : ℕ) (named : Option (List ℕ)) (o p : Outcome) → Creates u caller moment named o → Creates u caller moment named p → o ≡ p
-same_create u caller moment None o p a b = same_at u caller moment 0 o p a b
-same_create u caller moment (Some name) o p a b = at (model_named u name) a b
+same_create : (u : TablesOf) (caller moment : ℕ) (named : Option (List ℕ)) (input : Parts) (o p : Outcome) → Creates u caller moment named input o → Creates u caller moment named input p → o ≡ p
+same_create u caller moment None input o p a b = same_at u caller moment 0 input o p a b
+same_create u caller moment (Some name) input o p a b = at (model_named u name) a b
   where
-    at : (k : Option ℕ) → CreatesNamed u caller moment name k o → CreatesNamed u caller moment name k p → o ≡ p
+    at : (k : Option ℕ) → CreatesNamed u caller moment name input k o → CreatesNamed u caller moment name input k p → o ≡ p
     at None a b = a ∙ sym b
-    at (Some place) a b = same_at u caller moment place o p a b
+    at (Some place) a b = same_at u caller moment place input o p a b
 
 -- ---- the other commands
 
+same_note : (u : TablesOf) (task : ℕ) (v w : TablesOf) → Begins u task v → Begins u task w → v ≡ w
+same_note u task v w a b = a.2 ∙ ap (λ (r : Row). with_row u (begun r)) (one (task_row u task) a.0 b.0 a.1 b.1) ∙ sym b.2
+
 same_effect : (u : TablesOf) (task : ℕ) (e : Effect) (o p : Outcome) → AfterEffect u task e o → AfterEffect u task e p → o ≡ p
 same_effect u task (does row Nothing) (accepted v j) (accepted w k) a b = both v w j k (a.0 ∙ sym b.0) (a.1 ∙ sym b.1)
-same_effect u task (does row Nothing) (accepted v j) (refused why) a b = absurd b
-same_effect u task (does row Nothing) (refused why) p a b = absurd a
+same_effect u task (does row Began) (accepted v j) (accepted w k) a b = both v w j k (same_note (with_row u row) task v w a.0 b.0) (a.1 ∙ sym b.1)
+same_effect u task (does row follow) (accepted v j) (refused why) a b = absurd b
+same_effect u task (does row follow) (refused why) p a b = absurd a
 same_effect u task (refuses why) o p a b = a ∙ sym b
 
 same_act : (u : TablesOf) (caller task : ℕ) (c : Command) (o p : Outcome) → ActsOn u caller task c o → ActsOn u caller task c p → o ≡ p
 same_act u caller task c o p = at (gate u (op_of c) caller task)
   where
     at : (g : Gate) → BehindGate u caller task c g o → BehindGate u caller task c g p → o ≡ p
-    at (opens row) a b = same_effect u task (effect caller c row) o p a b
+    at (opens row) a b =
+        let E : ModelOf → Type 0 = λ m. AfterEffect u task (effect (directory u) m caller c row) o in
+        same_effect u task (effect (directory u) b.0 caller c row) o p (subst E (one (model_of u row) a.0 b.0 a.1 b.1) a.2) b.2
     at (shuts why) a b = a ∙ sym b
 
 same_outcome : (t : TablesOf) (person moment task : ℕ) (c : Command) (o p : Outcome) → Comes t person moment task c o → Comes t person moment task c p → o ≡ p
-same_outcome t person moment task (command.Create model) o p a b = same_create t person moment model o p a b
+same_outcome t person moment task (command.Create model input) o p a b = same_create t person moment model input o p a b
 same_outcome t person moment task c o p a b = same_act t person task c o p a b
 
 same_attempt : (t : TablesOf) (moment : ℕ) (task : TaskId) (c : Command) (person : Option ℕ) (o p : Outcome) → Attempts t moment task c person o → Attempts t moment task c person p → o ≡ p

@@ -1,6 +1,6 @@
 -- Worked examples of the definitions, by computation and by derivation. A wrong reading of one fails
 -- the check.
-use Rattle.std.specs.Prelude.{◌≡◌, refl, ℕ, Bool, true, false, List, ◌∷◌, [], Option, Some, None, codes}
+use Rattle.std.specs.Prelude.{◌≡◌, refl, ℕ, pos, Bool, true, false, List, ◌∷◌, [], Option, Some, None, codes}
 use Rattle.std.proofs.Common.{arith}
 use Rattle.ht_base.specs.declared.event.Command.{Command}
 use Rattle.ht_base.specs.declared.event.Command.TheVariants.{Create, Claim}
@@ -15,6 +15,7 @@ use Rattle.ht_base.specs.declared.reply.Answer.TheVariants.{Done, Refused}
 use Rattle.ht_base.specs.declared.reply.Refusal.TheVariants.{PartRefused, Person, Task, Role, State, Unknown}
 use Rattle.ht_base.specs.declared.reply.Unknown.TheVariants.{Model}
 use Rattle.ht_base.specs.declared.role.Role.TheVariants.{PotentialOwner}
+use Rattle.ht_base.specs.declared.scalar.Scalar.TheVariants as scalar
 use Rattle.ht_base.specs.declared.state.State.TheVariants.{Ready, Reserved}
 use Rattle.ht_expr.specs.Assignments.{user}
 use Rattle.ht_machine.specs.Activating.{activated}
@@ -56,26 +57,38 @@ task_of m place = new_row nothing_yet m place None 3 [] None (record { 0 = 1000 
 abbrev input : List ℕ → Bool → Part
 input name optional = record { name = name; kind = Int; optional = optional }
 
-nothing_is_missing : why_not_created (record unit { input = input (codes "a") true ∷ [] }) ≡ None
+nothing_is_missing : why_not_created office (record unit { input = input (codes "a") true ∷ [] }) [] ≡ None
 nothing_is_missing = refl
 
-a_part_is_missing : why_not_created (record unit { input = input (codes "a") true ∷ input (codes "b") false ∷ input (codes "c") false ∷ [] }) ≡ Some (PartRefused (codes "b"))
+a_part_is_missing : why_not_created office (record unit { input = input (codes "a") true ∷ input (codes "b") false ∷ input (codes "c") false ∷ [] }) [] ≡ Some (PartRefused (codes "b"))
 a_part_is_missing = refl
 
+-- one that is given isn't missing, but it may be of another kind
+another_kind : why_not_created office (record unit { input = input (codes "a") false ∷ input (codes "b") false ∷ [] }) ((codes "a", scalar.Int (pos 7)) ∷ (codes "b", scalar.Truth true) ∷ []) ≡ Some (PartRefused (codes "b"))
+another_kind = refl
+
+-- the parts are looked at in their order
+in_their_order : why_not_created office (record unit { input = input (codes "b") false ∷ input (codes "a") false ∷ [] }) ((codes "a", scalar.Truth true) ∷ []) ≡ Some (PartRefused (codes "b"))
+in_their_order = refl
+
+-- a name of no part is told first
+no_such_part : why_not_created office (record unit { input = input (codes "a") false ∷ [] }) ((codes "z", scalar.Int (pos 7)) ∷ []) ≡ Some (PartRefused (codes "z"))
+no_such_part = refl
+
 -- an output may be missing
-no_output_is_asked : why_not_created (record unit { output = input (codes "a") false ∷ [] }) ≡ None
+no_output_is_asked : why_not_created office (record unit { output = input (codes "a") false ∷ [] }) [] ≡ None
 no_output_is_asked = refl
 
-a_composite_task : why_not_created (record unit { input = input (codes "a") false ∷ []; subs = sub_entry (codes "x") (codes "solo") [] ∷ [] }) ≡ Some (Unknown (Model (codes "unit")))
+a_composite_task : why_not_created office (record unit { input = input (codes "a") false ∷ []; subs = sub_entry (codes "x") (codes "solo") [] ∷ [] }) [] ≡ Some (Unknown (Model (codes "unit")))
 a_composite_task = refl
 
-a_task_with_a_finish : why_not_created (record unit { finishes = record { when = None; settings = [] } ∷ [] }) ≡ Some (Unknown (Model (codes "unit")))
+a_task_with_a_finish : why_not_created office (record unit { finishes = record { when = None; settings = [] } ∷ [] }) [] ≡ Some (Unknown (Model (codes "unit")))
 a_task_with_a_finish = refl
 
-a_task_without_an_owner : why_not_created (record unit { owner_required = false }) ≡ Some (Unknown (Model (codes "unit")))
+a_task_without_an_owner : why_not_created office (record unit { owner_required = false }) [] ≡ Some (Unknown (Model (codes "unit")))
 a_task_without_an_owner = refl
 
-a_task_with_a_deadline : why_not_created (record unit { deadlines = record { name = codes "one"; kind = Start; period = Some 1000; at = None; part = None; escalations = [] } ∷ [] }) ≡ Some (Unknown (Model (codes "unit")))
+a_task_with_a_deadline : why_not_created office (record unit { deadlines = record { name = codes "one"; kind = Start; period = Some 1000; at = None; part = None; escalations = [] } ∷ [] }) [] ≡ Some (Unknown (Model (codes "unit")))
 a_task_with_a_deadline = refl
 
 -- ---- activation
@@ -96,7 +109,7 @@ abbrev one_task : TablesOf
 one_task = record nothing_yet { rows = record (task_of unit 0) { state = Ready } ∷ []; last = 1000 }
 
 -- dan creates a task of the first model
-a_create : Decides nothing_yet (asks (codes "dan") 1000 0 (Create None)) (kept (codes "dan") 1000 0 (Create None)) (reply_of (Done (record { 0 = 1 }) Ready None)) one_task
+a_create : Decides nothing_yet (asks (codes "dan") 1000 0 (Create None [])) (kept (codes "dan") 1000 0 (Create None [])) (reply_of (Done (record { 0 = 1 }) Ready None)) one_task
 a_create = (
   refl,
   record {
@@ -106,11 +119,11 @@ a_create = (
   },
 )
 
-no_such_model : Decides one_task (asks (codes "dan") 2000 0 (Create (Some (codes "sole")))) None (reply_of (Refused (Unknown (Model (codes "sole"))))) one_task
+no_such_model : Decides one_task (asks (codes "dan") 2000 0 (Create (Some (codes "sole")) [])) None (reply_of (Refused (Unknown (Model (codes "sole"))))) one_task
 no_such_model = (refl, record { outcome = refused (Unknown (Model (codes "sole"))); attempts = refl; settles = (refl, refl, refl) })
 
 -- a stranger changes nothing, not even the last moment
-a_stranger : Decides one_task (asks (codes "eve") 5000 0 (Create None)) None (reply_of (Refused Person)) one_task
+a_stranger : Decides one_task (asks (codes "eve") 5000 0 (Create None [])) None (reply_of (Refused Person)) one_task
 a_stranger = (refl, record { outcome = refused Person; attempts = refl; settles = (refl, refl, refl) })
 
 -- ---- a claim
@@ -122,11 +135,11 @@ abbrev claimed_at : ℕ → TablesOf
 claimed_at moment = record nothing_yet { rows = claimed ∷ []; last = moment }
 
 a_claim : Decides one_task (asks (codes "anna") 2000 1 Claim) (kept (codes "anna") 2000 1 Claim) (reply_of (Done (record { 0 = 1 }) Reserved (Some (codes "anna")))) (claimed_at 2000)
-a_claim = (refl, record { outcome = accepted (claimed_at 1000) 1; attempts = (refl, refl); settles = (refl, refl, (claimed, refl, refl)) })
+a_claim = (refl, record { outcome = accepted (claimed_at 1000) 1; attempts = (unit, refl, (refl, refl)); settles = (refl, refl, (claimed, refl, refl)) })
 
 -- an event acts never before the last accepted command, and is kept as of then
 an_earlier_moment : Decides one_task (asks (codes "anna") 10 1 Claim) (kept (codes "anna") 1000 1 Claim) (reply_of (Done (record { 0 = 1 }) Reserved (Some (codes "anna")))) (claimed_at 1000)
-an_earlier_moment = (refl, record { outcome = accepted (claimed_at 1000) 1; attempts = (refl, refl); settles = (refl, refl, (claimed, refl, refl)) })
+an_earlier_moment = (refl, record { outcome = accepted (claimed_at 1000) 1; attempts = (unit, refl, (refl, refl)); settles = (refl, refl, (claimed, refl, refl)) })
 
 a_second_claim : gate (claimed_at 2000) op.Claim 1 1 ≡ shuts (State (states_of (Ready ∷ [])) Reserved)
 a_second_claim = refl

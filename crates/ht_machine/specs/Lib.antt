@@ -7,3 +7,4 @@ pub mod History
 pub mod Naming
 pub mod Planning
 pub mod Sheets
+pub mod Starting

@@ -1,4 +1,5 @@
 ghost use Rattle.std.specs.Prelude.{◌≡◌, ◌<◌, ◌≤◌, length};
+ghost use Rattle.ht_base.specs.Events.{IsCommand};
 ghost use Rattle.ht_base.specs.Moment.{last_moment};
 ghost use Rattle.ht_machine.specs.Commands.{ActsOn, Comes};
 ghost use Rattle.ht_machine.specs.Planning.{Tries};
@@ -7,6 +8,7 @@ ghost use Rattle.ht_tree.specs.Soundness.{IsSound};
 
 use crate::creating::create;
 use crate::gating::refusal_at_gate;
+use crate::starting::begin;
 use ht_base::{Command, Moment, Person, TaskId};
 use ht_owner::{ActRefusal, Follow, act};
 use ht_tree::{Plan, Tables};
@@ -26,10 +28,13 @@ pub(crate) fn command(
     requires sound { IsSound (planned tables.now.tables plan.old) }
     requires caller { caller < length tables.now.tables.people.persons }
     requires at { at.0 ≤ last_moment }
+    requires command { IsCommand command.now }
     ensures { Tries tables.now.tables plan.old plan.new (Comes (planned tables.now.tables plan.old) caller at.0 task.0 command.now) result }
 {
     match command {
-        Command::Create { model } => create(alloc, tables, plan, caller, at, *model),
+        Command::Create { model, input } => {
+            create(alloc, tables, plan, caller, at, *model, input)
+        }
         _ => act_on(alloc, tables, plan, caller, at, task, command),
     }
 }
@@ -48,6 +53,7 @@ fn act_on(
     requires sound { IsSound (planned tables.now.tables plan.old) }
     requires caller { caller < length tables.now.tables.people.persons }
     requires at { at.0 ≤ last_moment }
+    requires command { IsCommand command.now }
     ensures { Tries tables.now.tables plan.old plan.new (ActsOn (planned tables.now.tables plan.old) caller task.0 command.now) result }
 {
     if let Some(refusal) = refusal_at_gate(tables, plan, caller, task, command.op()) {
@@ -55,5 +61,9 @@ fn act_on(
     }
     match act(alloc, tables, plan, task, caller, command, at)? {
         Follow::Nothing => Ok(task),
+        Follow::Began => {
+            begin(alloc, tables, plan, task)?;
+            Ok(task)
+        }
     }
 }

@@ -1,4 +1,5 @@
 ghost use Rattle.std.specs.Prelude.{◌≡◌, ◌<◌, ◌≤◌, IfOk, length};
+ghost use Rattle.ht_base.specs.Events.{AreGiven};
 ghost use Rattle.ht_base.specs.Moment.{last_moment};
 ghost use Rattle.ht_machine.specs.Commands as commands;
 ghost use Rattle.ht_machine.specs.Commands.{Creates};
@@ -9,10 +10,11 @@ ghost use Rattle.ht_tree.specs.Plans.{IsPlanOf, planned};
 ghost use Rattle.ht_tree.specs.Soundness.{IsSound};
 
 use crate::activating::activate;
-use ht_base::{Limit, Moment, Name, Person, Refusal, TaskId, Unknown, Values};
-use ht_models::{Model, Part};
+use ht_base::{Limit, Moment, Name, Parts, Person, Refusal, TaskId, Unknown};
+use ht_models::Model;
 use ht_owner::ActRefusal;
-use ht_tree::{CreateRefusal, Plan, Tables};
+use ht_people::Directory;
+use ht_tree::{CreateRefusal, Plan, Tables, refused_part, values_given};
 use std::alloc::Global;
 
 /// Plans a new task of the model with this name, or else of the first, and its activation.
@@ -23,19 +25,22 @@ pub(crate) fn create(
     caller: Person,
     at: Moment,
     model: Option<Name>,
+    input: &Parts,
 ) -> Result<TaskId, ActRefusal>
     requires plan { IsPlanOf tables.now.tables plan.old }
     requires sound { IsSound (planned tables.now.tables plan.old) }
     requires caller { caller < length tables.now.tables.people.persons }
     requires at { at.0 ≤ last_moment }
-    ensures { Tries tables.now.tables plan.old plan.new (Creates (planned tables.now.tables plan.old) caller at.0 model) result }
+    requires input { AreGiven input.now }
+    ensures { Tries tables.now.tables plan.old plan.new (Creates (planned tables.now.tables plan.old) caller at.0 model input.now) result }
 {
     let place = place_of(tables, model)?;
-    if let Some(refusal) = why_not_created(tables.models().model(place)) {
+    let model = tables.models().model(place);
+    if let Some(refusal) = why_not_created(tables.people(), model, input) {
         return Err(ActRefusal::Refused(refusal));
     }
-    let input = Values::new(alloc);
-    let created = ht_tree::create(alloc, tables, plan, place, None, caller, input, None, at);
+    let values = values_given(alloc, tables.people(), &model.input, input)?;
+    let created = ht_tree::create(alloc, tables, plan, place, None, caller, values, None, at);
     match created {
         Ok(task) => {
             activate(alloc, tables, plan, task)?;
@@ -62,14 +67,14 @@ fn place_of(tables: &Tables, name: Option<Name>) -> Result<u32, ActRefusal>
     }
 }
 
-// Why no task of the model can be created, to which nothing is given.
-fn why_not_created(model: &Model) -> Option<Refusal>
-    ensures { result ≡ commands.why_not_created (model_of model.now) }
+// Why no task of the model can be created, to which this is given.
+fn why_not_created(people: &Directory, model: &Model, input: &Parts) -> Option<Refusal>
+    ensures { result ≡ commands.why_not_created people.now (model_of model.now) input.now }
 {
     if is_coming(model) {
         return Some(Refusal::Unknown(Unknown::Model(model.name)));
     }
-    match first_required(&model.input) {
+    match refused_part(people, true, &model.input, input) {
         Some(part) => Some(Refusal::PartRefused(part)),
         None => None,
     }
@@ -82,17 +87,6 @@ fn is_coming(model: &Model) -> bool
         || !model.finishes.is_empty()
         || !model.owner_required
         || !model.deadlines.is_empty()
-}
-
-fn first_required(parts: &[Part]) -> Option<Name>
-    ensures { result ≡ commands.first_required parts.now }
-{
-    for part in parts {
-        if !part.optional {
-            return Some(part.name);
-        }
-    }
-    None
 }
 
 fn refusal_of(refusal: CreateRefusal) -> ActRefusal

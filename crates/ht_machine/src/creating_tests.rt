@@ -1,6 +1,10 @@
+ghost use Rattle.std.specs.Prelude.{◌≡◌, ℕ, List, true, IfOk};
+ghost use Rattle.ht_base.specs.Events.{IsValid, is_short};
+
+use crate::operation_tests::{asked, told};
 use crate::run_one;
 use crate::tests::{create, done_of, refusal_of, sheet_for};
-use ht_base::{Name, Names, Refusal, Unknown};
+use ht_base::{Command, Event, Name, Names, Parts, Refusal, Scalar, Txt, Unknown};
 use ht_models::Models;
 use ht_people::Directory;
 use ht_samples::{MODELS, PEOPLE};
@@ -27,7 +31,7 @@ fn tables_by(alloc: Global, priority: &str, owners: &str) -> Result<Tables, Fail
     tables_of(alloc, text.as_str())
 }
 
-fn text_of(alloc: Global, names: &Names) -> Result<String, Fail> {
+pub(crate) fn text_of(alloc: Global, names: &Names) -> Result<String, Fail> {
     let mut text = String::new(alloc);
     for name in names.as_slice() {
         text.push_str(" ")?;
@@ -38,7 +42,7 @@ fn text_of(alloc: Global, names: &Names) -> Result<String, Fail> {
 
 // What comes of a create of the model with this name: the state of the task, or the refusal.
 fn outcome(alloc: Global, tables: &mut Tables, name: &str) -> Result<&'static str, Fail> {
-    let event = create("dan", 1000, name).ok_or("an event")?;
+    let event = create(alloc, "dan", 1000, name).ok_or("an event")?;
     let model = Name::of(name.as_bytes()).ok_or("a name")?;
     let part = Name::of(b"b").ok_or("a name")?;
     let reply = run_one(alloc, tables, &event)?;
@@ -77,7 +81,7 @@ fn priorities_are_between_their_ends(rt: HostRuntime) -> Result<(), Fail> {
     for line in PRIORITIES.lines() {
         let (text, priority) = line.split_once(" => ").ok_or("two numbers")?;
         let mut tables = tables_by(rt.alloc(), text, "group('clerks')")?;
-        let event = create("dan", 1000, "m").ok_or("an event")?;
+        let event = create(rt.alloc(), "dan", 1000, "m").ok_or("an event")?;
         run_one(rt.alloc(), &mut tables, &event)?;
         let sheet = sheet_for(rt.alloc(), &mut tables, "dan")?;
         let found = format!(in rt.alloc(); "{}", sheet.priority)?;
@@ -104,7 +108,7 @@ fn roles_see_the_priority(rt: HostRuntime) -> Result<(), Fail> {
         let (texts, names) = line.split_once(" =>").ok_or("texts and names")?;
         let (priority, owners) = texts.split_once("; ").ok_or("two texts")?;
         let mut tables = tables_by(rt.alloc(), priority, owners)?;
-        let event = create("dan", 1000, "m").ok_or("an event")?;
+        let event = create(rt.alloc(), "dan", 1000, "m").ok_or("an event")?;
         run_one(rt.alloc(), &mut tables, &event)?;
         let sheet = sheet_for(rt.alloc(), &mut tables, "dan")?;
         let found = text_of(rt.alloc(), &sheet.potential_owners)?;
@@ -186,5 +190,77 @@ fn what_is_not_there_yet_is_refused(rt: HostRuntime) -> Result<(), Fail> {
         assert_eq!(rt; found, want, "{model}");
     }
     assert_eq!(rt; tables.rows(), 1);
+    Ok(())
+}
+
+// What is given for a part: a text, a whole number, or whether something is so.
+fn scalar_of(alloc: Global, kind: &str, value: &str) -> Result<Scalar, Fail>
+    ensures { IfOk result (λ s. (name : List ℕ) → is_short 512 (name, s) ≡ true) }
+{
+    if value.len() > 512 {
+        return Err(Fail::from("too long a text"));
+    }
+    match kind {
+        "text" => Ok(Scalar::Text(Txt::of(alloc, value)?)),
+        "int" => Ok(Scalar::Int(value.parse::<i64>()?)),
+        _ => Ok(Scalar::Truth(value == "true")),
+    }
+}
+
+// A create of dan's of the first model, to which one part is given.
+fn create_with(alloc: Global, name: &str, kind: &str, value: &str) -> Result<Event, Fail>
+    ensures { IfOk result IsValid }
+{
+    let mut input = Parts::new(alloc);
+    let name = Name::of(name.as_bytes()).ok_or("a name")?;
+    input.push(name, scalar_of(alloc, kind, value)?)?;
+    let caller = Name::of(b"dan").ok_or("a name")?;
+    Ok(asked(caller, Command::Create { model: None, input }))
+}
+
+const KINDS: &str = "\
+[[model]]
+name = \"m\"
+input = [{name = \"t\", kind = \"text\", optional = true}, {name = \"n\", kind = \"int\", optional = true}, {name = \"b\", kind = \"bool\", optional = true}, {name = \"p\", kind = \"person\", optional = true}, {name = \"i\", kind = \"instant\", optional = true}]
+";
+
+// In each line a part, the kind of what is given for it, and its value stand before what is answered.
+const INPUTS: &str = "\
+t text  => Created
+t text late => Created
+t int 7 => PartRefused t
+t truth true => PartRefused t
+n int -9223372036854775808 => Created
+n int 9223372036854775807 => Created
+n text 7 => PartRefused n
+n truth true => PartRefused n
+b truth false => Created
+b int 1 => PartRefused b
+b text true => PartRefused b
+p text root => Created
+p text eve => PartRefused p
+p text no name => PartRefused p
+p int 0 => PartRefused p
+i int 0 => Created
+i int 253402300799999 => Created
+i int 253402300800000 => PartRefused i
+i int -1 => PartRefused i
+i text 2027-01-01T00:00:00Z => PartRefused i
+z int 7 => PartRefused z";
+
+#[test]
+fn inputs_are_of_their_kinds(rt: HostRuntime) -> Result<(), Fail> {
+    for line in INPUTS.lines() {
+        let mut tables = tables_of(rt.alloc(), KINDS)?;
+        let (given, want) = line
+            .split_once(" =>")
+            .ok_or("what is given, and an answer")?;
+        let (part, value) = given.split_once(" ").ok_or("a part and a value")?;
+        let (kind, value) = value.split_once(" ").ok_or("a kind and a value")?;
+        let event = create_with(rt.alloc(), part, kind, value)?;
+        let reply = run_one(rt.alloc(), &mut tables, &event)?;
+        let found = told(rt.alloc(), &reply.answer)?;
+        assert_eq!(rt; found.as_str(), want, "{line}");
+    }
     Ok(())
 }

@@ -1,5 +1,5 @@
 ghost use Rattle.std.specs.Prelude.{◌≡◌, ◌≤◌, IfOk, MatchResult, OnErr};
-ghost use Rattle.ht_base.specs.Events.{IsValid};
+ghost use Rattle.ht_base.specs.Events.{IsCommand, IsValid};
 ghost use Rattle.ht_base.specs.Moment.{last_moment};
 ghost use Rattle.ht_machine.specs.History.{IsStep, memory_reply};
 ghost use Rattle.ht_machine.specs.Planning as spec;
@@ -102,6 +102,7 @@ fn ask(
     requires within { at.0 ≤ last_moment }
     requires later { tables.now.tables.last ≤ at.0 }
     requires plan { plan.old ≡ no_plan }
+    requires asked { IsCommand asked.now }
     ensures { IfOk result (λ r. PlansAsk tables.now.tables plan.new at.0 caller task asked.now r.0 r.1) }
 {
     let Some(person) = tables.people().find(caller) else {

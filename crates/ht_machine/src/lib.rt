@@ -4,6 +4,8 @@
 
 mod activating;
 mod answering;
+#[cfg(test)]
+mod authorisation_tests;
 mod commanding;
 mod creating;
 #[cfg(test)]
@@ -12,8 +14,11 @@ mod deciding;
 mod gating;
 mod laws;
 mod naming;
+#[cfg(test)]
+mod operation_tests;
 mod reading;
 mod sheets;
+mod starting;
 #[cfg(test)]
 mod tests;
 

@@ -3,8 +3,8 @@ ghost use Rattle.ht_base.specs.Events.{IsValid};
 
 use crate::{decide, run_one};
 use ht_base::{
-    Answer, Command, Event, Limit, Moment, Name, Names, Query, Record, Refusal, Role, Roles, Sheet,
-    State, StateSet, TaskId, Unknown,
+    Answer, Command, Event, Limit, Moment, Name, Names, Parts, Query, Record, Refusal, Role, Roles,
+    Sheet, State, StateSet, TaskId, Unknown,
 };
 use ht_models::Models;
 use ht_people::Directory;
@@ -23,7 +23,7 @@ fn tables(alloc: Global) -> Result<Tables, Fail> {
 }
 
 // A create of the model with this name, or of the first where it is no name.
-pub(crate) fn create(caller: &str, at: u64, model: &str) -> Option<Event>
+pub(crate) fn create(alloc: Global, caller: &str, at: u64, model: &str) -> Option<Event>
     ensures { IfSome result IsValid }
 {
     let caller = Name::of(caller.as_bytes())?;
@@ -35,7 +35,10 @@ pub(crate) fn create(caller: &str, at: u64, model: &str) -> Option<Event>
         at: Moment(at),
         caller,
         task: TaskId(0),
-        command: Command::Create { model },
+        command: Command::Create {
+            model,
+            input: Parts::new(alloc),
+        },
     })
 }
 
@@ -85,7 +88,7 @@ pub(crate) fn refusal_of(answer: &Answer) -> Option<Refusal> {
 // A task of the first model, which anna has claimed.
 fn claimed_tables(alloc: Global) -> Result<Tables, Fail> {
     let mut tables = tables(alloc)?;
-    let created = create("dan", 1000, "unit").ok_or("an event")?;
+    let created = create(alloc, "dan", 1000, "unit").ok_or("an event")?;
     run_one(alloc, &mut tables, &created)?;
     let claimed = claim("anna", 2000).ok_or("an event")?;
     run_one(alloc, &mut tables, &claimed)?;
@@ -136,7 +139,7 @@ fn tasks_are_created_by_their_models(rt: HostRuntime) -> Result<(), Fail> {
     ];
     for (model, state, owner) in table {
         let mut tables = tables(rt.alloc())?;
-        let event = create("dan", 1000, model).ok_or("an event")?;
+        let event = create(rt.alloc(), "dan", 1000, model).ok_or("an event")?;
         let reply = run_one(rt.alloc(), &mut tables, &event)?;
         let want = Some((TaskId(1), state, owner));
         assert!(rt; done_of(&reply.answer) == want, "{model}");
@@ -180,7 +183,7 @@ fn creates_are_refused(rt: HostRuntime) -> Result<(), Fail> {
         ("dan", "sole", Refusal::Unknown(unknown)),
     ];
     for (caller, model, refusal) in table {
-        let event = create(caller, 3000, model).ok_or("an event")?;
+        let event = create(rt.alloc(), caller, 3000, model).ok_or("an event")?;
         assert!(rt;
             is_refused(rt.alloc(), &mut tables, &event, refusal)?,
             "{caller}"
@@ -215,7 +218,7 @@ fn a_task_is_claimed(rt: HostRuntime) -> Result<(), Fail> {
     let event = claim("anna", 2000).ok_or("an event")?;
     let early = run_one(rt.alloc(), &mut tables, &event)?;
     assert_eq!(rt; refusal_of(&early.answer), Some(Refusal::Task(TaskId(1))));
-    let first = create("dan", 1000, "unit").ok_or("an event")?;
+    let first = create(rt.alloc(), "dan", 1000, "unit").ok_or("an event")?;
     run_one(rt.alloc(), &mut tables, &first)?;
     let decision = decide(rt.alloc(), &mut tables, &event)?;
     match decision.left {
@@ -233,7 +236,7 @@ fn a_task_is_claimed(rt: HostRuntime) -> Result<(), Fail> {
 #[test]
 fn a_task_is_shown(rt: HostRuntime) -> Result<(), Fail> {
     let mut tables = tables(rt.alloc())?;
-    let created = create("dan", 1000, "unit").ok_or("an event")?;
+    let created = create(rt.alloc(), "dan", 1000, "unit").ok_or("an event")?;
     run_one(rt.alloc(), &mut tables, &created)?;
     let sheet = sheet_for(rt.alloc(), &mut tables, "dan")?;
     assert_eq!(rt;
@@ -264,17 +267,18 @@ fn a_claimed_task_is_shown_to_its_people(rt: HostRuntime) -> Result<(), Fail> {
 #[test]
 fn tasks_are_created_up_to_the_limit(rt: HostRuntime) -> Result<(), Fail> {
     let mut tables = tables(rt.alloc())?;
-    let event = create("dan", 1000, "solo").ok_or("an event")?;
     for number in 1..=50_000u32 {
+        let event = create(rt.alloc(), "dan", 1000, "solo").ok_or("an event")?;
         let reply = run_one(rt.alloc(), &mut tables, &event)?;
         let want = Some((TaskId(number), State::Reserved, Name::of(b"anna")));
         assert!(rt; done_of(&reply.answer) == want, "at {number}");
     }
+    let event = create(rt.alloc(), "dan", 1000, "solo").ok_or("an event")?;
     let reply = run_one(rt.alloc(), &mut tables, &event)?;
     let full = Refusal::Limit(Limit::Tasks);
     assert_eq!(rt; refusal_of(&reply.answer), Some(full));
     // The model is looked at before the limit.
-    let event = create("dan", 1000, "asks").ok_or("an event")?;
+    let event = create(rt.alloc(), "dan", 1000, "asks").ok_or("an event")?;
     let reply = run_one(rt.alloc(), &mut tables, &event)?;
     let part = Refusal::PartRefused(Name::of(b"sum").ok_or("a name")?);
     assert_eq!(rt; refusal_of(&reply.answer), Some(part));

@@ -1,3 +1,4 @@
 mod Acted
 mod EffectsSound
 mod Moved
+mod Named

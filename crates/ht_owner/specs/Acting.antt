@@ -3,6 +3,7 @@ use Rattle.std.specs.Prelude.{◌≡◌, ℕ, Some, Result, Ok, Err}
 use Rattle.ht_base.specs.declared.event.Command.{Command}
 use Rattle.ht_base.specs.declared.operation.Op.{Op}
 use Rattle.ht_base.specs.declared.reply.Refusal.{Refusal}
+use Rattle.ht_models.specs.Model.{ModelOf}
 use Rattle.ht_owner.specs.declared.follow.Follow.{Follow}
 use Rattle.ht_owner.specs.declared.refusal.ActRefusal.{ActRefusal}
 use Rattle.ht_owner.specs.declared.refusal.ActRefusal.TheVariants as why
@@ -13,7 +14,7 @@ use Rattle.ht_tree.specs.declared.row.Row.{Row}
 use Rattle.ht_tree.specs.Plans.{Goes, PlanOf, planned}
 use Rattle.ht_tree.specs.Roles.{roles_in}
 use Rattle.ht_tree.specs.Soundness.{KeepsSound}
-use Rattle.ht_tree.specs.Tables.{TablesOf, task_row, with_row}
+use Rattle.ht_tree.specs.Tables.{TablesOf, directory, model_of, task_row, with_row}
 
 -- the task is there, and the person may do this with it in its state
 pub record IsAllowed (u : TablesOf) (op : Op) (person task : ℕ) : Type 0 where
@@ -24,9 +25,11 @@ pub record IsAllowed (u : TablesOf) (op : Op) (person task : ℕ) : Type 0 where
 -- the task's row is as the command makes it, and the tables stay sound
 pub record Makes (t : TablesOf) (old new : PlanOf) (task caller : ℕ) (command : Command) (follow : Follow) : Type 0 where
   pub before : Row
+  pub model : ModelOf
   pub after : Row
   pub there : task_row (planned t old) task ≡ Some before
-  pub effect_is : effect caller command before ≡ does after follow
+  pub of_model : model_of (planned t old) before ≡ Some model
+  pub effect_is : effect (directory t) model caller command before ≡ does after follow
   pub goes : Goes t old new (planned t old) (with_row (planned t old) after)
   pub sound : KeepsSound (planned t old) (with_row (planned t old) after)
   pub found : task_row (with_row (planned t old) after) task ≡ Some after
@@ -34,8 +37,10 @@ pub record Makes (t : TablesOf) (old new : PlanOf) (task caller : ℕ) (command 
 -- a refusal of what the command names, which leaves the plan
 pub record Refuses (t : TablesOf) (old new : PlanOf) (task caller : ℕ) (command : Command) (refusal : Refusal) : Type 0 where
   pub before : Row
+  pub model : ModelOf
   pub there : task_row (planned t old) task ≡ Some before
-  pub effect_is : effect caller command before ≡ refuses refusal
+  pub of_model : model_of (planned t old) before ≡ Some model
+  pub effect_is : effect (directory t) model caller command before ≡ refuses refusal
   pub same : new ≡ old
 
 abbrev pub Acts : TablesOf → PlanOf → PlanOf → ℕ → ℕ → Command → Result Follow ActRefusal → Type 0

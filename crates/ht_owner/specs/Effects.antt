@@ -1,13 +1,24 @@
 -- What comes of each command on a task's row (WS-HumanTask 1.1, 7.1.1 "Participant operations").
-use Rattle.std.specs.Prelude.{◌≡◌, ℕ, Result, Ok, Err}
+use Rattle.std.specs.Prelude.{◌≡◌, ℕ, ◌==◌, Bool, false, not, ◌&&◌, ◌||◌, List, [], ◌∷◌, filter, Option, Some, None, unwrap_or, Result, Ok, Err}
 use Rattle.ht_base.specs.declared.event.Command.{Command}
+use Rattle.ht_base.specs.declared.event.Command.TheVariants as command
 use Rattle.ht_base.specs.declared.reply.Refusal.{Refusal}
+use Rattle.ht_base.specs.declared.role_list.RoleList.{RoleList}
+use Rattle.ht_base.specs.declared.role_list.RoleList.TheVariants as list
+use Rattle.ht_base.specs.declared.state.State.{State}
+use Rattle.ht_base.specs.declared.state.State.TheVariants.{Ready}
 use Rattle.ht_base.specs.Events.{op_of}
+use Rattle.ht_base.specs.Persons.{has}
+use Rattle.ht_models.specs.Model.{ModelOf}
 use Rattle.ht_owner.specs.declared.follow.Follow.{Follow}
-use Rattle.ht_owner.specs.declared.follow.Follow.TheVariants.{Nothing}
+use Rattle.ht_owner.specs.declared.follow.Follow.TheVariants as follow
 use Rattle.ht_owner.specs.declared.refusal.ActRefusal.{ActRefusal}
 use Rattle.ht_owner.specs.declared.refusal.ActRefusal.TheVariants as why
+use Rattle.ht_owner.specs.Faults.{fault}
 use Rattle.ht_owner.specs.Moving.{moved}
+use Rattle.ht_owner.specs.Naming.{is_named, is_this, persons_named}
+use Rattle.ht_people.specs.Directory.{DirectoryOf, find}
+use Rattle.ht_people.specs.Membership.{everybody}
 use Rattle.ht_tree.specs.declared.row.Row.{Row}
 
 -- the row after it and what follows on others, or why it isn't done
@@ -15,9 +26,59 @@ pub data Effect : Type 0 where
   does : Row → Follow → Effect
   refuses : Refusal → Effect
 
--- of a caller's command: the table of changes moves the task, and nothing follows
-abbrev pub effect : ℕ → Command → Row → Effect
-effect caller command row = does (moved (op_of command) caller caller row) Nothing
+-- ---- what a command itself changes, before the table of changes moves the task
+
+-- who hands a task on: of a ready task the caller, and else its owner
+abbrev pub is_forwarder : ℕ → State → Option ℕ → ℕ → Bool
+is_forwarder caller Ready owner person = person == caller
+is_forwarder caller _ owner person = is_this person owner
+
+-- they and the persons who are named
+abbrev pub with_named : DirectoryOf → List ℕ → List (List ℕ) → List ℕ
+with_named d persons names = filter (λ p. has p persons || is_named d names p) (everybody d)
+
+abbrev pub without_named : DirectoryOf → List ℕ → List (List ℕ) → List ℕ
+without_named d persons names = filter (λ p. has p persons && not (is_named d names p)) (everybody d)
+
+abbrev pub forwarded : DirectoryOf → ℕ → Row → List (List ℕ) → List ℕ
+forwarded d caller row names = filter (λ p. (has p row.potential_owners && not (is_forwarder caller row.state row.owner p)) || is_named d names p) (everybody d)
+
+abbrev pub with_role : DirectoryOf → Row → List (List ℕ) → RoleList → Row
+with_role d row names list.PotentialOwners = record row { potential_owners = persons_named d names; by_group = false }
+with_role d row names list.ExcludedOwners = record row { excluded_owners = persons_named d names; potential_owners = without_named d row.potential_owners names }
+with_role d row names list.Administrators = record row { administrators = persons_named d names }
+with_role d row names list.Stakeholders = record row { stakeholders = persons_named d names }
+
+abbrev pub prepared : DirectoryOf → ℕ → Row → Command → Row
+prepared d caller row (command.Delegate name) = record row { potential_owners = with_named d row.potential_owners (name ∷ []) }
+prepared d caller row (command.Forward names) = record row { potential_owners = forwarded d caller row names }
+prepared d caller row (command.Nominate names) = record row { potential_owners = persons_named d names; by_group = false }
+prepared d caller row (command.SetRole role names) = with_role d row names role
+prepared d caller row (command.SetPriority priority) = record row { priority = priority }
+prepared d caller row _ = row
+
+-- ---- and then
+
+-- the person who is named as the owner
+abbrev pub named_owner : DirectoryOf → ℕ → Command → ℕ
+named_owner d caller (command.Delegate name) = unwrap_or (find name d) caller
+named_owner d caller _ = caller
+
+abbrev pub following : Command → Follow
+following command.Start = follow.Began
+following _ = follow.Nothing
+
+-- the row that the table of changes leaves
+abbrev pub made : DirectoryOf → ℕ → Row → Command → Row
+made d caller row c = moved (op_of c) caller (named_owner d caller c) (prepared d caller row c)
+
+abbrev pub unless : Option Refusal → Row → Follow → Effect
+unless None row follow = does row follow
+unless (Some why) row follow = refuses why
+
+-- of a caller's command on a task of this model
+abbrev pub effect : DirectoryOf → ModelOf → ℕ → Command → Row → Effect
+effect d m caller c row = unless (fault d m row c) (made d caller row c) (following c)
 
 -- what is answered is what comes of it
 abbrev pub Gives : Effect → Result (Row × Follow) ActRefusal → Type 0

@@ -1,14 +1,21 @@
 -- Worked examples of rows that operations move. A wrong reading of one fails the check.
-use Rattle.std.specs.Prelude.{◌≡◌, refl, ℕ, [], ◌∷◌, Some, None}
+use Rattle.std.specs.Prelude.{◌≡◌, refl, ℕ, [], ◌∷◌, Some, None, codes, true, false}
 use Rattle.ht_base.specs.declared.event.Command.TheVariants as command
 use Rattle.ht_base.specs.declared.moment.Moment.{Moment}
 use Rattle.ht_base.specs.declared.operation.Op.TheVariants.{Start, Stop, Release, Delegate, Resume, Complete, Activate}
+use Rattle.ht_base.specs.declared.reply.Refusal.TheVariants as refusal
+use Rattle.ht_base.specs.declared.reply.Unknown.TheVariants as unknown
+use Rattle.ht_base.specs.declared.role_list.RoleList.TheVariants as list
 use Rattle.ht_base.specs.declared.state.State.TheVariants as state
-use Rattle.ht_owner.specs.declared.follow.Follow.TheVariants.{Nothing}
-use Rattle.ht_owner.specs.Effects.{does, effect}
+use Rattle.ht_expr.specs.Assignments.{user}
+use Rattle.ht_models.specs.declared.choices.Delegation.TheVariants as delegation
+use Rattle.ht_models.specs.Model.{ModelOf}
+use Rattle.ht_owner.specs.declared.follow.Follow.TheVariants.{Began, Nothing}
+use Rattle.ht_owner.specs.Effects.{does, effect, refuses}
 use Rattle.ht_owner.specs.Moving.{moved}
 use Rattle.ht_tree.specs.declared.row.Row.{Row}
 use Rattle.ht_tree.specs.Creating.{bare_row}
+use Rattle.ht_tree.specs.Examples.{office, unit}
 
 abbrev at : ℕ → Moment
 at n = record { 0 = n }
@@ -26,8 +33,74 @@ reserved = record ready { state = state.Reserved; owner = Some 0 }
 abbrev held : Row
 held = record reserved { state = state.SuspendedReserved; until = Some (at 9000) }
 
-a_claim : effect 0 command.Claim ready ≡ does reserved Nothing
+-- ---- commands
+
+abbrev started : Row
+started = record reserved { state = state.InProgress }
+
+a_claim : effect office unit 0 command.Claim ready ≡ does reserved Nothing
 a_claim = refl
+
+a_start : effect office unit 1 command.Start ready ≡ does (record ready { state = state.InProgress; owner = Some 1 }) Began
+a_start = refl
+
+a_stop : effect office unit 0 command.Stop started ≡ does reserved Nothing
+a_stop = refl
+
+without_an_owner : effect office (record unit { owner_required = false }) 0 command.Stop started ≡ refuses refusal.Ownerless
+without_an_owner = refl
+
+a_delegation_adds : effect office unit 0 (command.Delegate (codes "cora")) reserved ≡ does (record reserved { owner = Some 2; potential_owners = 0 ∷ 1 ∷ 2 ∷ [] }) Nothing
+a_delegation_adds = refl
+
+to_a_stranger : effect office unit 0 (command.Delegate (codes "eve")) reserved ≡ refuses (refusal.Unknown (unknown.Person (codes "eve")))
+to_a_stranger = refl
+
+to_nobody : effect office (record unit { delegation = delegation.Nobody }) 0 (command.Delegate (codes "ben")) reserved ≡ refuses (refusal.NotDelegatee (codes "ben"))
+to_nobody = refl
+
+-- an excluded owner is told before one who is no delegatee
+excluded_first : effect office (record unit { delegation = delegation.Nobody }) 0 (command.Delegate (codes "cora")) (record reserved { excluded_owners = 2 ∷ [] }) ≡ refuses (refusal.Excluded (codes "cora"))
+excluded_first = refl
+
+abbrev to_cora : ModelOf
+to_cora = record unit { delegation = delegation.Other; delegatees = Some (user (codes "cora")) }
+
+to_no_delegatee : effect office to_cora 0 (command.Delegate (codes "ben")) reserved ≡ refuses (refusal.NotDelegatee (codes "ben"))
+to_no_delegatee = refl
+
+-- the owner hands it on, and then has nothing to do with it
+a_forward : effect office unit 0 (command.Forward (codes "cora" ∷ [])) started ≡ does (record ready { potential_owners = 1 ∷ 2 ∷ [] }) Nothing
+a_forward = refl
+
+-- of a ready task the caller does
+a_forward_of_a_ready_task : effect office unit 1 (command.Forward (codes "cora" ∷ [])) ready ≡ does (record ready { potential_owners = 0 ∷ 2 ∷ [] }) Nothing
+a_forward_of_a_ready_task = refl
+
+by_group_first : effect office unit 0 (command.Forward (codes "eve" ∷ [])) (record reserved { by_group = true }) ≡ refuses refusal.ByGroup
+by_group_first = refl
+
+a_nomination_of_two : effect office unit 4 (command.Nominate (codes "cora" ∷ codes "ben" ∷ [])) (record waiting { by_group = true }) ≡ does (record ready { potential_owners = 1 ∷ 2 ∷ [] }) Nothing
+a_nomination_of_two = refl
+
+nobody_to_activate_for : effect office unit 4 command.Activate (record waiting { potential_owners = [] }) ≡ refuses refusal.NoOwners
+nobody_to_activate_for = refl
+
+-- whoever is excluded is no potential owner any more
+an_exclusion : effect office unit 2 (command.SetRole list.ExcludedOwners (codes "ben" ∷ [])) reserved ≡ does (record reserved { excluded_owners = 1 ∷ []; potential_owners = 0 ∷ [] }) Nothing
+an_exclusion = refl
+
+the_owner_excluded : effect office unit 2 (command.SetRole list.ExcludedOwners (codes "ben" ∷ codes "anna" ∷ [])) reserved ≡ refuses (refusal.Excluded (codes "anna"))
+the_owner_excluded = refl
+
+-- the state stays, whoever may own it
+others_may_own : effect office unit 2 (command.SetRole list.PotentialOwners (codes "dan" ∷ [])) (record reserved { by_group = true }) ≡ does (record reserved { potential_owners = 3 ∷ [] }) Nothing
+others_may_own = refl
+
+another_priority : effect office unit 2 (command.SetPriority 0) reserved ≡ does (record reserved { priority = 0 }) Nothing
+another_priority = refl
+
+-- ---- moves
 
 a_start_from_ready : moved Start 1 1 ready ≡ record ready { state = state.InProgress; owner = Some 1 }
 a_start_from_ready = refl

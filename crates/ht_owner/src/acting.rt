@@ -1,5 +1,5 @@
 ghost use Rattle.std.specs.Prelude.{◌<◌, ◌≤◌, length};
-ghost use Rattle.ht_base.specs.Events.{op_of};
+ghost use Rattle.ht_base.specs.Events.{IsCommand, op_of};
 ghost use Rattle.ht_base.specs.Moment.{last_moment};
 ghost use Rattle.ht_owner.specs.Acting.{Acts, IsAllowed};
 ghost use Rattle.ht_tree.specs.Plans.{IsPlanOf, planned};
@@ -29,13 +29,16 @@ pub fn act(
     requires sound { IsSound (planned tables.now.tables plan.old) }
     requires caller { caller < length tables.now.tables.people.persons }
     requires allowed { IsAllowed (planned tables.now.tables plan.old) (op_of command.now) caller id.0 }
+    requires command { IsCommand command.now }
     requires at { _at.0 ≤ last_moment }
     ensures { Acts tables.now.tables plan.old plan.new id.0 caller command.now result }
 {
     let Some(row) = plan.row(tables, id) else {
         unreachable!()
     };
-    let (row, follow) = effect(caller, command, row.copy(alloc)?)?;
-    plan.put(tables, row)?;
+    let model = tables.models().model(row.model);
+    let before = row.copy(alloc)?;
+    let (after, follow) = effect(alloc, tables, plan, model, caller, command, before)?;
+    plan.put(tables, after)?;
     Ok(follow)
 }

@@ -3,8 +3,10 @@
 
 mod acting;
 mod effects;
+mod faults;
 mod follow;
 mod moving;
+mod naming;
 mod refusal;
 
 pub use acting::act;

@@ -24,7 +24,7 @@ use Rattle.ht_program.specs.Words.{are_options, moment_of, value_of}
 abbrev asked : List ℕ → List ℕ → Option (List ℕ) → Request
 asked method target person = record { method = method; target = record { items = target; spare = 0 }; person = person; last = false; body = record { items = []; spare = 0 } }
 
-a_create : IsEvent (asked (codes "POST") (codes "/tasks") (Some (codes "p3"))) 1000 (Ok (Ask (record { 0 = 1000 }) (codes "p3") (record { 0 = 0 }) (command.Create None)))
+a_create : IsEvent (asked (codes "POST") (codes "/tasks") (Some (codes "p3"))) 1000 (Ok (Ask (record { 0 = 1000 }) (codes "p3") (record { 0 = 0 }) (command.Create None [])))
 a_create = (form.Create, codes "p3", (refl, refl), refl, refl)
 
 a_claim : IsEvent (asked (codes "POST") (codes "/tasks/12/claim") (Some (codes "p0"))) 5 (Ok (Ask (record { 0 = 5 }) (codes "p0") (record { 0 = 12 }) command.Claim))

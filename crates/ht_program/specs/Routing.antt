@@ -1,5 +1,5 @@
 -- Which event a request is.
-use Rattle.std.specs.Prelude.{◌≡◌, ℕ, ◌^◌, ◌<◌, ◌≤◌, List, ◌++◌, Some, None, Result, Ok, Err, codes, decimal}
+use Rattle.std.specs.Prelude.{◌≡◌, ℕ, ◌^◌, ◌<◌, ◌≤◌, List, [], ◌++◌, Some, None, Result, Ok, Err, codes, decimal}
 use Rattle.ht_base.specs.declared.event.Event.{Event}
 use Rattle.ht_base.specs.declared.event.Event.TheVariants.{Ask, Read}
 use Rattle.ht_base.specs.declared.event.Command.TheVariants as command
@@ -31,7 +31,7 @@ IsForm r (form.Sheet task) = (r.method ≡ codes "GET") × IsId task.0 × (r.tar
 
 -- the event that a person's request of this form is, at a moment
 abbrev pub event_for : Form → List ℕ → ℕ → Event
-event_for form.Create name moment = Ask (record { 0 = moment }) name (record { 0 = 0 }) (command.Create None)
+event_for form.Create name moment = Ask (record { 0 = moment }) name (record { 0 = 0 }) (command.Create None [])
 event_for (form.Claim task) name moment = Ask (record { 0 = moment }) name task command.Claim
 event_for (form.Sheet task) name moment = Read name (query.Sheet task)
 

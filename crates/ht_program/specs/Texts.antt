@@ -76,6 +76,10 @@ roles_of set = names_among role_name (contains_role set) all_roles
 abbrev pub fault : List ℕ → List ℕ
 fault name = codes "{\"fault\":\"" ++ name ++ codes "\"}"
 
+-- which names something
+abbrev pub named_fault : List ℕ → List ℕ → List ℕ → List ℕ
+named_fault name key value = codes "{\"fault\":\"" ++ name ++ codes "\",\"" ++ key ++ codes "\":" ++ quoted value ++ codes "}"
+
 -- of a request for which there is no memory
 abbrev pub memory_text : List ℕ
 memory_text = fault (codes "Memory")
@@ -84,23 +88,50 @@ abbrev pub limit_name : Limit → List ℕ
 limit_name Tasks = codes "tasks"
 
 abbrev pub refusal_text : Refusal → List ℕ
+refusal_text refusal.Head = fault (codes "Head")
+refusal_text refusal.Fields = fault (codes "Fields")
+refusal_text refusal.Coding = fault (codes "Coding")
+refusal_text refusal.Body = fault (codes "Body")
+refusal_text refusal.Route = fault (codes "Route")
+refusal_text refusal.Method = fault (codes "Method")
+refusal_text refusal.Json = fault (codes "Json")
+refusal_text (refusal.Field key) = named_fault (codes "Field") (codes "field") key
 refusal_text refusal.Person = fault (codes "Person")
 refusal_text (refusal.Task task) = codes "{\"fault\":\"Task\",\"task\":" ++ decimal task.0 ++ codes "}"
 refusal_text (refusal.Role needs) = codes "{\"fault\":\"Role\",\"needs\":" ++ list_text (roles_of needs) ++ codes "}"
-refusal_text (refusal.Unknown (unknown.Model name)) = codes "{\"fault\":\"Unknown\",\"model\":" ++ quoted name ++ codes "}"
-refusal_text (refusal.PartRefused part) = codes "{\"fault\":\"PartRefused\",\"part\":" ++ quoted part ++ codes "}"
+refusal_text (refusal.Unknown (unknown.Model name)) = named_fault (codes "Unknown") (codes "model") name
+refusal_text (refusal.Unknown (unknown.Person name)) = named_fault (codes "Unknown") (codes "person") name
+refusal_text (refusal.PartRefused part) = named_fault (codes "PartRefused") (codes "part") part
+refusal_text refusal.Ownerless = fault (codes "Ownerless")
+refusal_text refusal.ByGroup = fault (codes "ByGroup")
+refusal_text (refusal.Excluded person) = named_fault (codes "Excluded") (codes "person") person
+refusal_text (refusal.NotDelegatee person) = named_fault (codes "NotDelegatee") (codes "person") person
+refusal_text refusal.NoOwners = fault (codes "NoOwners")
 refusal_text (refusal.State allowed state) =
     codes "{\"allowed\":" ++ list_text (states_of allowed) ++ codes ",\"fault\":\"State\",\"state\":" ++ quoted (state_name state) ++ codes "}"
 refusal_text (refusal.Limit limit) = codes "{\"fault\":\"Limit\",\"limit\":\"" ++ limit_name limit ++ codes "\"}"
 refusal_text refusal.Memory = memory_text
 
 abbrev pub refusal_status : Refusal → ℕ
+refusal_status refusal.Head = 400
+refusal_status refusal.Fields = 431
+refusal_status refusal.Coding = 501
+refusal_status refusal.Body = 413
+refusal_status refusal.Route = 404
+refusal_status refusal.Method = 405
+refusal_status refusal.Json = 400
+refusal_status (refusal.Field key) = 400
 refusal_status refusal.Person = 401
 refusal_status (refusal.Task task) = 404
 refusal_status (refusal.Role needs) = 403
 refusal_status (refusal.State allowed state) = 409
 refusal_status (refusal.Unknown what) = 422
 refusal_status (refusal.PartRefused part) = 422
+refusal_status refusal.Ownerless = 422
+refusal_status refusal.ByGroup = 422
+refusal_status (refusal.Excluded person) = 422
+refusal_status (refusal.NotDelegatee person) = 422
+refusal_status refusal.NoOwners = 422
 refusal_status (refusal.Limit limit) = 507
 refusal_status refusal.Memory = 500
 
@@ -153,7 +184,7 @@ IsSheet (Refused why) = ⊥
 
 -- 201 where a task was created
 abbrev pub done_status : Event → ℕ
-done_status (Ask at caller task (command.Create model)) = 201
+done_status (Ask at caller task (command.Create model input)) = 201
 done_status e = 200
 
 abbrev pub answer_status : Event → Answer → ℕ
@@ -164,16 +195,16 @@ answer_status e (Refused why) = refusal_status why
 -- ---- where there is no event
 
 abbrev pub api_status : ApiRefusal → ℕ
-api_status Route = 404
+api_status Route = refusal_status refusal.Route
 api_status Person = refusal_status refusal.Person
 
 abbrev pub api_text : ApiRefusal → List ℕ
-api_text Route = fault (codes "Route")
+api_text Route = refusal_text refusal.Route
 api_text Person = refusal_text refusal.Person
 
 -- of a connection that is refused with this code
 abbrev pub refused_text : ℕ → List ℕ
 refused_text code =
-    if code == 431 then fault (codes "Fields")
-    else if code == 501 then fault (codes "Coding")
-    else fault (codes "Head")
+    if code == 431 then refusal_text refusal.Fields
+    else if code == 501 then refusal_text refusal.Coding
+    else refusal_text refusal.Head

@@ -148,7 +148,7 @@ fn answer(
     ensures room { 1024 ≤ text.new.spare + length text.new.items }
 {
     text.clear();
-    match event_of(request, at) {
+    match event_of(alloc, request, at) {
         Ok(event) => decide_into(alloc, tables, &event, text),
         Err(refusal) => {
             let (status, bytes) = api_reply(refusal);

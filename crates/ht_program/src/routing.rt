@@ -6,9 +6,10 @@ ghost use Rattle.ht_program.specs.Routing as spec;
 ghost use Rattle.ht_program.specs.Routing.{IsEvent, IsForm, IsId, claim_path, task_path};
 
 use crate::numbers::decimal_of;
-use ht_base::{Command, Event, Moment, Name, Query, TaskId};
+use ht_base::{Command, Event, Moment, Name, Parts, Query, TaskId};
 use ht_wire::Request;
 use http::Method;
+use std::alloc::Global;
 use std::str;
 use thiserror::Error;
 
@@ -33,7 +34,7 @@ pub(crate) enum Form {
 }
 
 /// The event of a request at a moment.
-pub(crate) fn event_of(request: &Request, at: Moment) -> Result<Event, ApiRefusal>
+pub(crate) fn event_of(alloc: Global, request: &Request, at: Moment) -> Result<Event, ApiRefusal>
     ensures event { IsEvent request.now at.0 result }
     ensures valid { at.0 ≤ last_moment → IfOk result IsValid }
 {
@@ -41,12 +42,12 @@ pub(crate) fn event_of(request: &Request, at: Moment) -> Result<Event, ApiRefusa
         return Err(ApiRefusal::Route);
     };
     match request.person {
-        Some(caller) => Ok(event_for(form, caller, at)),
+        Some(caller) => Ok(event_for(alloc, form, caller, at)),
         None => Err(ApiRefusal::Person),
     }
 }
 
-fn event_for(form: Form, caller: Name, at: Moment) -> Event
+fn event_for(alloc: Global, form: Form, caller: Name, at: Moment) -> Event
     ensures { result ≡ spec.event_for form caller at.0 }
 {
     match form {
@@ -54,7 +55,10 @@ fn event_for(form: Form, caller: Name, at: Moment) -> Event
             at,
             caller,
             task: TaskId(0),
-            command: Command::Create { model: None },
+            command: Command::Create {
+                model: None,
+                input: Parts::new(alloc),
+            },
         },
         Form::Claim(task) => Event::Ask {
             at,

@@ -3,7 +3,7 @@ ghost use Rattle.ht_base.specs.declared.reply.Answer.TheVariants.{Done};
 ghost use Rattle.ht_wire.specs.Replies.{IsReplyStatus};
 ghost use Rattle.ht_program.specs.Adding.{Adds};
 ghost use Rattle.ht_program.specs.Texts as spec;
-ghost use Rattle.ht_program.specs.Texts.{IsSheet, answer_status, answer_text, api_status, api_text, name_or_null, quoted, refusal_text};
+ghost use Rattle.ht_program.specs.Texts.{IsSheet, answer_status, answer_text, api_status, api_text, name_or_null, named_fault, quoted, refusal_text};
 
 use crate::listing::put_names_among;
 use crate::routing::ApiRefusal;
@@ -19,6 +19,15 @@ pub(crate) const TEXT_ROOM: u32 = 1024;
 /// The text of a reply where there is no memory to act on a request, or to show a sheet.
 pub(crate) const MEMORY_TEXT: &[u8] = b"{\"fault\":\"Memory\"}";
 
+// The texts of the replies to a connection that is refused.
+const HEAD_TEXT: &[u8] = b"{\"fault\":\"Head\"}";
+
+const FIELDS_TEXT: &[u8] = b"{\"fault\":\"Fields\"}";
+
+const CODING_TEXT: &[u8] = b"{\"fault\":\"Coding\"}";
+
+const ROUTE_TEXT: &[u8] = b"{\"fault\":\"Route\"}";
+
 // The text of the reply to somebody who is no person of the directory, or who isn't told.
 const PERSON_TEXT: &[u8] = b"{\"fault\":\"Person\"}";
 
@@ -30,11 +39,19 @@ pub(crate) fn status_of(event: &Event, answer: &Answer) -> u16
     match answer {
         Answer::Done { .. } => done_status(event),
         Answer::Sheet(_) => 200,
+        Answer::Refused(Refusal::Head | Refusal::Json | Refusal::Field(_)) => 400,
+        Answer::Refused(Refusal::Fields) => 431,
+        Answer::Refused(Refusal::Coding) => 501,
+        Answer::Refused(Refusal::Body) => 413,
+        Answer::Refused(Refusal::Route) => 404,
+        Answer::Refused(Refusal::Method) => 405,
         Answer::Refused(Refusal::Person) => 401,
         Answer::Refused(Refusal::Task(_)) => 404,
         Answer::Refused(Refusal::Role { .. }) => 403,
         Answer::Refused(Refusal::State { .. }) => 409,
         Answer::Refused(Refusal::Unknown(_) | Refusal::PartRefused(_)) => 422,
+        Answer::Refused(Refusal::Ownerless | Refusal::ByGroup | Refusal::NoOwners) => 422,
+        Answer::Refused(Refusal::Excluded(_) | Refusal::NotDelegatee(_)) => 422,
         Answer::Refused(Refusal::Limit(_)) => 507,
         Answer::Refused(Refusal::Memory) => 500,
     }
@@ -118,11 +135,25 @@ fn write_refusal(refusal: &Refusal, into: &mut Bytes)
     ensures kept { into.old.spare ≤ into.new.spare + length into.new.items }
 {
     match refusal {
+        Refusal::Head => put(HEAD_TEXT, into),
+        Refusal::Fields => put(FIELDS_TEXT, into),
+        Refusal::Coding => put(CODING_TEXT, into),
+        Refusal::Body => put(b"{\"fault\":\"Body\"}", into),
+        Refusal::Route => put(ROUTE_TEXT, into),
+        Refusal::Method => put(b"{\"fault\":\"Method\"}", into),
+        Refusal::Json => put(b"{\"fault\":\"Json\"}", into),
+        Refusal::Field(key) => write_named(b"Field", b"field", key, into),
         Refusal::Person => put(PERSON_TEXT, into),
         Refusal::Task(task) => write_task_refusal(*task, into),
         Refusal::Role { needs } => write_role_refusal(needs, into),
-        Refusal::Unknown(Unknown::Model(name)) => write_unknown_model(name, into),
-        Refusal::PartRefused(part) => write_part_refused(part, into),
+        Refusal::Unknown(Unknown::Model(name)) => write_named(b"Unknown", b"model", name, into),
+        Refusal::Unknown(Unknown::Person(name)) => write_named(b"Unknown", b"person", name, into),
+        Refusal::PartRefused(part) => write_named(b"PartRefused", b"part", part, into),
+        Refusal::Ownerless => put(b"{\"fault\":\"Ownerless\"}", into),
+        Refusal::ByGroup => put(b"{\"fault\":\"ByGroup\"}", into),
+        Refusal::Excluded(person) => write_named(b"Excluded", b"person", person, into),
+        Refusal::NotDelegatee(person) => write_named(b"NotDelegatee", b"person", person, into),
+        Refusal::NoOwners => put(b"{\"fault\":\"NoOwners\"}", into),
         Refusal::State { allowed, state } => write_state_refusal(allowed, *state, into),
         Refusal::Limit(Limit::Tasks) => put(b"{\"fault\":\"Limit\",\"limit\":\"tasks\"}", into),
         Refusal::Memory => put(MEMORY_TEXT, into),
@@ -165,25 +196,21 @@ fn write_role_refusal(needs: &Roles, into: &mut Bytes)
     put(b"}", into);
 }
 
-fn write_unknown_model(name: &Name, into: &mut Bytes)
+// A fault that names something by a key.
+fn write_named(fault: &[u8], key: &[u8], name: &Name, into: &mut Bytes)
+    requires fault { length fault.now ≤ 32 }
+    requires key { length key.now ≤ 32 }
     requires empty { into.old.items ≡ [] }
     requires room { 1024 ≤ into.old.spare }
-    ensures text { into.new.items ≡ refusal_text (Refusal.Unknown (Unknown.Model name.now)) }
+    ensures text { into.new.items ≡ named_fault fault.now key.now name.now }
     ensures kept { into.old.spare ≤ into.new.spare + length into.new.items }
 {
-    put(b"{\"fault\":\"Unknown\",\"model\":", into);
+    put(b"{\"fault\":\"", into);
+    put(fault, into);
+    put(b"\",\"", into);
+    put(key, into);
+    put(b"\":", into);
     put_quoted(name.as_bytes(), into);
-    put(b"}", into);
-}
-
-fn write_part_refused(part: &Name, into: &mut Bytes)
-    requires empty { into.old.items ≡ [] }
-    requires room { 1024 ≤ into.old.spare }
-    ensures text { into.new.items ≡ refusal_text (Refusal.PartRefused part.now) }
-    ensures kept { into.old.spare ≤ into.new.spare + length into.new.items }
-{
-    put(b"{\"fault\":\"PartRefused\",\"part\":", into);
-    put_quoted(part.as_bytes(), into);
     put(b"}", into);
 }
 
@@ -203,9 +230,9 @@ pub(crate) fn refused_text(code: u16) -> &'static [u8]
     ensures { result.now ≡ spec.refused_text code }
 {
     match code {
-        431 => b"{\"fault\":\"Fields\"}",
-        501 => b"{\"fault\":\"Coding\"}",
-        _ => b"{\"fault\":\"Head\"}",
+        431 => FIELDS_TEXT,
+        501 => CODING_TEXT,
+        _ => HEAD_TEXT,
     }
 }
 
@@ -217,7 +244,7 @@ pub(crate) fn api_reply(refusal: ApiRefusal) -> (u16, &'static [u8])
     ensures short { length result.1.now ≤ 1024 }
 {
     match refusal {
-        ApiRefusal::Route => (404, b"{\"fault\":\"Route\"}"),
+        ApiRefusal::Route => (404, ROUTE_TEXT),
         ApiRefusal::Person => (401, PERSON_TEXT),
     }
 }

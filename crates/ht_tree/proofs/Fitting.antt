@@ -32,7 +32,7 @@ selected_persons t test from (suc n) h = at (test from) (selected_persons t test
     at true rest = (omega arith, rest)
     at false rest = rest
 
-all_selected : (t : TablesOf) (test : ℕ → Bool) → AllBelow (length t.people.persons) (filter test (range_with_len 0 (length t.people.persons)))
+pub all_selected : (t : TablesOf) (test : ℕ → Bool) → AllBelow (length t.people.persons) (filter test (range_with_len 0 (length t.people.persons)))
 all_selected t test = selected_persons t test 0 (length t.people.persons) (omega arith)
 
 -- ---- what is sound fits

@@ -1,6 +1,9 @@
 mod Activation
+mod Again
 mod Counting
 mod Fitting
+mod HeldGiven
+mod PartsGiven
 mod Plain
 mod Planning
 pub mod PublicLaws

@@ -1,5 +1,5 @@
 -- That what a row holds may stand in an environment.
-use Rattle.std.proofs.Common.{◌≡◌, ℕ, true, ◌&&◌, List, [], ◌∷◌, Option, Some, None, is_some, IsTrue, refl, sym, subst}
+use Rattle.std.proofs.Common.{◌≡◌, ℕ, true, ◌&&◌, List, [], ◌∷◌, Option, Some, is_some, IsTrue, refl, sym, subst}
 use Rattle.std.proofs.lemmas.Bool.{and_parts}
 use Rattle.std.specs.List.{list_all}
 use Rattle.ht_base.specs.declared.value.Value.{Value}
@@ -37,7 +37,3 @@ given_seen persons o m input env given at same none =
 -- what a row holds that fits
 pub row_seen : (m : ModelOf) (persons : ℕ) (row : Row) → IsHeldBy persons m row.input row.output row.taken → IsTrue (has_parts (parts_of m.input m.output) (env_of row))
 row_seen m persons row held = may_see (parts_of m.input m.output) persons row.input row.output held.input held.output
-
-pub nothing_given : (persons : ℕ) (o : Option ModelOf) → IsInput persons o []
-nothing_given persons None = tt
-nothing_given persons (Some m) = record { declared = refl; known = refl; texts_within = refl }

@@ -10,7 +10,7 @@ use Rattle.std.specs.Prelude.{Result, Ok, Err, IfOk, ⊤}
 apart : (m n : ℕ) → (m ≡ n → ⊥) → (m == n) ≡ false
 apart m n d = grind (arith, nat_tests)
 
-below_is : (m n : ℕ) → m < n → nat_lt m n ≡ true
+pub below_is : (m n : ℕ) → m < n → nat_lt m n ≡ true
 below_is m n h = grind (arith, nat_tests)
 
 past_is : (m n : ℕ) → n ≤ m → nat_lt m n ≡ false
@@ -197,6 +197,34 @@ select_past test n q past is = selected test n [] tt each
 pub joined : {E : Type 0} (join : Bool → Bool → Bool) → ((a b c : Bool) → join (a && b) (a && c) ≡ (a && join b c)) → (f g : ℕ → Bool) (n : ℕ) (xs ys : List ℕ) → xs ≡ filter f (range_with_len 0 n) → ys ≡ filter g (range_with_len 0 n) → (r : Result (List ℕ) E) → IfOk r (λ l. (p : ℕ) → has p l ≡ join (has p xs) (has p ys)) → IfOk r Ascends → IfOk r (λ l. l ≡ filter (λ p. join (f p) (g p)) (range_with_len 0 n))
 joined join law f g n xs ys x y (Ok l) set up = selected (λ p. join (f p) (g p)) n l up (λ p. set p ∙ rw (x, y, has_selected f n p, has_selected g n p) (law (nat_lt p n) (f p) (g p)))
 joined join law f g n xs ys x y (Err e) set up = tt
+
+-- ---- of persons of a row, and those whom a command names
+
+-- whoever is in a list of persons is a person
+pub below_has : (n : ℕ) (ps : List ℕ) (p : ℕ) → AllBelow n ps → has p ps ≡ (nat_lt p n && has p ps)
+below_has n [] p below = sym (and_false (nat_lt p n))
+below_has n (q ∷ ps) p below = elim (cases_eq q p) [
+  | inl e ↦ rw (below_is p n (let low = below.0 in omega arith)) refl
+  | inr d ↦ rw (apart q p d) (below_has n ps p below.1)
+]
+
+-- what is answered of those who pass a test, all of them persons, and of those whom a command names
+pub joined_by : {E : Type 0} (join : Bool → Bool → Bool) → ((a b c : Bool) → join (a && b) (a && c) ≡ (a && join b c)) → (g f : ℕ → Bool) (n : ℕ) (ys : List ℕ) → ((p : ℕ) → g p ≡ (nat_lt p n && g p)) → ys ≡ filter f (range_with_len 0 n) → (r : Result (List ℕ) E) → IfOk r (λ l. (p : ℕ) → has p l ≡ join (g p) (has p ys)) → IfOk r Ascends → IfOk r (λ l. l ≡ filter (λ p. join (g p) (f p)) (range_with_len 0 n))
+joined_by join law g f n ys below is (Ok l) set up = selected (λ p. join (g p) (f p)) n l up (λ p.
+    set p
+    ∙ ap (λ (b : Bool). join b (has p ys)) (below p)
+    ∙ ap (λ (zs : List ℕ). join (nat_lt p n && g p) (has p zs)) is
+    ∙ ap (λ (b : Bool). join (nat_lt p n && g p) b) (has_selected f n p)
+    ∙ law (nat_lt p n) (g p) (f p))
+joined_by join law g f n ys below is (Err e) set up = tt
+
+-- those who are left are persons too
+pub rest_below : (a b c : Bool) → b ≡ (a && b) → (b && not c) ≡ (a && (b && not c))
+rest_below true b c e = refl
+rest_below false true c e = cc
+rest_below false false c e = refl
+
+-- ---- answers
 
 -- what is answered says more
 pub if_ok : {A E : Type 0} (P Q : A → Type 0) (r : Result A E) → ((x : A) → P x → Q x) → IfOk r P → IfOk r Q

@@ -1,30 +1,36 @@
-use Rattle.std.proofs.Common.{ap, sym, ◌∙◌}
+use Rattle.std.proofs.Common.{◌≡◌, List, Some, ap, sym, ◌∙◌}
+use Rattle.std.specs.Prelude.{slice_get}
+use Rattle.ht_models.specs.Model.{ModelOf}
+use Rattle.ht_models.specs.Shown as shown
 use Rattle.ht_owner.specs.Effects.{effect}
 use Rattle.ht_owner.proofs.Acted.{may_of, made}
 use Rattle.ht_owner.proofs.acting.act.Goals as goal
 use Rattle.ht_tree.specs.declared.row.Row.{Row}
 use Rattle.ht_tree.specs.Plans.{planned}
+use Rattle.ht_tree.specs.Tables.{directory, model_of}
 
 pub put-requires-clause-next : goal.put-requires-clause-next
 put-requires-clause-next c =
     let u = planned c.args.tables.now.tables c.args.plan.now in
-    let is = ap (λ (r : Row). effect c.args.caller c.args.command.now r) (sym c.in_ok-copy.ensures) ∙ c.in_ok-row.ensures in
+    let m : ModelOf = shown.model_of c.model-model.result.now in
+    let is = ap (λ (r : Row). effect (directory u) m c.args.caller c.args.command.now r) (sym c.in_ok-before.ensures) ∙ c.in_ok-after.ensures in
     let at = sym c.in-Some.ensures.value in
-    let m = made u c.args.caller c.args.id.0 c.args.command.now c.in-Some.row.now c.in_ok-row.row c.in_ok-row.follow c.requires.sound at c.requires.caller (may_of u c.args.id.0 c.args.caller c.args.command.now c.in-Some.row.now at c.requires.allowed) is in
-    m.next
+    (made u m c.args.caller c.args.id.0 c.args.command.now c.in-Some.row.now c.in_ok-after.after c.in_ok-after.follow c.requires.sound at c.requires.caller c.requires.command (may_of u c.args.id.0 c.args.caller c.args.command.now c.in-Some.row.now at c.requires.allowed) is).0.next
 
 pub put-requires-clause-fits : goal.put-requires-clause-fits
 put-requires-clause-fits c =
     let u = planned c.args.tables.now.tables c.args.plan.now in
-    let is = ap (λ (r : Row). effect c.args.caller c.args.command.now r) (sym c.in_ok-copy.ensures) ∙ c.in_ok-row.ensures in
+    let m : ModelOf = shown.model_of c.model-model.result.now in
+    let is = ap (λ (r : Row). effect (directory u) m c.args.caller c.args.command.now r) (sym c.in_ok-before.ensures) ∙ c.in_ok-after.ensures in
     let at = sym c.in-Some.ensures.value in
-    let m = made u c.args.caller c.args.id.0 c.args.command.now c.in-Some.row.now c.in_ok-row.row c.in_ok-row.follow c.requires.sound at c.requires.caller (may_of u c.args.id.0 c.args.caller c.args.command.now c.in-Some.row.now at c.requires.allowed) is in
-    m.fits
+    (made u m c.args.caller c.args.id.0 c.args.command.now c.in-Some.row.now c.in_ok-after.after c.in_ok-after.follow c.requires.sound at c.requires.caller c.requires.command (may_of u c.args.id.0 c.args.caller c.args.command.now c.in-Some.row.now at c.requires.allowed) is).1
 
 pub returns : goal.returns
 returns c =
     let u = planned c.args.tables.now.tables c.args.plan.now in
-    let is = ap (λ (r : Row). effect c.args.caller c.args.command.now r) (sym c.in_ok-copy.ensures) ∙ c.in_ok-row.ensures in
+    let m : ModelOf = shown.model_of c.model-model.result.now in
+    let is = ap (λ (r : Row). effect (directory u) m c.args.caller c.args.command.now r) (sym c.in_ok-before.ensures) ∙ c.in_ok-after.ensures in
     let at = sym c.in-Some.ensures.value in
-    let m = made u c.args.caller c.args.id.0 c.args.command.now c.in-Some.row.now c.in_ok-row.row c.in_ok-row.follow c.requires.sound at c.requires.caller (may_of u c.args.id.0 c.args.caller c.args.command.now c.in-Some.row.now at c.requires.allowed) is in
-    record { before = c.in-Some.row.now; after = c.in_ok-row.row; there = at; effect_is = is; goes = c.in_ok-put.ensures.goes; sound = m.keeps; found = m.found }
+    let of_model : model_of u c.in-Some.row.now ≡ Some m = ap (λ (ms : List ModelOf). slice_get ms c.in-Some.row.now.model) (sym c.models.ensures.value) ∙ c.model-model.ensures.value in
+    let done = made u m c.args.caller c.args.id.0 c.args.command.now c.in-Some.row.now c.in_ok-after.after c.in_ok-after.follow c.requires.sound at c.requires.caller c.requires.command (may_of u c.args.id.0 c.args.caller c.args.command.now c.in-Some.row.now at c.requires.allowed) is in
+    record { before = c.in-Some.row.now; model = m; after = c.in_ok-after.after; there = at; of_model = of_model; effect_is = is; goes = c.in_ok-put.ensures.goes; sound = done.0.keeps; found = done.0.found }

@@ -1,0 +1,160 @@
+use crate::operation_tests::{answer, tables_of};
+use ht_base::{Answer, Refusal, Role, Roles, State, StateSet};
+use ht_tree::Tables;
+use std::alloc::Global;
+use std::test::Fail;
+
+// An office in which each person has one role: the initiator, a stakeholder, a potential owner, the
+// actual owner, an administrator, the operator.
+const PEOPLE: &str = "\
+[[person]]
+name = \"initiator\"
+[[person]]
+name = \"stakeholder\"
+[[person]]
+name = \"potentialOwner\"
+[[person]]
+name = \"actualOwner\"
+[[person]]
+name = \"administrator\"
+[[person]]
+name = \"operator\"
+operator = true
+[[person]]
+name = \"other\"
+";
+
+const MODELS: &str = "\
+[[model]]
+name = \"m\"
+administrators = \"user('administrator')\"
+stakeholders = \"user('stakeholder')\"
+";
+
+// In each line a state stands before the commands that lead to it.
+const STATES: [(State, &str); 4] = [
+    (
+        State::Created,
+        "initiator create;administrator potentialOwners potentialOwner other",
+    ),
+    (
+        State::Ready,
+        "initiator create;administrator nominate potentialOwner other",
+    ),
+    (
+        State::Reserved,
+        "initiator create;administrator nominate actualOwner;administrator potentialOwners potentialOwner",
+    ),
+    (
+        State::InProgress,
+        "initiator create;administrator nominate actualOwner;actualOwner start;administrator potentialOwners potentialOwner",
+    ),
+];
+
+// In each line an operation, with what is given to it, stands before who may do it in which states.
+const ALLOWED: &str = "\
+claim: potentialOwner=Ready
+start: potentialOwner=Ready actualOwner=Reserved
+stop: actualOwner=InProgress stakeholder=InProgress administrator=InProgress
+release: actualOwner=Reserved,InProgress stakeholder=Reserved,InProgress administrator=Reserved,InProgress
+delegate other: potentialOwner=Ready actualOwner=Reserved,InProgress stakeholder=Ready,Reserved,InProgress administrator=Ready,Reserved,InProgress
+forward other: potentialOwner=Ready actualOwner=Reserved,InProgress stakeholder=Ready,Reserved,InProgress administrator=Ready,Reserved,InProgress
+nominate other: stakeholder=Created administrator=Created
+activate: stakeholder=Created administrator=Created
+potentialOwners other: stakeholder=* administrator=*
+setPriority 3: actualOwner=Reserved,InProgress,SuspendedReserved,SuspendedInProgress stakeholder=* administrator=*";
+
+// The live states, for which `*` stands.
+const LIVE: &str =
+    "Created,Ready,Reserved,InProgress,SuspendedReady,SuspendedReserved,SuspendedInProgress";
+
+fn role_named(name: &str) -> Option<Role> {
+    for role in Role::ALL {
+        if role.name() == name {
+            return Some(role);
+        }
+    }
+    None
+}
+
+fn state_named(name: &str) -> Option<State> {
+    for state in State::ALL {
+        if state.name() == name {
+            return Some(state);
+        }
+    }
+    None
+}
+
+fn states_of(names: &str) -> Result<StateSet, Fail> {
+    let mut states = StateSet::NONE;
+    let names = if names == "*" { LIVE } else { names };
+    for name in names.split(',') {
+        states = states.with(state_named(name).ok_or("a state")?);
+    }
+    Ok(states)
+}
+
+// Why a person with this role alone is refused in this state, by who may do it in which states.
+fn refusal_of(allowed: &str, role: Role, state: State) -> Result<Option<Refusal>, Fail> {
+    let mut needs = Roles::NONE;
+    let mut states = StateSet::NONE;
+    for word in allowed.split(' ') {
+        let (name, names) = word.split_once("=").ok_or("a role and states")?;
+        let named = role_named(name).ok_or("a role")?;
+        needs = needs.with(named);
+        if named == role {
+            states = states_of(names)?;
+        }
+    }
+    // A created or a ready task has no actual owner.
+    let is_owned = state == State::Reserved || state == State::InProgress;
+    if !needs.contains(role) || (role == Role::ActualOwner && !is_owned) {
+        return Ok(Some(Refusal::Role { needs }));
+    }
+    if states.contains(state) {
+        return Ok(None);
+    }
+    Ok(Some(Refusal::State {
+        allowed: states,
+        state,
+    }))
+}
+
+// Tables with a task to which these commands lead.
+fn led_to(alloc: Global, commands: &str) -> Result<Tables, Fail> {
+    let mut tables = tables_of(alloc, MODELS, PEOPLE)?;
+    for command in commands.split(';') {
+        let (who, what) = command.split_once(" ").ok_or("a person and a command")?;
+        answer(alloc, &mut tables, who, what)?;
+    }
+    Ok(tables)
+}
+
+// Why the gate refuses a command, if it does.
+fn refused(answer: &Answer) -> Option<Refusal> {
+    match answer {
+        Answer::Refused(Refusal::Role { needs }) => Some(Refusal::Role { needs: *needs }),
+        Answer::Refused(Refusal::State { allowed, state }) => Some(Refusal::State {
+            allowed: *allowed,
+            state: *state,
+        }),
+        _ => None,
+    }
+}
+
+#[test]
+fn each_role_may_what_the_table_says(rt: HostRuntime) -> Result<(), Fail> {
+    for (state, commands) in STATES {
+        for line in ALLOWED.lines() {
+            let (what, allowed) = line.split_once(": ").ok_or("an operation and roles")?;
+            for role in Role::ALL {
+                let mut tables = led_to(rt.alloc(), commands)?;
+                let found = answer(rt.alloc(), &mut tables, role.name(), what)?;
+                let want = refusal_of(allowed, role, state)?;
+                assert_eq!(rt; refused(&found), want, "{line}");
+            }
+        }
+    }
+    Ok(())
+}

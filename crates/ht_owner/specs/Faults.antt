@@ -1,0 +1,96 @@
+-- Why a command isn't done that its caller may do (WS-HumanTask 1.1, 7.1.1): the faults of each
+-- operation, of which the first is told.
+use Rattle.std.specs.Prelude.{ℕ, ◌==◌, Bool, true, false, not, ◌&&◌, List, [], ◌∷◌, find, is_none, length, Option, Some, None, option_map, if◌then◌else◌}
+use Rattle.std.specs.Option.{option_map_or}
+use Rattle.ht_base.specs.declared.event.Command.{Command}
+use Rattle.ht_base.specs.declared.event.Command.TheVariants as command
+use Rattle.ht_base.specs.declared.reply.Refusal.{Refusal}
+use Rattle.ht_base.specs.declared.reply.Refusal.TheVariants as refusal
+use Rattle.ht_base.specs.declared.reply.Unknown.TheVariants as unknown
+use Rattle.ht_base.specs.declared.role_list.RoleList.{RoleList}
+use Rattle.ht_base.specs.declared.role_list.RoleList.TheVariants as list
+use Rattle.ht_base.specs.Persons.{has}
+use Rattle.ht_models.specs.declared.choices.Delegation.{Delegation}
+use Rattle.ht_models.specs.declared.choices.Delegation.TheVariants as delegation
+use Rattle.ht_models.specs.Model.{ModelOf}
+use Rattle.ht_owner.specs.Naming.{is_this}
+use Rattle.ht_people.specs.Directory as people
+use Rattle.ht_people.specs.Directory.{DirectoryOf}
+use Rattle.ht_tree.specs.declared.row.Row.{Row}
+use Rattle.ht_tree.specs.Assigning.{resolved}
+use Rattle.ht_tree.specs.Creating.{seen}
+
+-- ---- each fault
+
+abbrev pub told : Bool → Refusal → Option Refusal
+told b why = if b then Some why else None
+
+-- the task has no owner, by its model
+abbrev pub ownerless : ModelOf → Option Refusal
+ownerless m = told (not m.owner_required) refusal.Ownerless
+
+-- nobody could own it
+abbrev pub no_owners : ModelOf → Row → Option Refusal
+no_owners m row = told (m.owner_required && (length row.potential_owners == 0)) refusal.NoOwners
+
+abbrev pub by_group : Row → Option Refusal
+by_group row = told row.by_group refusal.ByGroup
+
+-- the first of the names that is no person's
+abbrev pub unknown_person : DirectoryOf → List (List ℕ) → Option Refusal
+unknown_person d names = option_map (λ name. refusal.Unknown (unknown.Person name)) (find (λ name. is_none (people.find name d)) names)
+
+-- the person of this name is one of these
+abbrev pub is_among : DirectoryOf → List ℕ → List ℕ → Bool
+is_among d persons name = option_map_or (λ p. has p persons) (people.find name d) false
+
+-- the first of the names whose person is one of these
+abbrev pub excluded : DirectoryOf → List ℕ → List (List ℕ) → Option Refusal
+excluded d persons names = option_map refusal.Excluded (find (is_among d persons) names)
+
+-- the person of this name is the actual owner
+abbrev pub is_owner : DirectoryOf → Option ℕ → List ℕ → Bool
+is_owner d owner name = option_map_or (λ p. is_this p owner) (people.find name d) false
+
+-- the first of the names that is the actual owner's
+abbrev pub owned : DirectoryOf → Option ℕ → List (List ℕ) → Option Refusal
+owned d owner names = option_map refusal.Excluded (find (is_owner d owner) names)
+
+-- the task may be delegated to this person, by its model
+abbrev pub may_delegate : DirectoryOf → ModelOf → Row → ℕ → Delegation → Bool
+may_delegate d m row person delegation.Anybody = true
+may_delegate d m row person delegation.Nobody = false
+may_delegate d m row person delegation.PotentialOwners = has person row.potential_owners
+may_delegate d m row person delegation.Other = option_map_or (λ a. has person (resolved d (seen m row) a)) m.delegatees false
+
+abbrev pub not_delegatee : DirectoryOf → ModelOf → Row → List ℕ → Option Refusal
+not_delegatee d m row name = option_map_or (λ p. told (not (may_delegate d m row p m.delegation)) (refusal.NotDelegatee name)) (people.find name d) None
+
+-- ---- of each operation, in their order
+
+abbrev pub role_faults : DirectoryOf → ModelOf → Row → List (List ℕ) → RoleList → List (Option Refusal)
+role_faults d m row names list.PotentialOwners = ownerless m ∷ unknown_person d names ∷ excluded d row.excluded_owners names ∷ []
+role_faults d m row names list.ExcludedOwners = unknown_person d names ∷ owned d row.owner names ∷ []
+role_faults d m row names list.Administrators = unknown_person d names ∷ []
+role_faults d m row names list.Stakeholders = unknown_person d names ∷ []
+
+abbrev pub faults : DirectoryOf → ModelOf → Row → Command → List (Option Refusal)
+faults d m row (command.Create model input) = []
+faults d m row command.Claim = []
+faults d m row command.Start = []
+faults d m row command.Stop = ownerless m ∷ []
+faults d m row command.Release = ownerless m ∷ []
+faults d m row (command.Delegate name) = ownerless m ∷ unknown_person d (name ∷ []) ∷ excluded d row.excluded_owners (name ∷ []) ∷ not_delegatee d m row name ∷ []
+faults d m row (command.Forward names) = ownerless m ∷ by_group row ∷ unknown_person d names ∷ excluded d row.excluded_owners names ∷ []
+faults d m row (command.Nominate names) = ownerless m ∷ unknown_person d names ∷ excluded d row.excluded_owners names ∷ []
+faults d m row command.Activate = no_owners m row ∷ []
+faults d m row (command.SetRole role names) = role_faults d m row names role
+faults d m row (command.SetPriority priority) = []
+
+abbrev pub first_fault : List (Option Refusal) → Option Refusal
+first_fault [] = None
+first_fault (None ∷ fs) = first_fault fs
+first_fault (Some why ∷ fs) = Some why
+
+abbrev pub fault : DirectoryOf → ModelOf → Row → Command → Option Refusal
+fault d m row c = first_fault (faults d m row c)
