@@ -9,12 +9,11 @@ use Rattle.ht_tree.specs.Tables.{TablesOf}
 use Rattle.ht_wire.specs.declared.reading.Next.{Next}
 use Rattle.ht_wire.specs.declared.reading.Next.TheVariants as next
 use Rattle.ht_wire.specs.declared.request.Request.{Request}
-use Rattle.ht_wire.specs.Heads.{HasNoHead}
 use Rattle.ht_wire.specs.Reading.{Reads, EndsAt, Finds, LastReadWhere, RefusedAt}
 use Rattle.ht_wire.specs.Replies.{IsReplyStatus, reply_bytes}
 use Rattle.ht_outside.proofs.PublicLaws.{Takes-none}
-use Rattle.ht_wire.proofs.PublicLaws.{request_on, request_or_end}
-use Rattle.ht_wire.specs.Requests.{IsReason, IsRefusalCode, IsRequest}
+use Rattle.ht_wire.proofs.PublicLaws.{reason_code, request_on, request_or_end, request_or_unfinished}
+use Rattle.ht_wire.specs.Requests.{IsRefusalCode, IsRequest, IsUnfinished}
 use Rattle.ht_program.specs.declared.ending.Ending.{Ending}
 use Rattle.ht_program.specs.declared.ending.Ending.TheVariants as ending
 use Rattle.ht_program.specs.declared.routing.ApiRefusal.{ApiRefusal}
@@ -49,11 +48,10 @@ answers_refusal t r m status text why event status_is text_is = record {
   text_is = text_is;
 }
 
--- where no head stands, no request does
-no_request : (r : Request) (bytes : List ℕ) → HasNoHead bytes → AreNotWhole (r ∷ []) bytes
-no_request r bytes none rest are = none are.1.head are.0 are.1.stands
+no_request : (r : Request) (bytes : List ℕ) → IsUnfinished bytes → AreNotWhole (r ∷ []) bytes
+no_request r bytes none rest are = request_or_unfinished bytes r are.0 are.1 none
 
-needed_for : (r : Request) (f g : Option Flow) (old : List ℕ) → LastReadWhere HasNoHead f g old → LastReadWhere (AreNotWhole (r ∷ [])) f g old
+needed_for : (r : Request) (f g : Option Flow) (old : List ℕ) → LastReadWhere IsUnfinished f g old → LastReadWhere (AreNotWhole (r ∷ [])) f g old
 needed_for r None None old needed = tt
 needed_for r None (Some g) old needed = absurd needed
 needed_for r (Some f) None old needed = absurd needed
@@ -150,7 +148,7 @@ module _ (moment : ℕ → ℕ) (most k : ℕ) (t : TablesOf) (input later : Sou
 
   pub none_fault : Reads input.flow later.flow p q next.ReadFault → EndsFrom moment most k t (streams input output) (streams later output) p ending.ReadFault
   none_fault reads =
-      ends_none moment most k t input later output output p q ending.ReadFault reads.taken reads.takes reads.finds.0 (tt, omega (arith, few), subst HasNoHead (sym reads.finds.0) reads.finds.1, Grows-none output.written)
+      ends_none moment most k t input later output output p q ending.ReadFault reads.taken reads.takes reads.finds.0 (tt, omega (arith, few), subst IsUnfinished (sym reads.finds.0) reads.finds.1, Grows-none output.written)
 
   pub none_memory : Reads input.flow later.flow p q next.Memory → EndsFrom moment most k t (streams input output) (streams later output) p ending.Memory
   none_memory reads = ends_none moment most k t input later output output p q ending.Memory reads.taken reads.takes reads.finds (tt, omega (arith, few), Grows-none output.written)
@@ -207,13 +205,9 @@ follows f g p q n e reads is = record { taken = reads.taken; takes = reads.takes
 refusal_known : (code : ℕ) → IsRefusalCode code → IsReplyStatus code
 refusal_known code (inl e) = rw e refl
 refusal_known code (inr (inl e)) = rw e refl
-refusal_known code (inr (inr e)) = rw e refl
-
-reason_known : (bytes : List ℕ) (code : ℕ) → IsReason bytes code → IsReplyStatus code
-reason_known bytes code (inl why) = rw why.0 refl
-reason_known bytes code (inr (inl why)) = rw why.0 refl
-reason_known bytes code (inr (inr why)) = rw why.0 refl
+refusal_known code (inr (inr (inl e))) = rw e refl
+refusal_known code (inr (inr (inr e))) = rw e refl
 
 pub refused_known : (g : Option Flow) (bytes : List ℕ) (code : ℕ) → RefusedAt g bytes code → IsReplyStatus code
 refused_known None bytes code is = refusal_known code is
-refused_known (Some flow) bytes code is = reason_known (bytes ++ flow.left) code is.why
+refused_known (Some flow) bytes code is = refusal_known code (reason_code (bytes ++ flow.left) code is.why)

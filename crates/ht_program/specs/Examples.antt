@@ -74,8 +74,11 @@ no_head = refl
 too_long : refused_text 431 ≡ codes "{\"fault\":\"Fields\"}"
 too_long = refl
 
-a_body : refused_text 501 ≡ codes "{\"fault\":\"Coding\"}"
-a_body = refl
+too_long_a_body : refused_text 413 ≡ codes "{\"fault\":\"Body\"}"
+too_long_a_body = refl
+
+a_coded_body : refused_text 501 ≡ codes "{\"fault\":\"Coding\"}"
+a_coded_body = refl
 
 -- ---- words
 

@@ -5,10 +5,10 @@ use Rattle.ht_outside.specs.Causes.{Rose}
 use Rattle.ht_outside.specs.Tells.{Flow, SourceState, SinkState, Takes, Grows, GrowsPart}
 use Rattle.ht_machine.specs.History.{IsHistory}
 use Rattle.ht_tree.specs.Tables.{TablesOf}
-use Rattle.ht_wire.specs.Heads.{HasNoHead, IsEnd}
+use Rattle.ht_wire.specs.Heads.{IsEnd}
 use Rattle.ht_wire.specs.Reading.{EndsAt, LastReadWhere, RefusedAt}
 use Rattle.ht_wire.specs.Replies.{reply_bytes}
-use Rattle.ht_wire.specs.Requests.{AreRequests}
+use Rattle.ht_wire.specs.Requests.{AreRequests, IsUnfinished}
 use Rattle.ht_wire.specs.declared.request.Request.{Request}
 use Rattle.ht_program.specs.declared.ending.Ending.{Ending}
 use Rattle.ht_program.specs.declared.ending.Ending.TheVariants.{Done, Wire, Budget, ReadFault, WriteFault, Memory}
@@ -61,7 +61,7 @@ EndsAs most n (Wire code) old new rest xs =
 EndsAs most n Budget old new rest xs =
     GoOn (requests xs) × (n ≡ most) × IsMoreAt new.input.flow rest × Grows old.output.written new.output.written (replies xs)
 EndsAs most n ReadFault old new rest xs =
-    GoOn (requests xs) × (n ≤ most) × HasNoHead rest × Grows old.output.written new.output.written (replies xs)
+    GoOn (requests xs) × (n ≤ most) × IsUnfinished rest × Grows old.output.written new.output.written (replies xs)
 EndsAs most n WriteFault old new rest xs =
     (n ≤ most)
     × ((tail : List ℕ) × IsTail most n new.input.flow rest xs tail × GrowsPart old.output.written new.output.written (replies xs ++ tail))

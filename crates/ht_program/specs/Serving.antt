@@ -3,8 +3,8 @@ use Rattle.std.specs.Prelude.{◌≡◌, ℕ, ◌+◌, ◌≤◌, List, ◌++◌
 use Rattle.ht_outside.specs.Causes.{Rose}
 use Rattle.ht_outside.specs.Tells.{Flow, Takes, Grows}
 use Rattle.ht_tree.specs.Tables.{TablesOf}
-use Rattle.ht_wire.specs.Heads.{HasNoHead}
 use Rattle.ht_wire.specs.Reading.{EndsAt, LastReadWhere}
+use Rattle.ht_wire.specs.Requests.{IsUnfinished}
 use Rattle.ht_program.specs.declared.ending.Ending.{Ending}
 use Rattle.ht_program.specs.declared.ending.Ending.TheVariants.{Done, Wire, Budget, ReadFault, WriteFault, Memory}
 use Rattle.ht_program.specs.Exchanges.{Exchange, replies, requests}
@@ -45,7 +45,7 @@ abbrev pub FollowsAs : Ending → Option Flow → List ℕ → Type 0
 FollowsAs Done g rest = EndsAt g rest
 FollowsAs (Wire code) g rest = ⊥
 FollowsAs Budget g rest = IsMoreAt g rest
-FollowsAs ReadFault g rest = HasNoHead rest
+FollowsAs ReadFault g rest = IsUnfinished rest
 FollowsAs WriteFault g rest = ⊥
 FollowsAs Memory g rest = Unit {0}
 

@@ -206,5 +206,6 @@ api_text Person = refusal_text refusal.Person
 abbrev pub refused_text : ℕ → List ℕ
 refused_text code =
     if code == 431 then refusal_text refusal.Fields
+    else if code == 413 then refusal_text refusal.Body
     else if code == 501 then refusal_text refusal.Coding
     else refusal_text refusal.Head

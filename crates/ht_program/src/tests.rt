@@ -239,6 +239,7 @@ fn an_input_that_is_no_request_is_refused(rt: HostRuntime) -> Result<(), Fail> {
         "Fields",
         "wire: 431\n",
     );
+    let body = ("413 Payload Too Large", "Body", "wire: 413\n");
     let coding = ("501 Not Implemented", "Coding", "wire: 501\n");
     let begin = "POST /tasks HTTP/1.1\r\n";
     let many = "a: b\r\n".repeat(rt.alloc(), 65)?;
@@ -250,7 +251,8 @@ fn an_input_that_is_no_request_is_refused(rt: HostRuntime) -> Result<(), Fail> {
         ("POST", head),
         ("POST /tasks HTTP/1.1\r\nx-person: p0\r\n\r", head),
         ("?? /tasks\r\n\r\n", head),
-        ("POST /tasks HTTP/1.1\r\nContent-Length: 0\r\n\r\n", coding),
+        ("POST /tasks HTTP/1.1\r\nContent-Length: 3\r\n\r\n{}", head),
+        ("POST / HTTP/1.1\r\nContent-Length: 1048577\r\n\r\n", body),
         (
             "POST /tasks HTTP/1.1\r\nTransfer-Encoding: chunked\r\n\r\n",
             coding,
@@ -266,6 +268,23 @@ fn an_input_that_is_no_request_is_refused(rt: HostRuntime) -> Result<(), Fail> {
         assert_eq!(rt; ran.output.written(), want.as_bytes(), "{input:?}");
         assert_eq!(rt; ran.complaints.written(), complaint.as_bytes());
     }
+    Ok(())
+}
+
+#[test]
+fn a_body_is_read_over(rt: HostRuntime) -> Result<(), Fail> {
+    let request = "POST /tasks HTTP/1.1\r\nHost: localhost:8080\r\nUser-Agent: curl/8.5.0\r\n\
+        Accept: */*\r\nx-person: p3\r\nContent-Type: application/json\r\nContent-Length: 16\r\n\r\n\
+        {\"model\":\"unit\"}";
+    let input = format!(in rt.alloc(); "{request}{CLAIM}")?;
+    let ran = run(rt.alloc(), input.as_str())?;
+    assert_eq!(rt; ran.status, Status(0));
+    let created = "{\"owner\":null,\"state\":\"Ready\",\"task\":1}";
+    let created = reply(rt.alloc(), "201 Created", created, false)?;
+    let claimed = "{\"owner\":\"p0\",\"state\":\"Reserved\",\"task\":1}";
+    let claimed = reply(rt.alloc(), "200 OK", claimed, false)?;
+    let want = format!(in rt.alloc(); "{created}{claimed}")?;
+    assert_eq!(rt; ran.output.written(), want.as_bytes());
     Ok(())
 }
 

@@ -24,6 +24,8 @@ const HEAD_TEXT: &[u8] = b"{\"fault\":\"Head\"}";
 
 const FIELDS_TEXT: &[u8] = b"{\"fault\":\"Fields\"}";
 
+const BODY_TEXT: &[u8] = b"{\"fault\":\"Body\"}";
+
 const CODING_TEXT: &[u8] = b"{\"fault\":\"Coding\"}";
 
 const ROUTE_TEXT: &[u8] = b"{\"fault\":\"Route\"}";
@@ -138,7 +140,7 @@ fn write_refusal(refusal: &Refusal, into: &mut Bytes)
         Refusal::Head => put(HEAD_TEXT, into),
         Refusal::Fields => put(FIELDS_TEXT, into),
         Refusal::Coding => put(CODING_TEXT, into),
-        Refusal::Body => put(b"{\"fault\":\"Body\"}", into),
+        Refusal::Body => put(BODY_TEXT, into),
         Refusal::Route => put(ROUTE_TEXT, into),
         Refusal::Method => put(b"{\"fault\":\"Method\"}", into),
         Refusal::Json => put(b"{\"fault\":\"Json\"}", into),
@@ -231,6 +233,7 @@ pub(crate) fn refused_text(code: u16) -> &'static [u8]
 {
     match code {
         431 => FIELDS_TEXT,
+        413 => BODY_TEXT,
         501 => CODING_TEXT,
         _ => HEAD_TEXT,
     }

@@ -1,10 +1,9 @@
 -- How the bytes of a buffer change by a read, and by giving some out.
-use Rattle.std.proofs.Common.{◌≡◌, ℕ, ◌+◌, ◌-◌, ◌<◌, ◌≤◌, List, [], ◌++◌, length, take, drop, slice_range, append-nil, sym, ap, ◌∙◌, arith, Result, Ok, Err, Option}
+use Rattle.std.proofs.Common.{◌≡◌, ℕ, ◌+◌, ◌-◌, ◌<◌, ◌≤◌, List, ◌++◌, length, take, drop, slice_range, sym, ap, ◌∙◌, arith, Option}
 use Rattle.std.proofs.lemmas.List.{take-append-drop, drop-drop, drop-take, drop-append-le, length-take, length-take-le, length-drop}
 use Rattle.std.proofs.Math.Seq.{take-append-add, take-append_seam, take-length}
-use Rattle.std.specs.Result.{IsErr}
 use Rattle.ht_outside.specs.Tells.{Flow, Takes, IsAtEnd}
-use Rattle.ht_wire.specs.Buffer.{Gains, Fills}
+use Rattle.ht_wire.specs.Buffer.{Gains}
 
 -- the first n bytes are given out
 pub range_later : (bytes : List ℕ) (start end n : ℕ) (old : List ℕ) → slice_range bytes start end ≡ old → n ≤ length old → slice_range bytes (start + n) end ≡ drop n old
@@ -28,26 +27,19 @@ range_gains before after start end n old is order within size same =
     let mine : drop start (take end before) ≡ old = ap (λ m. drop start (take m before)) (let e : end ≡ start + (end - start) = omega arith in e) ∙ drop-take start (end - start) before ∙ is in
     ap (λ l. slice_range l start (end + n)) whole ∙ range_behind (take end before) (drop end after) start end n order front ∙ ap (λ l. l ++ take n (drop end after)) mine
 
-pub fills_gain : (f g : Option Flow) (before after : List ℕ) (start end n : ℕ) (old : List ℕ) → slice_range before start end ≡ old → start ≤ end → end ≤ length before → length before ≡ 16384 → length old < 16384 → (end ≡ length before → start ≡ 0)
+pub fills_gain : (f g : Option Flow) (before after : List ℕ) (start end n : ℕ) (old : List ℕ) → slice_range before start end ≡ old → start ≤ end → end < length before
     → length after ≡ length before → take end after ≡ take end before
     → (n ≤ length (drop end after)) × Takes f g (take n (drop end after)) × (n ≡ 0 → 0 < length (drop end after) → IsAtEnd g)
     → Gains f g old (slice_range after start (end + n)) n
-fills_gain f g before after start end n old is order within size short whole kept same read =
-    let len : length old ≡ end - start = rw (← is, length-take, length-drop) (omega arith) in
-    let some : 0 < length (drop end after) = rw length-drop (grind (arith, whole)) in
+fills_gain f g before after start end n old is order room kept same read =
+    let some : 0 < length (drop end after) = rw length-drop (omega (arith, kept, room)) in
     record {
       taken = take n (drop end after);
       takes = read.1;
       counted = length-take-le n (drop end after) read.0;
-      behind = range_gains before after start end n old is order within kept same;
+      behind = range_gains before after start end n old is order (omega (arith, room)) kept same;
       ended = λ none. read.2 none some;
     }
-
-pub fills_none : {E : Type 0} (f g : Option Flow) (before after : List ℕ) (start end : ℕ) (old : List ℕ) (result : Result ℕ E) → slice_range before start end ≡ old → start ≤ end → end ≤ length before → length after ≡ length before → take end after ≡ take end before
-    → IsErr result → Takes f g [] → Fills f g old (slice_range after start end) result
-fills_none f g before after start end old (Ok n) is order within kept same err takes = absurd (cc)
-fills_none f g before after start end old (Err e) is order within kept same err takes =
-    record { takes = takes; same = ap (λ m. slice_range after start m) (let e : end ≡ end + 0 = omega arith in e) ∙ range_gains before after start end 0 old is order within kept same ∙ append-nil old }
 
 pub moved : (bytes : List ℕ) (start end : ℕ) → start ≤ end → end ≡ length bytes → slice_range (drop start bytes ++ take start bytes) 0 (end - start) ≡ slice_range bytes start end
 moved bytes start end order whole =

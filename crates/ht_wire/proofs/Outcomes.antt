@@ -50,7 +50,11 @@ more_on buf more not_end end =
 pub request_on : (s more : List ℕ) (r : Request) (rest : List ℕ) → IsRequest s r rest → IsRequest (s ++ more) r (rest ++ more)
 request_on s more r rest is = record {
   head = is.head;
-  stands = record { reads = reads_on s more is.head rest is.stands.reads; short = is.stands.short; few = is.stands.few };
-  bodiless = is.bodiless;
+  stands = record {
+    reads = subst (λ (l : List ℕ). ReadsRequest (s ++ more) is.head l) (append_assoc r.body.items rest more) (reads_on s more is.head (r.body.items ++ rest) is.stands.reads);
+    short = is.stands.short;
+    few = is.stands.few;
+  };
+  sized = is.sized;
   carries = is.carries;
 }

@@ -1,4 +1,5 @@
 -- Laws of the definitions, for the proofs of crates above: a request stands in a stream that goes
--- on, and one stream has one front.
+-- on, one stream has one front, and the codes of its refusals are four.
+pub use Rattle.ht_wire.proofs.Lengths.{reason_code}
 pub use Rattle.ht_wire.proofs.Outcomes.{request_on}
-pub use Rattle.ht_wire.proofs.Uniqueness.{one_request, request_or_end, request_or_refused}
+pub use Rattle.ht_wire.proofs.Uniqueness.{one_request, request_or_end, request_or_refused, request_or_unfinished}

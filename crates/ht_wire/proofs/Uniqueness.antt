@@ -1,19 +1,20 @@
 -- What stands at the front of a stream is one thing: the end, one request, or a refusal, whose code
 -- is one but in the corners.
-use Rattle.std.proofs.Common.{◌≡◌, ◌⊎◌, inl, inr, ℕ, ◌-◌, ◌<◌, ◌≤◌, false, List, [], ◌∷◌, ◌++◌, length, take, arith, refl, append-nil, append_assoc, ap, sym, subst, ◌∙◌, Option, Some, None}
+use Rattle.std.proofs.Common.{◌≡◌, ◌⊎◌, inl, inr, ℕ, ◌-◌, ◌<◌, ◌≤◌, List, [], ◌∷◌, ◌++◌, length, take, drop, arith, refl, append-nil, append_assoc, length-append, ap, sym, subst, ◌∙◌, Option, Some, None, Ok, Err}
 use Rattle.std.specs.Prelude.{All}
 use Rattle.std.proofs.lemmas.List.Elements.{All-drop}
-use Rattle.std.proofs.Math.Seq.{drop-append_seam}
+use Rattle.std.proofs.Math.Seq.{drop-append_seam, take-append_seam}
 use Rattle.httparse.specs.Grammar.{RequestHead, print_request, ReadsRequest, NeverHasRequest, MayBecomeRequest}
 use Rattle.httparse.proofs.GrammarLemmas.{request_unique, print_request-append}
 use Rattle.ht_outside.specs.Tells.{Flow, Takes}
 use Rattle.ht_wire.specs.declared.reading.Next.{Next}
 use Rattle.ht_wire.specs.declared.reading.Next.TheVariants as next
 use Rattle.ht_wire.specs.declared.request.Request.{Request}
-use Rattle.ht_wire.specs.Fields.{has_body, is_last, person_of}
-use Rattle.ht_wire.specs.Heads.{IsEnd, IsHead, IsTooLong, IsNoHead, IsCorner, IsLineByte, HasBody, fields_of}
+use Rattle.ht_wire.specs.Bodies.{announced}
+use Rattle.ht_wire.specs.Fields.{is_last, person_of}
+use Rattle.ht_wire.specs.Heads.{IsEnd, IsHead, IsTooLong, IsNoHead, IsCorner, IsLineByte, fields_of}
 use Rattle.ht_wire.specs.Reading.{Finds, IsEither, IsTrueTo, IsExact}
-use Rattle.ht_wire.specs.Requests.{IsRequest, IsRefused, IsReason, IsSame}
+use Rattle.ht_wire.specs.Requests.{IsRequest, IsRefused, IsReason, IsSame, IsBadBody, IsCutShort, IsUnfinished}
 use Rattle.ht_wire.specs.Window.{window, room, front}
 use Rattle.ht_wire.proofs.Outcomes.{front_of, request_on}
 
@@ -59,49 +60,91 @@ long_or_none s (inr full) (inr ended) = absurd (let a = full.0 in let b = ended.
 
 -- ---- requests
 
+-- two cuts of one list behind equally many
+same_parts : (a b c d : List ℕ) → length a ≡ length c → a ++ b ≡ c ++ d → (a ≡ c) × (b ≡ d)
+same_parts a b c d count e = (
+  sym (take-append_seam a b) ∙ ap (λ n. take n (a ++ b)) count ∙ ap (take (length c)) e ∙ take-append_seam c d,
+  sym (drop-append_seam a b) ∙ ap (λ n. drop n (a ++ b)) count ∙ ap (drop (length c)) e ∙ drop-append_seam c d,
+)
+
+-- two requests of one stream have one head, and their bodies are equally long
+same_heads : (s : List ℕ) (q r : Request) (rest more : List ℕ) (a : IsRequest s q rest) (b : IsRequest s r more) → (a.head ≡ b.head) × (q.body.items ≡ r.body.items) × (rest ≡ more)
+same_heads s q r rest more a b =
+    let same = request_unique s a.head b.head (q.body.items ++ rest) (r.body.items ++ more) a.stands.reads b.stands.reads in
+    let mine : announced (fields_of b.head) ≡ Ok (length q.body.items) = ap (λ (h : RequestHead). announced (fields_of h)) (sym same.0) ∙ a.sized in
+    let its = b.sized in
+    let parts = same_parts q.body.items rest r.body.items more (cc) same.1 in
+    (same.0, parts.0, parts.1)
+
 pub one_request : (s : List ℕ) (q r : Request) (rest more : List ℕ) → IsRequest s q rest → IsRequest s r more → IsSame r q × (rest ≡ more)
 one_request s q r rest more a b =
-    let same = request_unique s a.head b.head rest more a.stands.reads b.stands.reads in (
+    let same = same_heads s q r rest more a b in (
       record {
         method = b.carries.method_is ∙ ap (λ (h : RequestHead). h.method) (sym same.0) ∙ sym a.carries.method_is;
         target = b.carries.target_is ∙ ap (λ (h : RequestHead). h.target) (sym same.0) ∙ sym a.carries.target_is;
         person = b.carries.person_is ∙ ap (λ (h : RequestHead). person_of (fields_of h)) (sym same.0) ∙ sym a.carries.person_is;
         last = b.carries.last_is ∙ ap (λ (h : RequestHead). is_last h.minor (fields_of h)) (sym same.0) ∙ sym a.carries.last_is;
-        body = b.carries.body_is ∙ sym a.carries.body_is;
+        body = sym same.1;
       },
-      same.1,
+      same.2,
     )
 
 pub request_or_end : (s : List ℕ) (r : Request) (rest : List ℕ) → IsRequest s r rest → IsEnd s → ⊥
-request_or_end s r rest a end = head_or_end s a.head rest a.stands end
+request_or_end s r rest a end = head_or_end s a.head (r.body.items ++ rest) a.stands end
 
-body_or_request : (s : List ℕ) (r : Request) (rest : List ℕ) → IsRequest s r rest → HasBody s → ⊥
-body_or_request s r rest a b =
-    let same = request_unique s a.head b.0 rest b.1 a.stands.reads b.2.reads in
-    let no : has_body (fields_of b.0) ≡ false = ap (λ (h : RequestHead). has_body (fields_of h)) (sym same.0) ∙ a.bodiless in
-    let yes = b.3 in
-    absurd (cc)
+-- where bytes are missing, no request stands whole
+pub request_or_unfinished : (s : List ℕ) (r : Request) (rest : List ℕ) → IsRequest s r rest → IsUnfinished s → ⊥
+request_or_unfinished s r rest a none =
+    let cut = none a.head (r.body.items ++ rest) a.stands in
+    let n : cut.0 ≡ length r.body.items = (let is = cut.1 in let its = a.sized in cc) in
+    let all = length-append r.body.items rest in
+    let short = cut.2 in
+    omega (arith, n, all, short)
+
+-- why a body is refused, of one head
+abbrev IsWhy : RequestHead → List ℕ → ℕ → Type 0
+IsWhy h behind code = (announced (fields_of h) ≡ Err code) ⊎ ((code ≡ 400) × IsCutShort (fields_of h) behind)
+
+why_not : (h : RequestHead) (body rest : List ℕ) (code : ℕ) → announced (fields_of h) ≡ Ok (length body) → IsWhy h (body ++ rest) code → ⊥
+why_not h body rest code sized (inl e) = absurd (cc)
+why_not h body rest code sized (inr cut) =
+    let n : cut.1.0 ≡ length body = (let is = cut.1.1 in cc) in
+    let all = length-append body rest in
+    let short = cut.1.2 in
+    omega (arith, n, all, short)
+
+one_why : (h : RequestHead) (behind : List ℕ) (c d : ℕ) → IsWhy h behind c → IsWhy h behind d → d ≡ c
+one_why h behind c d (inl a) (inl b) = cc
+one_why h behind c d (inl a) (inr b) = absurd (let is = b.1.1 in cc)
+one_why h behind c d (inr a) (inl b) = absurd (let is = a.1.1 in cc)
+one_why h behind c d (inr a) (inr b) = b.0 ∙ sym a.0
+
+-- the reason of another head of one stream is one of this head
+why_of : (s : List ℕ) (h : RequestHead) (behind : List ℕ) (code : ℕ) → IsHead s h behind → IsBadBody s code → IsWhy h behind code
+why_of s h behind code head bad =
+    let same = request_unique s bad.0 h bad.1 behind bad.2.reads head.reads in
+    subst (λ (k : RequestHead). IsWhy k behind code) same.0 (subst (λ (l : List ℕ). IsWhy bad.0 l code) same.1 bad.3)
 
 pub request_or_refused : (s : List ℕ) (r : Request) (rest : List ℕ) (code : ℕ) → IsRequest s r rest → IsRefused s code → ⊥
 request_or_refused s r rest code a refused = by_reason refused.why
   where
     by_reason : IsReason s code → ⊥
-    by_reason (inl long) = head_or_long s a.head rest a.stands long.1
-    by_reason (inr (inl none)) = head_or_none s a.head rest a.stands none.1
-    by_reason (inr (inr body)) = body_or_request s r rest a body.1
+    by_reason (inl long) = head_or_long s a.head (r.body.items ++ rest) a.stands long.1
+    by_reason (inr (inl none)) = head_or_none s a.head (r.body.items ++ rest) a.stands none.1
+    by_reason (inr (inr bad)) = why_not a.head r.body.items rest code a.sized (why_of s a.head (r.body.items ++ rest) code a.stands bad)
 
 -- ---- refusals
 
 one_reason : (s : List ℕ) (c d : ℕ) → IsReason s c → IsReason s d → (d ≡ c) ⊎ IsEither s c d
 one_reason s c d (inl a) (inl b) = inl (b.0 ∙ sym a.0)
 one_reason s c d (inl a) (inr (inl b)) = inr (long_or_none s a.1 b.1, inl (a.0, b.0))
-one_reason s c d (inl a) (inr (inr b)) = absurd (head_or_long s b.1.0 b.1.1 b.1.2 a.1)
+one_reason s c d (inl a) (inr (inr b)) = absurd (head_or_long s b.0 b.1 b.2 a.1)
 one_reason s c d (inr (inl a)) (inl b) = inr (long_or_none s b.1 a.1, inr (a.0, b.0))
 one_reason s c d (inr (inl a)) (inr (inl b)) = inl (b.0 ∙ sym a.0)
-one_reason s c d (inr (inl a)) (inr (inr b)) = absurd (head_or_none s b.1.0 b.1.1 b.1.2 a.1)
-one_reason s c d (inr (inr a)) (inl b) = absurd (head_or_long s a.1.0 a.1.1 a.1.2 b.1)
-one_reason s c d (inr (inr a)) (inr (inl b)) = absurd (head_or_none s a.1.0 a.1.1 a.1.2 b.1)
-one_reason s c d (inr (inr a)) (inr (inr b)) = inl (b.0 ∙ sym a.0)
+one_reason s c d (inr (inl a)) (inr (inr b)) = absurd (head_or_none s b.0 b.1 b.2 a.1)
+one_reason s c d (inr (inr a)) (inl b) = absurd (head_or_long s a.0 a.1 a.2 b.1)
+one_reason s c d (inr (inr a)) (inr (inl b)) = absurd (head_or_none s a.0 a.1 a.2 b.1)
+one_reason s c d (inr (inr a)) (inr (inr b)) = inl (one_why a.0 a.1 c d a.3 (why_of s a.0 a.1 d a.2 b))
 
 -- ---- answers
 

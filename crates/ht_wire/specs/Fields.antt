@@ -36,10 +36,3 @@ is_close f = str_eq_ignore_ascii_case f.0 (codes "connection") && str_eq_ignore_
 -- no request follows one of HTTP/1.0, or one that asks for the close
 abbrev pub is_last : ℕ → List (List ℕ × List ℕ) → Bool
 is_last minor fields = minor == 0 || list_any is_close fields
-
--- the field says that a body follows
-abbrev pub is_of_body : List ℕ × List ℕ → Bool
-is_of_body f = str_eq_ignore_ascii_case f.0 (codes "content-length") || str_eq_ignore_ascii_case f.0 (codes "transfer-encoding")
-
-abbrev pub has_body : List (List ℕ × List ℕ) → Bool
-has_body fields = list_any is_of_body fields

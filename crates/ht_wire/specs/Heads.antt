@@ -1,9 +1,8 @@
 -- What stands at the front of a stream of bytes: the end, a whole head within the limits, or what
 -- is refused. The grammar of heads is httparse's (RFC 9112, sections 2 to 5).
-use Rattle.std.specs.Prelude.{◌≡◌, ◌⊎◌, ℕ, ◌<◌, ◌≤◌, true, List, length, map, All}
+use Rattle.std.specs.Prelude.{◌≡◌, ◌⊎◌, ℕ, ◌<◌, ◌≤◌, List, length, map, All}
 use Rattle.httparse.specs.Grammar.{RequestHead, print_request, ReadsRequest, HasNoRequest, NeverHasRequest, MayBecomeRequest, EndsInTarget}
 use Rattle.httparse.specs.Spans.{RequestExceeds, RequestOverflows, name_and_value}
-use Rattle.ht_wire.specs.Fields.{has_body}
 use Rattle.ht_wire.specs.Window.{window, room, front}
 
 -- CR or LF
@@ -21,17 +20,9 @@ pub record IsHead (stream : List ℕ) (h : RequestHead) (rest : List ℕ) : Type
   pub short : length (print_request h) ≤ window
   pub few : length h.fields ≤ room
 
--- no whole head stands at the front
-abbrev pub HasNoHead : List ℕ → Type 0
-HasNoHead stream = (h : RequestHead) (rest : List ℕ) → IsHead stream h rest → ⊥
-
 -- the fields of a head by name and value
 abbrev pub fields_of : RequestHead → List (List ℕ × List ℕ)
 fields_of h = map name_and_value h.fields
-
--- a whole head, of a request with a body
-abbrev pub HasBody : List ℕ → Type 0
-HasBody stream = (h : RequestHead) × (rest : List ℕ) × IsHead stream h rest × (has_body (fields_of h) ≡ true)
 
 -- more than 64 fields, or 16,384 bytes that are no whole head but may begin one
 abbrev pub IsTooLong : List ℕ → Type 0

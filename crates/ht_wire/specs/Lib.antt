@@ -1,5 +1,7 @@
+pub mod Bodies
 pub mod Buffer
 pub mod BufferBytes
+pub mod Buffering
 pub mod ExampleRequests
 pub mod Examples
 pub mod Fields

@@ -1,14 +1,13 @@
 -- What one call of `next_request` reads: from the bytes that were buffered and those that it took
--- from the source, to the bytes that are buffered after it. It reads on only while no whole head
--- stands in them.
+-- from the source, to the bytes that are buffered after it. It reads on only while more are needed.
 use Rattle.std.specs.Prelude.{◌≡◌, ◌⊎◌, ℕ, ◌≤◌, List, [], ◌++◌, Option, Some, None, ⊤}
 use Rattle.ht_outside.specs.Causes.{Rose}
 use Rattle.ht_outside.specs.Tells.{Flow, Takes}
 use Rattle.ht_wire.specs.declared.reading.Next.{Next}
 use Rattle.ht_wire.specs.declared.reading.Next.TheVariants.{Request, End, Refused, ReadFault, Memory}
 use Rattle.ht_wire.specs.declared.request.Request.{Request as OneRequest}
-use Rattle.ht_wire.specs.Heads.{HasNoHead, IsEnd, IsCorner}
-use Rattle.ht_wire.specs.Requests.{IsRequest, IsRefused, IsRefusalCode, IsSame}
+use Rattle.ht_wire.specs.Heads.{IsEnd, IsCorner}
+use Rattle.ht_wire.specs.Requests.{IsRequest, IsRefused, IsRefusalCode, IsSame, IsUnfinished}
 
 -- the bytes read are all there are, and they are the end of the requests
 abbrev pub EndsAt : Option Flow → List ℕ → Type 0
@@ -25,7 +24,7 @@ abbrev pub Finds : List ℕ → Option Flow → List ℕ → Next → Type 0
 Finds bytes flow new (Request r) = IsRequest bytes r new
 Finds bytes flow new End = (new ≡ bytes) × EndsAt flow bytes
 Finds bytes flow new (Refused code) = (new ≡ bytes) × RefusedAt flow bytes code
-Finds bytes flow new ReadFault = (new ≡ bytes) × HasNoHead bytes
+Finds bytes flow new ReadFault = (new ≡ bytes) × IsUnfinished bytes
 Finds bytes flow new Memory = new ≡ bytes
 
 -- the source failed, or there is no memory
@@ -80,7 +79,7 @@ pub record Reads (f g : Option Flow) (old new : List ℕ) (next : Next) : Type 0
   pub takes : Takes f g taken
   pub finds : Finds (old ++ taken) g new next
   pub exact : IsExact f old next
-  pub needed : LastReadWhere HasNoHead f g old
+  pub needed : LastReadWhere IsUnfinished f g old
 
 -- the source's count of faults doesn't fall, and it rose where the answer is a fault of it
 pub record HasReadCause (before now : ℕ) (next : Next) : Type 0 where

@@ -1,18 +1,20 @@
-ghost use Rattle.std.specs.Prelude.{◌≡◌, ◌+◌, ◌-◌, ◌<◌, ◌≤◌, [], ◌++◌, length, take, drop, slice_range, IfOk};
+ghost use Rattle.std.specs.Prelude.{◌≡◌, ◌-◌, ◌<◌, ◌≤◌, [], length, take, drop, IfOk, OnOk};
 ghost use Rattle.ht_outside.specs.Causes.{HasCause};
 ghost use Rattle.ht_outside.specs.Tells.{IsLastRead, ReadTakes};
-ghost use Rattle.ht_wire.specs.Buffer.{Fills, MakesRoom};
+ghost use Rattle.ht_wire.specs.declared.buffer.FillFault.TheVariants as fault;
+ghost use Rattle.ht_wire.specs.Buffer.{Fills, HasFillCause, IsReadOrNone, MakesRoom};
+ghost use Rattle.ht_wire.specs.Window.{front};
 
 use ht_base::Memory;
 use ht_outside::{Failed, Source};
 use std::alloc::Global;
 use std::marker::Model;
 
-/// The most bytes that a request's head has, and that are read at once.
+/// The most bytes that a request's head has, and the room of a buffer until a longer body comes.
 pub(crate) const WINDOW: usize = 16_384;
 
-/// The bytes that were read from a source and not given out yet, at most 16,384. A contract sees
-/// them as a list.
+/// The bytes that were read from a source and not given out yet. It has room for 16,384, and grows
+/// while a longer body is read. A contract sees them as a list.
 #[derive(Drop)]
 pub struct Buffer {
     bytes: Vec<u8>,
@@ -47,10 +49,21 @@ impl Buffer {
 
     /// The bytes.
     pub(crate) fn pending(&self) -> &[u8]
-        ensures value { result.now ≡ self.now }
-        ensures short { length self.now ≤ 16384 }
+        ensures { result.now ≡ self.now }
     {
         &self.bytes[self.start..self.end]
+    }
+
+    /// The first of them, as many as a head has at most.
+    pub(crate) fn front(&self) -> &[u8]
+        ensures value { result.now ≡ front self.now }
+        ensures short { length result.now ≤ 16384 }
+    {
+        let pending = self.pending();
+        if pending.len() > WINDOW {
+            return &pending[..WINDOW];
+        }
+        pending
     }
 
     /// Gives out the first bytes.
@@ -65,32 +78,76 @@ impl Buffer {
         }
     }
 
-    /// Reads once, as many bytes as there is room for. 0 is the end.
-    pub(crate) fn fill<S: Source>(&mut self, source: &mut S) -> Result<usize, Failed>
-        requires { length self.old < 16384 }
+    /// Reads once, as many bytes as there is room for. Where there is none, it makes some, for `most`
+    /// bytes at most. 0 is the end.
+    pub(crate) fn fill<S: Source>(
+        &mut self,
+        source: &mut S,
+        most: usize,
+    ) -> Result<usize, FillFault>
+        requires { length self.old < most }
         ensures bytes { Fills (S.source_state source.old).flow (S.source_state source.new).flow self.old self.new result }
-        ensures last { IsLastRead (S.source_state source.old).flow (S.source_state source.new).flow }
+        ensures last { IsReadOrNone (S.source_state source.old).flow (S.source_state source.new).flow }
         ensures beside { S.beside_source source.new ≡ S.beside_source source.old }
-        ensures cause { HasCause (S.source_state source.old).faults (S.source_state source.new).faults result }
+        ensures cause { HasFillCause (S.source_state source.old).faults (S.source_state source.new).faults result }
     {
-        make_room(&mut self.bytes, &mut self.start, &mut self.end);
+        make_room(&mut self.bytes, &mut self.start, &mut self.end, most)?;
         let count = read_behind(source, &mut self.bytes, self.end)?;
         self.end += count;
         Ok(count)
     }
 }
 
-// Moves the bytes to the front where there is no room behind them.
-fn make_room(bytes: &mut Vec<u8>, start: &mut usize, end: &mut usize)
-    requires { (start.old ≤ end.old) × (end.old ≤ length bytes.old.items) }
-    ensures { MakesRoom bytes.old.items start.old end.old bytes.new.items start.new end.new }
+/// Why a read puts nothing into a buffer.
+#[derive(Clone, Copy, Debug)]
+pub(crate) enum FillFault {
+    /// The source failed.
+    Failed,
+    Memory,
+}
+
+impl From<Failed> for FillFault {
+    ghost from_gives = { λ e r. r ≡ fault.Failed };
+
+    fn from(_failed: Failed) -> FillFault {
+        FillFault::Failed
+    }
+}
+
+impl From<Memory> for FillFault {
+    ghost from_gives = { λ e r. r ≡ fault.Memory };
+
+    fn from(_memory: Memory) -> FillFault {
+        FillFault::Memory
+    }
+}
+
+// Makes room behind the bytes where there is none: it moves them to the front, or takes memory for
+// twice as many, and at most for `most`.
+fn make_room(
+    bytes: &mut Vec<u8>,
+    start: &mut usize,
+    end: &mut usize,
+    most: usize,
+) -> Result<(), Memory>
+    requires order { (start.old ≤ end.old) × (end.old ≤ length bytes.old.items) }
+    requires some { 0 < length bytes.old.items }
+    requires short { end.old - start.old < most }
+    ensures moved { MakesRoom bytes.old.items start.old end.old bytes.new.items start.new end.new }
+    ensures room { OnOk result (end.new < length bytes.new.items) }
 {
     if *end < bytes.len() {
-        return;
+        return Ok(());
     }
-    bytes.rotate_left(*start);
-    *end -= *start;
-    *start = 0;
+    if *start > 0 {
+        bytes.rotate_left(*start);
+        *end -= *start;
+        *start = 0;
+        return Ok(());
+    }
+    let wider = bytes.len().saturating_mul(2).min(most);
+    bytes.resize(wider, 0)?;
+    Ok(())
 }
 
 // Reads to the bytes behind `at`.

@@ -2,7 +2,7 @@ ghost use Rattle.std.specs.Prelude.{◌≡◌, All, length, map, option_map};
 ghost use Rattle.std.specs.List.{list_any};
 ghost use Rattle.std.specs.Str.{str_eq_ignore_ascii_case};
 ghost use Rattle.httparse.specs.Spans.{IsHeaderWithin, header_bytes};
-ghost use Rattle.ht_wire.specs.Fields.{values_of, is_nothing, only, is_close, is_of_body};
+ghost use Rattle.ht_wire.specs.Fields.{values_of, is_nothing, only, is_close};
 ghost use Rattle.ht_wire.specs.Fields as spec;
 
 use ht_base::Name;
@@ -33,20 +33,6 @@ pub(crate) fn asks_close(bytes: &[u8], headers: &[HeaderSpan]) -> bool
     false
 }
 
-/// Whether a field says that a body follows.
-pub(crate) fn has_body(bytes: &[u8], headers: &[HeaderSpan]) -> bool
-    requires { All (IsHeaderWithin (length bytes.now)) headers.now }
-    ensures { result ≡ spec.has_body (map (header_bytes bytes.now) headers.now) }
-{
-    for header in headers {
-        let name = header.name.of(bytes);
-        if same_text(name, b"content-length") || same_text(name, b"transfer-encoding") {
-            return true;
-        }
-    }
-    false
-}
-
 // The value of the field of this name, if there is just one.
 fn only_value<'b>(bytes: &'b [u8], headers: &[HeaderSpan], name: &[u8]) -> Option<&'b [u8]>
     requires { All (IsHeaderWithin (length bytes.now)) headers.now }
@@ -63,8 +49,8 @@ fn only_value<'b>(bytes: &'b [u8], headers: &[HeaderSpan], name: &[u8]) -> Optio
     None
 }
 
-// Whether no field has this name.
-fn is_missing(bytes: &[u8], headers: &[HeaderSpan], name: &[u8]) -> bool
+/// Whether no field has this name.
+pub(crate) fn is_missing(bytes: &[u8], headers: &[HeaderSpan], name: &[u8]) -> bool
     requires { All (IsHeaderWithin (length bytes.now)) headers.now }
     ensures { result ≡ is_nothing (values_of name.now (map (header_bytes bytes.now) headers.now)) }
 {
@@ -76,7 +62,7 @@ fn is_missing(bytes: &[u8], headers: &[HeaderSpan], name: &[u8]) -> bool
     true
 }
 
-fn same_text(a: &[u8], b: &[u8]) -> bool
+pub(crate) fn same_text(a: &[u8], b: &[u8]) -> bool
     ensures { result ≡ str_eq_ignore_ascii_case a.now b.now }
 {
     a.eq_ignore_ascii_case(b)

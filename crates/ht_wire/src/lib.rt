@@ -1,6 +1,7 @@
 //! The wire: bytes to requests, and replies to bytes (HTTP/1.1, RFC 9112).
 #![tactic(auto)]
 
+mod bodies;
 mod buffer;
 mod fields;
 mod looking;

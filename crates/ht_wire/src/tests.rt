@@ -45,7 +45,8 @@ fn read(alloc: Global, bytes: &[u8]) -> Result<String, Fail> {
     Ok(text)
 }
 
-// The persons of the requests (`-` where there is none), `last` behind a last one, and then the end.
+// The persons of the requests (`-` where there is none), `last` behind a last one, `:` and the body
+// behind one that has one, and then the end.
 fn read_from<S: Source>(alloc: Global, source: &mut S) -> Result<String, Fail> {
     let mut buffer = Buffer::new(alloc)?;
     let mut text = String::new(alloc);
@@ -81,6 +82,11 @@ fn put_request(request: &Request, text: &mut String) -> Result<(), Fail> {
     if request.last {
         text.push_str(" last")?;
     }
+    let body = str::from_utf8(request.body.as_slice())?;
+    if !body.is_empty() {
+        text.push(':')?;
+        text.push_str(body)?;
+    }
     text.push(' ')?;
     Ok(())
 }
@@ -106,9 +112,6 @@ GET / HTTP/1.1|CONNECTION:  cLOSE || => - last end
 GET / HTTP/1.1|connection: closed|| => - end
 GET / HTTP/1.1|connections: close|| => - end
 GET / HTTP/1.1|Connection: keep-alive|Connection: close|| => - last end
-POST / HTTP/1.1|Content-Length: 0|| => 501
-POST / HTTP/1.1|Transfer-Encoding: chunked|| => 501
-GET / HTTP/1.1||POST / HTTP/1.1|content-length: 2||{} => - 501
 GET / HTTP/2|| => 400
 GET / => 400
  GET / HTTP/1.1|| => 400";
@@ -134,6 +137,90 @@ fn heads_are_read(rt: HostRuntime) -> Result<(), Fail> {
         "\r\n\r\n\n\r\nGET / HTTP/1.1\r\n\r\n",
         "- end",
     )?;
+    Ok(())
+}
+
+// The same of requests with bodies, and of those that are refused for what their fields say of them.
+const BODIES: &str = "\
+POST / HTTP/1.1|Content-Length: 0|| => - end
+POST / HTTP/1.1|Content-Length: 2||{} => -:{} end
+POST / HTTP/1.1|CONTENT-LENGTH: 02||{} => -:{} end
+GET / HTTP/1.1|content-length: 2||{} => -:{} end
+POST / HTTP/1.1|content-length: 0000000002||{} => -:{} end
+POST / HTTP/1.1|content-length: 2|a: b|Content-Length: 2||{} => -:{} end
+POST / HTTP/1.1|connection: close|content-length: 2||{} => - last:{} end
+POST / HTTP/1.0|content-length: 2||{}GET / HTTP/1.1|| => - last:{} - end
+GET / HTTP/1.1||POST / HTTP/1.1|x-person: p1|content-length: 16||{\"model\":\"unit\"}GET / HTTP/1.1|| => - p1:{\"model\":\"unit\"} - end
+POST / HTTP/1.1|content-length: 3||{} => 400
+POST / HTTP/1.1|content-length: 2|| => 400
+POST / HTTP/1.1|content-length: 2|Content-Length: 3||{}} => 400
+POST / HTTP/1.1|content-length: 2|Content-Length: 02||{} => 400
+POST / HTTP/1.1|content-length: 2|a: b|content-length: 2|content-length: 3||{} => 400
+POST / HTTP/1.1|content-length: 2, 2||{} => 400
+POST / HTTP/1.1|content-length: +2||{} => 400
+POST / HTTP/1.1|content-length: -2||{} => 400
+POST / HTTP/1.1|content-length: 2a||{} => 400
+POST / HTTP/1.1|content-length: 0x2||{} => 400
+POST / HTTP/1.1|content-length:||{} => 400
+POST / HTTP/1.1|content-length: 00000000002||{} => 400
+POST / HTTP/1.1|content-length: 1048577|| => 413
+POST / HTTP/1.1|content-length: 9999999999|| => 413
+POST / HTTP/1.1|content-length: 1048577|content-length: 5||{} => 400
+POST / HTTP/1.1|Transfer-Encoding: chunked|| => 501
+POST / HTTP/1.1|content-length: 1048577|transfer-encoding: identity|| => 501
+POST / HTTP/1.1|content-length: x|transfer-encoding:|| => 501
+POST / HTTP/1.1|content-length: 2||{}POST / HTTP/1.1|content-length: x|| => -:{} 400";
+
+#[test]
+fn bodies_are_read(rt: HostRuntime) -> Result<(), Fail> {
+    for line in BODIES.lines() {
+        let (request, want) = line.split_once(" => ").ok_or("bytes and what is read")?;
+        let request = request.replace(rt.alloc(), "|", "\r\n")?;
+        is_read(&rt, rt.alloc(), request.as_str(), want)?;
+    }
+    Ok(())
+}
+
+const TWO: &[u8] =
+    b"POST / HTTP/1.1\r\nx-person: p1\r\ncontent-length: 5\r\n\r\n{   }GET / HTTP/1.1\r\n\r\n";
+
+// Two requests, of which the first has a body, end after each of their bytes.
+#[test]
+fn a_body_that_is_cut_is_refused(rt: HostRuntime) -> Result<(), Fail> {
+    let first = TWO.len() - 18;
+    for cut in 0..=TWO.len() {
+        let text = read(rt.alloc(), &TWO[..cut])?;
+        let want = if cut == 0 {
+            "end"
+        } else if cut < first {
+            "400"
+        } else if cut == first {
+            "p1:{   } end"
+        } else if cut < TWO.len() {
+            "p1:{   } 400"
+        } else {
+            "p1:{   } - end"
+        };
+        assert_eq!(rt; text.as_str(), want, "cut after {cut}");
+    }
+    Ok(())
+}
+
+// A body of as many bytes as one may have stands between two requests.
+#[test]
+fn a_long_body_is_read(rt: HostRuntime) -> Result<(), Fail> {
+    for most in [16_384, 100_000, 1_048_576] {
+        let body = "x".repeat(rt.alloc(), most)?;
+        let bytes = format!(in rt.alloc();
+            "GET / HTTP/1.1\r\n\r\nPUT / HTTP/1.1\r\ncontent-length: {most}\r\n\r\n{body}GET / HTTP/1.1\r\n\r\n"
+        )?;
+        let text = read_from(rt.alloc(), &mut link(rt.alloc(), bytes.as_bytes())?)?;
+        let want = format!(in rt.alloc(); "- -:{body} - end")?;
+        assert!(rt; text == want, "{most} bytes");
+        let short = &bytes.as_bytes()[..bytes.len() - 19];
+        let text = read_from(rt.alloc(), &mut link(rt.alloc(), short)?)?;
+        assert_eq!(rt; text.as_str(), "- 400", "{most} bytes less one");
+    }
     Ok(())
 }
 
@@ -180,14 +267,15 @@ fn a_head_has_its_limits(rt: HostRuntime) -> Result<(), Fail> {
 
 #[test]
 fn a_request_has_its_parts(rt: HostRuntime) -> Result<(), Fail> {
-    let bytes = b"PATCH /tasks/1 HTTP/1.1\r\nHost: a\r\nx-person: anna\r\n\r\n";
+    let bytes =
+        b"PATCH /tasks/1 HTTP/1.1\r\nHost: a\r\nx-person: anna\r\nContent-Length: 4\r\n\r\n\r\n{}GET";
     let mut link = link(rt.alloc(), bytes)?;
     let mut buffer = Buffer::new(rt.alloc())?;
     match next_request(rt.alloc(), &mut link, &mut buffer) {
         Next::Request(request) => {
             assert_eq!(rt; request.method.as_str(), "PATCH");
             assert_eq!(rt; request.target.as_slice(), b"/tasks/1".as_slice());
-            assert!(rt; request.body.as_slice().is_empty());
+            assert_eq!(rt; request.body.as_slice(), b"\r\n{}".as_slice());
         }
         _ => assert!(rt; false, "no request"),
     }

@@ -1,0 +1,31 @@
+use Rattle.ht_wire.proofs.BodyRead.{all_there, no_room, refused_now, short_body, whole_body}
+use Rattle.ht_wire.proofs.Finding.{within_all}
+use Rattle.ht_wire.proofs.reading.give_out.Goals as goal
+
+pub returns-in-Err-clause-gives : goal.returns-in-Err-clause-gives
+returns-in-Err-clause-gives g c = refused_now _ _ _ _ _ (rw c.front.ensures.value at c.in-Err.ensures.length)
+
+pub returns-in-Some-clause-gives : goal.returns-in-Some-clause-gives
+returns-in-Some-clause-gives g c = short_body _ _ _ _ _ _ _ (rw c.front.ensures.value at c.in-Ok.ensures.length) (within_all _ _ c.requires.within.section.len_fits) _ c.in-Some.ensures.finds
+
+pub returns-in-Some-clause-still : goal.returns-in-Some-clause-still
+returns-in-Some-clause-still g c = λ done. c.in-Some.ensures.still (all_there c.args.buffer.now c.args.headers.now c.args.head.now c.in-Ok.length (rw c.front.ensures.value at c.in-Ok.ensures.length) (within_all _ _ c.requires.within.section.len_fits) done)
+
+pub returns-in-Ok-of-clause-gives : goal.returns-in-Ok-of-clause-gives
+returns-in-Ok-of-clause-gives g c =
+    let carried = rw c.front-2.ensures.value at c.in-Ok-request_of.ensures in
+    whole_body _ _ _ _ _ _ _ (rw c.front.ensures.value at c.in-Ok.ensures.length) (within_all _ _ c.requires.within.section.len_fits) _ _ c.in_default-read_to.ensures.finds (rw c.pending.ensures at c.in-Ok-of.ensures) c.consume.ensures (record {
+      method_is = carried.method_is;
+      target_is = carried.target_is;
+      person_is = carried.person_is;
+      last_is = carried.last_is;
+    })
+
+pub returns-in-Ok-of-clause-still : goal.returns-in-Ok-of-clause-still
+returns-in-Ok-of-clause-still g c = λ done. c.in_default-read_to.ensures.still (all_there c.args.buffer.now c.args.headers.now c.args.head.now c.in-Ok.length (rw c.front.ensures.value at c.in-Ok.ensures.length) (within_all _ _ c.requires.within.section.len_fits) done)
+
+pub returns-in-Err-of-clause-gives : goal.returns-in-Err-of-clause-gives
+returns-in-Err-of-clause-gives g c = no_room _ _ _ _ _ _ _ (rw c.front.ensures.value at c.in-Ok.ensures.length) (within_all _ _ c.requires.within.section.len_fits) c.in_default-read_to.ensures.finds
+
+pub returns-in-Err-of-clause-still : goal.returns-in-Err-of-clause-still
+returns-in-Err-of-clause-still g c = λ done. c.in_default-read_to.ensures.still (all_there c.args.buffer.now c.args.headers.now c.args.head.now c.in-Ok.length (rw c.front.ensures.value at c.in-Ok.ensures.length) (within_all _ _ c.requires.within.section.len_fits) done)
