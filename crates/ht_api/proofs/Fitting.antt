@@ -1,0 +1,141 @@
+-- What fits is in its limits.
+use Rattle.std.proofs.Common.{◌≡◌, sym, ap, refl, subst, ℕ, ℤ, zero, suc, ◌<◌, ◌≤◌, ◌&&◌, ◌||◌, Bool, true, false, not, List, [], ◌∷◌, ◌++◌, length, append_assoc, Option, Some, None, option_map, option_and_then, if◌then◌else◌, nat_eq, nat_le, nat_lt, arith}
+use Rattle.std.specs.Prelude.{IfSome, slice_get}
+use Rattle.std.specs.Cmp.Lexicographic.{pointwise}
+use Rattle.std.specs.List.{list_all}
+use Rattle.std.proofs.lemmas.Bool.{and_parts, leb-true, ltb-true, lt-ltb}
+use Rattle.std.proofs.lemmas.Cmp.{nat_list_eq_equiv}
+use Rattle.serde_json.specs.Data.{Data, null, boolean, number, string, array, object, Members, no_members, member}
+use Rattle.serde_json.specs.Find.{as_array, as_i64, as_number, as_object, as_u64}
+use Rattle.ht_base.specs.declared.scalar.Scalar.{Scalar}
+use Rattle.ht_base.specs.declared.scalar.Scalar.TheVariants.{Text, Int, Truth}
+use Rattle.ht_base.specs.Events.{AreGiven, AreNames, is_short}
+use Rattle.ht_base.specs.Name.{name_of}
+use Rattle.ht_base.specs.Places.{IsRepeated}
+use Rattle.ht_api.specs.Fits.{are_distinct, holds_name, names_of, owners_in, part_in, parts_if, parts_in, parts_of, persons_if, persons_in, priority_if, priority_in, scalar_in, some_names}
+
+-- ---- what an option that is there came from
+
+pub from_some : {A B : Type 0} (o : Option A) (f : A → Option B) (b : B) → option_and_then f o ≡ Some b → (a : A) × (o ≡ Some a) × (f a ≡ Some b)
+from_some None f b e = cc
+from_some (Some a) f b e = (a, refl, e)
+
+pub from_if : {A : Type 0} (t : Bool) (a b : A) → (if t then Some a else None) ≡ Some b → (t ≡ true) × (a ≡ b)
+from_if true a b e = (refl, cc)
+from_if false a b e = cc
+
+pub if_there : {A : Type 0} (o : Option A) (P : A → Type 0) (a : A) → IfSome o P → o ≡ Some a → P a
+if_there None P a h e = cc
+if_there (Some b) P a h e = let same : b ≡ a = cc in subst P same h
+
+pub from_mapped : {A B : Type 0} (f : A → B) (o : Option A) (b : B) → option_map f o ≡ Some b → (a : A) × (o ≡ Some a) × (f a ≡ b)
+from_mapped f None b e = cc
+from_mapped f (Some a) b e = (a, refl, cc)
+
+-- ---- what a loop has read, before what is left
+
+abbrev pub before : {A : Type 0} → List A → Option (List A) → Option (List A)
+before read rest = option_map (λ more. read ++ more) rest
+
+pub one_more : {A : Type 0} (read : List A) (x : A) (rest : Option (List A)) → before read (option_map (λ more. x ∷ more) rest) ≡ before (read ++ x ∷ []) rest
+one_more read x None = refl
+one_more read x (Some more) = ap (λ l. Some l) (sym (append_assoc read (x ∷ []) more))
+
+pub all_read : {A : Type 0} (rest : Option (List A)) → before [] rest ≡ rest
+all_read None = refl
+all_read (Some more) = refl
+
+-- ---- parts
+
+int_short : (o : Option ℤ) (v : Scalar) (name : List ℕ) → option_map Int o ≡ Some v → is_short 512 (name, v) ≡ true
+int_short None v name e = cc
+int_short (Some z) v name e = let same : Int z ≡ v = cc in rw (← same) refl
+
+scalar_short : (d : Data) (v : Scalar) (name : List ℕ) → scalar_in d ≡ Some v → is_short 512 (name, v) ≡ true
+scalar_short null v name e = cc
+scalar_short (boolean b) v name e = let same : Truth b ≡ v = cc in rw (← same) refl
+scalar_short (number n) v name e = int_short (as_i64 n) v name e
+scalar_short (string s) v name e =
+    let p = from_if (nat_le (length s) 512) (Text s) v e in
+    let few : length s ≤ 512 = leb-true (length s) 512 p.0 in
+    rw (← p.1) (lt-ltb (length s) 513 (omega arith))
+scalar_short (array ds) v name e = cc
+scalar_short (object ms) v name e = cc
+
+pub one_part_more : (read : List (List ℕ × Scalar)) (key name : List ℕ) (d : Data) (value : Scalar) (ms : Members) → name_of key ≡ Some name → scalar_in d ≡ Some value
+    → before read (parts_of (member key d ms)) ≡ before (read ++ (name, value) ∷ []) (parts_of ms)
+one_part_more read key name d value ms e f = rw (e, f) (one_more read (name, value) (parts_of ms))
+
+part_short : (key : List ℕ) (d : Data) (part : List ℕ × Scalar) → part_in key d ≡ Some part → is_short 512 part ≡ true
+part_short key d part e =
+    let q = from_some (name_of key) (λ name. option_map (λ value. (name, value)) (scalar_in d)) part e in
+    let m = from_mapped (λ value. (q.0, value)) (scalar_in d) part q.2 in
+    rw (← m.2) (scalar_short d m.0 q.0 m.1)
+
+all_short : (ms : Members) (parts : List (List ℕ × Scalar)) → parts_of ms ≡ Some parts → list_all (is_short 512) parts ≡ true
+all_short no_members parts e = let same : [] ≡ parts = cc in rw (← same) refl
+all_short (member k d ms) parts e =
+    let q = from_some (part_in k d) (λ part. option_map (λ more. part ∷ more) (parts_of ms)) parts e in
+    let m = from_mapped (λ more. q.0 ∷ more) (parts_of ms) parts q.2 in
+    rw (← m.2) (rw (part_short k d q.0 q.1, all_short ms m.0 m.1) refl)
+
+pub no_parts : AreGiven []
+no_parts = record { few = omega arith; short = refl }
+
+pub given : (d : Data) (parts : List (List ℕ × Scalar)) → parts_in d ≡ Some parts → AreGiven parts
+given d parts e =
+    let p = from_some (option_and_then parts_of (as_object d)) parts_if parts e in
+    let q = from_some (as_object d) parts_of p.0 p.1 in
+    let s = from_if (nat_le (length p.0) 8) p.0 parts p.2 in
+    let fit : AreGiven p.0 = record { few = leb-true (length p.0) 8 s.0; short = all_short q.0 p.0 q.2 } in
+    subst AreGiven s.1 fit
+
+-- ---- persons
+
+first_or : (a b : Bool) → b ≡ true → (a || b) ≡ true
+first_or true b h = refl
+first_or false b h = h
+
+holds_there : (names : List (List ℕ)) (name : List ℕ) (i : ℕ) → slice_get names i ≡ Some name → holds_name name names ≡ true
+holds_there [] name i h = cc
+holds_there (n ∷ ns) name zero h = let same : n ≡ name = cc in rw (same, nat_list_eq_equiv.refl name) refl
+holds_there (n ∷ ns) name (suc i) h = first_or (pointwise nat_eq n name) (holds_name name ns) (holds_there ns name i h)
+
+not_true : (b : Bool) → not b ≡ true → b ≡ false
+not_true true e = cc
+not_true false e = refl
+
+distinct_is : (names : List (List ℕ)) → are_distinct names ≡ true → (i : ℕ) → IsRepeated names i → ⊥
+distinct_is [] h i r = let there = r.3 in cc
+distinct_is (n ∷ ns) h zero r = let below = r.1 in absurd (omega arith)
+distinct_is (n ∷ ns) h (suc i) r = at r.0 r.1 r.2 r.3 r.4 (λ s. distinct_is ns p.1 i s)
+  where
+    p : (not (holds_name n ns) ≡ true) × (are_distinct ns ≡ true)
+    p = and_parts (not (holds_name n ns)) (are_distinct ns) h
+
+    at : (j : ℕ) → j < suc i → (x : List ℕ) → slice_get (n ∷ ns) j ≡ Some x → slice_get ns i ≡ Some x → (IsRepeated ns i → ⊥) → ⊥
+    at zero l x first later rest = let held = holds_there ns x i later in let same : n ≡ x = cc in let new = not_true (holds_name n ns) p.0 in let too : holds_name n ns ≡ true = rw same held in cc
+    at (suc j) l x first later rest = rest (j, omega arith, x, first, later)
+
+pub persons_fit : (d : Data) (names : List (List ℕ)) → persons_in d ≡ Some names → AreNames names
+persons_fit d names e =
+    let p = from_some (option_and_then names_of (as_array d)) persons_if names e in
+    let s = from_if (nat_le (length p.0) 1024 && are_distinct p.0) p.0 names p.2 in
+    let t = and_parts (nat_le (length p.0) 1024) (are_distinct p.0) s.0 in
+    let fit : AreNames p.0 = record { few = leb-true (length p.0) 1024 t.0; distinct = distinct_is p.0 t.1 } in
+    subst AreNames s.1 fit
+
+pub owners_fit : (d : Data) (names : List (List ℕ)) → owners_in d ≡ Some names → AreNames names × (1 ≤ length names)
+owners_fit d names e =
+    let p = from_some (persons_in d) some_names names e in
+    let s = from_if (nat_lt 0 (length p.0)) p.0 names p.2 in
+    let fit = λ (ns : List (List ℕ)). AreNames ns × (1 ≤ length ns) in
+    let some = ltb-true 0 (length p.0) s.0 in
+    subst fit s.1 (persons_fit d p.0 p.1, omega arith)
+
+pub priority_fits : (d : Data) (n : ℕ) → priority_in d ≡ Some n → n ≤ 10
+priority_fits d n e =
+    let p = from_some (option_and_then as_u64 (as_number d)) priority_if n e in
+    let s = from_if (nat_le p.0 10) p.0 n p.2 in
+    let few = leb-true p.0 10 s.0 in
+    let same = s.1 in omega arith

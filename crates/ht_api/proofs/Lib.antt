@@ -1,0 +1,11 @@
+mod Ascii
+mod Fitting
+mod Going
+mod JsonIn
+mod KeysAscend
+mod Numerals
+mod Required
+mod Room
+mod Routing
+mod Sound
+mod Validity

@@ -1,0 +1,5 @@
+use Rattle.ht_api.proofs.Room.{has_room, role_room}
+use Rattle.ht_api.proofs.faults.put_role_fault.Goals as goal
+
+pub returns-clause-room : goal.returns-clause-room
+returns-clause-room c = has_room c.put_short.result c.args.writer.now.spare _ c.put_short.ensures.full (role_room c.args.needs.now)

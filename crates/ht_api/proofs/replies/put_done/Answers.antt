@@ -1,0 +1,8 @@
+use Rattle.std.proofs.Common.{◌^◌, ◌<◌, arith}
+use Rattle.ht_api.proofs.Room.{done_room, has_room}
+use Rattle.ht_api.proofs.replies.put_done.Goals as goal
+
+pub returns-clause-room : goal.returns-clause-room
+returns-clause-room c =
+    let small : c.args.task.0 < 2 ^ 64 = omega (arith, c.from.type_inv, c.from.ensures) in
+    has_room c.put_short.result c.args.writer.now.spare _ (rw c.from.ensures at c.put_short.ensures.full) (done_room c.args.task c.args.state c.args.owner.now small c.told_short.ensures)

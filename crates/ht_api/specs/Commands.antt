@@ -1,0 +1,59 @@
+-- The command that a body gives.
+use Rattle.std.specs.Prelude.{ℕ, Bool, true, false, List, [], ◌∷◌, Option, Some, None, unwrap_or, IsSome, Result, Ok, Err}
+use Rattle.ht_base.specs.declared.event.Command.{Command}
+use Rattle.ht_base.specs.declared.event.Command.TheVariants as command
+use Rattle.ht_api.specs.declared.asked.Asked.{Asked}
+use Rattle.ht_api.specs.declared.asked.Asked.TheVariants as asked
+use Rattle.ht_api.specs.declared.fields.Fields.{Fields}
+use Rattle.ht_api.specs.declared.keys.Key.{Key}
+use Rattle.ht_api.specs.declared.keys.Key.TheVariants.{Model, Input, Person, Role, Owners, Persons, Priority}
+use Rattle.ht_api.specs.declared.refusal.ApiRefusal.{ApiRefusal}
+use Rattle.ht_api.specs.declared.refusal.ApiRefusal.TheVariants.{Field}
+use Rattle.ht_api.specs.Bodies.{json_in}
+use Rattle.ht_api.specs.Fields.{fields_from}
+use Rattle.ht_api.specs.Keys.{key_name}
+
+-- with a required value, which the fields of a body have
+abbrev pub needing : {A : Type 0} → Key → Option A → (A → Result Command ApiRefusal) → Result Command ApiRefusal
+needing key None make = Err (Field (key_name key))
+needing key (Some a) make = make a
+
+abbrev pub command_of : Asked → Fields → Result Command ApiRefusal
+command_of asked.Create f = Ok (command.Create f.model (unwrap_or f.input []))
+command_of asked.Claim f = Ok command.Claim
+command_of asked.Start f = Ok command.Start
+command_of asked.Stop f = Ok command.Stop
+command_of asked.Release f = Ok command.Release
+command_of asked.Delegate f = needing Person f.person (λ person. Ok (command.Delegate person))
+command_of asked.Forward f = needing Owners f.owners (λ persons. Ok (command.Forward persons))
+command_of asked.Nominate f = needing Owners f.owners (λ persons. Ok (command.Nominate persons))
+command_of asked.Activate f = Ok command.Activate
+command_of asked.SetRole f = needing Role f.role (λ role. needing Persons f.persons (λ persons. Ok (command.SetRole role persons)))
+command_of asked.SetPriority f = needing Priority f.priority (λ priority. Ok (command.SetPriority priority))
+
+abbrev pub command_from : Asked → Result Fields ApiRefusal → Result Command ApiRefusal
+command_from asked (Err why) = Err why
+command_from asked (Ok f) = command_of asked f
+
+abbrev pub command_in : Asked → List ℕ → Result Command ApiRefusal
+command_in asked bytes = command_from asked (fields_from asked (json_in bytes))
+
+-- ---- required keys
+
+abbrev pub Has : Key → Fields → Type 0
+Has Model f = IsSome f.model
+Has Input f = IsSome f.input
+Has Person f = IsSome f.person
+Has Role f = IsSome f.role
+Has Owners f = IsSome f.owners
+Has Persons f = IsSome f.persons
+Has Priority f = IsSome f.priority
+
+abbrev pub HasIf : Bool → Key → Fields → Type 0
+HasIf true key f = Has key f
+HasIf false key f = Unit {0}
+
+-- the required keys have a value
+abbrev pub HasAll : List (Key × Bool) → Fields → Type 0
+HasAll [] f = Unit {0}
+HasAll (row ∷ rows) f = HasIf row.1 row.0 f × HasAll rows f

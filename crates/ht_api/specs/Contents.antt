@@ -1,0 +1,71 @@
+-- The members of a reply as JSON.
+use Rattle.std.specs.Prelude.{ℕ, List, [], ◌∷◌, map, filter, Option, Some, None}
+use Rattle.std.specs.Borrow.{Bor}
+use Rattle.serde_json.specs.Data.{Data, null, boolean, number, string, array, object, unsigned, Items, no_items, item, Members, no_members, member}
+use Rattle.ht_base.specs.declared.moment.Moment.{Moment}
+use Rattle.ht_base.specs.declared.role.Roles.{Roles}
+use Rattle.ht_base.specs.declared.state.StateSet.{StateSet}
+use Rattle.ht_base.specs.declared.task_id.TaskId.{TaskId}
+use Rattle.ht_base.specs.Role.{all_roles, contains_role, role_name}
+use Rattle.ht_base.specs.State.{all_states, contains_state, state_name}
+use Rattle.ht_api.specs.declared.contents.Content.{Content}
+use Rattle.ht_api.specs.declared.contents.Content.TheVariants as content
+
+abbrev pub texts : List (List ℕ) → Items
+texts [] = no_items
+texts (t ∷ ts) = item (string t) (texts ts)
+
+abbrev pub names : List (List ℕ) → Data
+names ns = array (texts ns)
+
+abbrev pub whole : ℕ → Data
+whole n = number (unsigned n)
+
+abbrev pub name_or_null : Option (List ℕ) → Data
+name_or_null None = null
+name_or_null (Some name) = string name
+
+abbrev pub task_or_null : Option TaskId → Data
+task_or_null None = null
+task_or_null (Some task) = whole task.0
+
+abbrev pub moment_or_null : Option Moment → Data
+moment_or_null None = null
+moment_or_null (Some moment) = whole moment.0
+
+-- the roles of a set by name, in the order in which roles are listed
+abbrev pub roles_data : Roles → Data
+roles_data set = names (map role_name (filter (contains_role set) all_roles))
+
+-- the states of a set likewise
+abbrev pub states_data : StateSet → Data
+states_data set = names (map state_name (filter (contains_state set) all_states))
+
+-- an object with these members
+abbrev pub members : List (List ℕ × Data) → Members
+members [] = no_members
+members (r ∷ rs) = member r.0 r.1 (members rs)
+
+abbrev pub row_object : List (List ℕ × Data) → Data
+row_object rs = object (members rs)
+
+-- ---- as the code has them
+
+abbrev pub content_data : Content → Data
+content_data (content.Name name) = string name
+content_data (content.MaybeName name) = name_or_null name
+content_data (content.Text text) = string text.now
+content_data (content.Number n) = whole n
+content_data (content.MaybeTask task) = task_or_null task
+content_data (content.MaybeMoment moment) = moment_or_null moment
+content_data (content.State state) = string (state_name state)
+content_data (content.Truth b) = boolean b
+content_data (content.Names ns) = names ns.now
+content_data (content.Roles roles) = roles_data roles
+content_data (content.States states) = states_data states
+content_data content.NoItems = array no_items
+content_data content.NoMembers = object no_members
+
+abbrev pub rows_of : List (Bor (List ℕ) × Content) → List (List ℕ × Data)
+rows_of [] = []
+rows_of (m ∷ ms) = (m.0.now, content_data m.1) ∷ rows_of ms

@@ -1,0 +1,38 @@
+-- Which event a request is, or why it is none.
+use Rattle.std.specs.Prelude.{ℕ, List, Option, Some, None, Result, Ok, Err}
+use Rattle.ht_base.specs.declared.event.Command.{Command}
+use Rattle.ht_base.specs.declared.event.Event.{Event}
+use Rattle.ht_base.specs.declared.event.Event.TheVariants.{Ask, Read}
+use Rattle.ht_base.specs.declared.event.Query.TheVariants as query
+use Rattle.ht_base.specs.declared.moment.Moment.{Moment}
+use Rattle.ht_base.specs.declared.task_id.TaskId.{TaskId}
+use Rattle.ht_wire.specs.declared.request.Request.{Request}
+use Rattle.ht_api.specs.declared.asked.Asked.TheVariants as asked
+use Rattle.ht_api.specs.declared.refusal.ApiRefusal.{ApiRefusal}
+use Rattle.ht_api.specs.declared.refusal.ApiRefusal.TheVariants.{Person}
+use Rattle.ht_api.specs.declared.routes.Place.{Place}
+use Rattle.ht_api.specs.declared.routes.Place.TheVariants as place
+use Rattle.ht_api.specs.Commands.{command_in}
+use Rattle.ht_api.specs.Routes.{place_of, routed}
+
+-- a command of a caller
+abbrev pub asks : Moment → TaskId → Result Command ApiRefusal → Option (List ℕ) → Result Event ApiRefusal
+asks at task (Err why) caller = Err why
+asks at task (Ok command) None = Err Person
+asks at task (Ok command) (Some name) = Ok (Ask at name task command)
+
+-- a question of a caller
+abbrev pub reads : TaskId → Option (List ℕ) → Result Event ApiRefusal
+reads task None = Err Person
+reads task (Some name) = Ok (Read name (query.Sheet task))
+
+-- of a request at a place
+abbrev pub event_at : Request → Moment → Result Place ApiRefusal → Result Event ApiRefusal
+event_at r at (Err why) = Err why
+event_at r at (Ok place.Tasks) = asks at (record { 0 = 0 }) (command_in asked.Create r.body.items) r.person
+event_at r at (Ok (place.Operation task what)) = asks at task (command_in what r.body.items) r.person
+event_at r at (Ok (place.Task task)) = reads task r.person
+
+-- first its place and method count, then its body, then its caller
+abbrev pub event_due : Request → ℕ → Result Event ApiRefusal
+event_due r moment = event_at r (record { 0 = moment }) (routed r.method (place_of r.target.items))

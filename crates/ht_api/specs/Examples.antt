@@ -1,0 +1,204 @@
+-- Worked examples of the definitions. A wrong reading of one fails the check.
+use Rattle.std.specs.Prelude.{◌≡◌, refl, ℕ, List, [], ◌∷◌, Option, Some, None, Ok, Err, codes, Bool, false, true, ◌&&◌, negsuc, ⊤}
+use Rattle.std.specs.Fmt.{digits}
+use Rattle.std.specs.Str.{chars, is_utf8}
+use Rattle.serde_json.proofs.OnLiterals.{serde_json_on_literals}
+use Rattle.serde_json.specs.Data.{Data, Members, member, no_members, object}
+use Rattle.ht_base.specs.declared.event.Command.TheVariants as command
+use Rattle.ht_base.specs.declared.event.Event.TheVariants.{Ask, Read}
+use Rattle.ht_base.specs.declared.event.Query.TheVariants as query
+use Rattle.ht_base.specs.declared.reply.Answer.TheVariants.{Done, Sheet, Refused}
+use Rattle.ht_base.specs.declared.reply.Answer.{Answer}
+use Rattle.ht_base.specs.declared.reply.Refusal.{Refusal}
+use Rattle.ht_base.specs.declared.reply.Refusal.TheVariants as refusal
+use Rattle.ht_base.specs.declared.reply.Unknown.TheVariants as unknown
+use Rattle.ht_base.specs.declared.role.Role.TheVariants.{ActualOwner, PotentialOwner}
+use Rattle.ht_base.specs.declared.role_list.RoleList.TheVariants.{Stakeholders}
+use Rattle.ht_base.specs.declared.scalar.Scalar.TheVariants.{Int, Text}
+use Rattle.ht_base.specs.declared.state.State.TheVariants.{Ready, Reserved}
+use Rattle.ht_base.specs.Role.{no_roles, with_role}
+use Rattle.ht_base.specs.State.{no_states, with_state}
+use Rattle.ht_base.specs.Values.{is_before}
+use Rattle.ht_wire.specs.declared.request.Request.{Request}
+use Rattle.ht_api.specs.declared.asked.Asked.TheVariants as asked
+use Rattle.ht_api.specs.declared.refusal.ApiRefusal.TheVariants.{Route, Method, Json, Field, Person}
+use Rattle.ht_api.specs.declared.routes.Place.TheVariants as place
+use Rattle.ht_api.specs.Bodies.{json_in}
+use Rattle.ht_api.specs.Commands.{command_in}
+use Rattle.ht_api.specs.Events.{event_due}
+use Rattle.ht_api.specs.Numbers.{task_in}
+use Rattle.ht_api.specs.Refusals.{wire_refusal}
+use Rattle.ht_api.specs.Replies.{answer_data, answer_text, refusal_data, sheet_data}
+use Rattle.ht_api.specs.Routes.{place_of}
+
+-- what an example unfolds
+unfoldable on_literals : ⊤
+unfolding chars is_utf8 digits serde_json_on_literals
+on_literals = tt
+
+abbrev request : List ℕ → List ℕ → Option (List ℕ) → List ℕ → Request
+request method target person body =
+    record { method = method; target = record { items = target; spare = 0 }; person = person; last = false; body = record { items = body; spare = 0 } }
+
+-- ---- places
+
+a_task : place_of (codes "/tasks/4294967295") ≡ Some (place.Task (record { 0 = 4294967295 }))
+unfolding on_literals
+a_task = refl
+
+an_operation : place_of (codes "/tasks/12/setRole") ≡ Some (place.Operation (record { 0 = 12 }) asked.SetRole)
+unfolding on_literals
+an_operation = refl
+
+a_query : place_of (codes "/tasks/1?a") ≡ None
+unfolding on_literals
+a_query = refl
+
+no_operation : place_of (codes "/tasks/1/create") ≡ None
+unfolding on_literals
+no_operation = refl
+
+one_too_many : task_in (codes "4294967296") ≡ None
+one_too_many = refl
+
+a_leading_zero : task_in (codes "01") ≡ None
+a_leading_zero = refl
+
+no_task : task_in (codes "0") ≡ None
+no_task = refl
+
+-- ---- bodies
+
+no_bytes : json_in [] ≡ Some (object no_members)
+no_bytes = refl
+
+a_blank : json_in (codes " ") ≡ None
+unfolding on_literals
+a_blank = refl
+
+the_last_of_equal_keys : command_in asked.Create (codes "{\"model\":1,\"model\":\"b\"}") ≡ Ok (command.Create (Some (codes "b")) [])
+unfolding on_literals
+the_last_of_equal_keys = refl
+
+parts_by_name : command_in asked.Create (codes "{\"input\":{\"b\":-1,\"a\":\"x\"}}") ≡ Ok (command.Create None ((codes "a", Text (codes "x")) ∷ (codes "b", Int (negsuc 0)) ∷ []))
+unfolding on_literals
+parts_by_name = refl
+
+a_key_outside_goes_first : command_in asked.Create (codes "{\"model\":1,\"x\":1}") ≡ Err (Field (codes "body"))
+unfolding on_literals
+a_key_outside_goes_first = refl
+
+the_first_key_of_the_table : command_in asked.SetRole (codes "{\"persons\":1}") ≡ Err (Field (codes "role"))
+unfolding on_literals
+the_first_key_of_the_table = refl
+
+persons_may_be_none : command_in asked.SetRole (codes "{\"persons\":[],\"role\":\"stakeholders\"}") ≡ Ok (command.SetRole Stakeholders [])
+unfolding on_literals
+persons_may_be_none = refl
+
+owners_may_not : command_in asked.Forward (codes "{\"persons\":[]}") ≡ Err (Field (codes "persons"))
+unfolding on_literals
+owners_may_not = refl
+
+a_name_twice : command_in asked.Nominate (codes "{\"persons\":[\"a\",\"b\",\"a\"]}") ≡ Err (Field (codes "persons"))
+unfolding on_literals
+a_name_twice = refl
+
+no_whole_number : command_in asked.SetPriority (codes "{\"priority\":1.0}") ≡ Err (Field (codes "priority"))
+unfolding on_literals
+no_whole_number = refl
+
+no_lower_priority : command_in asked.SetPriority (codes "{\"priority\":11}") ≡ Err (Field (codes "priority"))
+unfolding on_literals
+no_lower_priority = refl
+
+-- ---- events
+
+a_create : event_due (request (codes "POST") (codes "/tasks") (Some (codes "dan")) (codes "{\"model\":\"unit\"}")) 1000 ≡ Ok (Ask (record { 0 = 1000 }) (codes "dan") (record { 0 = 0 }) (command.Create (Some (codes "unit")) []))
+unfolding on_literals
+a_create = refl
+
+a_sheet : event_due (request (codes "GET") (codes "/tasks/1") (Some (codes "ben")) (codes "{")) 5 ≡ Ok (Read (codes "ben") (query.Sheet (record { 0 = 1 })))
+unfolding on_literals
+a_sheet = refl
+
+the_place_goes_first : event_due (request (codes "PUT") (codes "/tasks/0") None (codes "{")) 5 ≡ Err Route
+unfolding on_literals
+the_place_goes_first = refl
+
+then_the_method : event_due (request (codes "post") (codes "/tasks") None (codes "{")) 5 ≡ Err Method
+unfolding on_literals
+then_the_method = refl
+
+then_the_body : event_due (request (codes "POST") (codes "/tasks/1/claim") None (codes "{")) 5 ≡ Err Json
+unfolding on_literals
+then_the_body = refl
+
+then_the_caller : event_due (request (codes "POST") (codes "/tasks/1/claim") None []) 5 ≡ Err Person
+unfolding on_literals
+then_the_caller = refl
+
+-- ---- replies
+
+no_owner : answer_text (Done (record { 0 = 1 }) Ready None) ≡ codes "{\"owner\":null,\"state\":\"Ready\",\"task\":1}"
+unfolding on_literals
+no_owner = refl
+
+an_owner : answer_text (Done (record { 0 = 12 }) Reserved (Some (codes "p0"))) ≡ codes "{\"owner\":\"p0\",\"state\":\"Reserved\",\"task\":12}"
+unfolding on_literals
+an_owner = refl
+
+roles_in_order : answer_text (Refused (refusal.Role (with_role (with_role no_roles ActualOwner) PotentialOwner))) ≡ codes "{\"fault\":\"Role\",\"needs\":[\"potentialOwner\",\"actualOwner\"]}"
+unfolding on_literals
+roles_in_order = refl
+
+allowed_goes_first : answer_text (Refused (refusal.State (with_state no_states Ready) Reserved)) ≡ codes "{\"allowed\":[\"Ready\"],\"fault\":\"State\",\"state\":\"Reserved\"}"
+unfolding on_literals
+allowed_goes_first = refl
+
+a_person_unknown : answer_text (Refused (refusal.Unknown (unknown.Person (codes "ben")))) ≡ codes "{\"fault\":\"Unknown\",\"person\":\"ben\"}"
+unfolding on_literals
+a_person_unknown = refl
+
+a_body_too_long : wire_refusal 413 ≡ refusal.Body
+a_body_too_long = refl
+
+-- ---- the keys of each answer stand in byte order
+
+abbrev ascends_from : List ℕ → Members → Bool
+ascends_from key no_members = true
+ascends_from key (member k d ms) = is_before key k && ascends_from k ms
+
+abbrev ascends : Data → Bool
+ascends (object (member k d ms)) = ascends_from k ms
+ascends d = true
+
+refusals_ascend : (why : Refusal) → ascends (refusal_data why) ≡ true
+refusals_ascend refusal.Head = refl
+refusals_ascend refusal.Fields = refl
+refusals_ascend refusal.Coding = refl
+refusals_ascend refusal.Body = refl
+refusals_ascend refusal.Route = refl
+refusals_ascend refusal.Method = refl
+refusals_ascend refusal.Json = refl
+refusals_ascend (refusal.Field key) = refl
+refusals_ascend refusal.Person = refl
+refusals_ascend (refusal.Task task) = refl
+refusals_ascend (refusal.Role needs) = refl
+refusals_ascend (refusal.State allowed state) = refl
+refusals_ascend (refusal.Unknown (unknown.Model name)) = refl
+refusals_ascend (refusal.Unknown (unknown.Person name)) = refl
+refusals_ascend (refusal.PartRefused part) = refl
+refusals_ascend refusal.Ownerless = refl
+refusals_ascend refusal.ByGroup = refl
+refusals_ascend (refusal.Excluded person) = refl
+refusals_ascend (refusal.NotDelegatee person) = refl
+refusals_ascend refusal.NoOwners = refl
+refusals_ascend (refusal.Limit limit) = refl
+refusals_ascend refusal.Memory = refl
+
+answers_ascend : (a : Answer) → ascends (answer_data a) ≡ true
+unfolding sheet_data
+answers_ascend (Done task state owner) = refl
+answers_ascend (Sheet s) = refl
+answers_ascend (Refused why) = refusals_ascend why

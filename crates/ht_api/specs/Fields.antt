@@ -1,0 +1,60 @@
+-- The fields that a body gives.
+use Rattle.std.specs.Prelude.{◌&&◌, Bool, true, false, List, [], ◌∷◌, codes, Option, Some, None, option_map, Result, Ok, Err, if◌then◌else◌}
+use Rattle.serde_json.specs.Data.{Data, Members, no_members, member}
+use Rattle.serde_json.specs.Find.{as_object, get}
+use Rattle.ht_api.specs.declared.asked.Asked.{Asked}
+use Rattle.ht_api.specs.declared.fields.Fields.{Fields}
+use Rattle.ht_api.specs.declared.keys.Key.{Key}
+use Rattle.ht_api.specs.declared.keys.Key.TheVariants.{Model, Input, Person, Role, Owners, Persons, Priority}
+use Rattle.ht_api.specs.declared.refusal.ApiRefusal.{ApiRefusal}
+use Rattle.ht_api.specs.declared.refusal.ApiRefusal.TheVariants.{Json, Field}
+use Rattle.ht_api.specs.Fits.{name_in, owners_in, parts_in, persons_in, priority_in, role_in}
+use Rattle.ht_api.specs.Keys.{key_name, keys_of, is_known}
+
+abbrev pub no_fields : Fields
+no_fields = record { model = None; input = None; person = None; role = None; owners = None; persons = None; priority = None }
+
+-- the fields with the value of this key, if it fits
+abbrev pub with_key : Key → Data → Fields → Option Fields
+with_key Model d f = option_map (λ n. record f { model = Some n }) (name_in d)
+with_key Input d f = option_map (λ ps. record f { input = Some ps }) (parts_in d)
+with_key Person d f = option_map (λ n. record f { person = Some n }) (name_in d)
+with_key Role d f = option_map (λ r. record f { role = Some r }) (role_in d)
+with_key Owners d f = option_map (λ ns. record f { owners = Some ns }) (owners_in d)
+with_key Persons d f = option_map (λ ns. record f { persons = Some ns }) (persons_in d)
+with_key Priority d f = option_map (λ n. record f { priority = Some n }) (priority_in d)
+
+-- without a key's value, if it isn't required
+abbrev pub without : Bool → Fields → Option Fields
+without true f = None
+without false f = Some f
+
+abbrev pub turn : Key × Bool → Option Data → Fields → Option Fields
+turn row None f = without row.1 f
+turn row (Some d) f = with_key row.0 d f
+
+abbrev pub or_refused : Key → (Fields → Result Fields ApiRefusal) → Option Fields → Result Fields ApiRefusal
+or_refused key next None = Err (Field (key_name key))
+or_refused key next (Some f) = next f
+
+-- key by key, up to the first that is missing or doesn't fit
+abbrev pub taken : List (Key × Bool) → Data → Fields → Result Fields ApiRefusal
+taken [] d f = Ok f
+taken (row ∷ rows) d f = or_refused row.0 (taken rows d) (turn row (get (key_name row.0) d) f)
+
+abbrev pub all_known : List (Key × Bool) → Members → Bool
+all_known rows no_members = true
+all_known rows (member k d ms) = is_known rows k && all_known rows ms
+
+abbrev pub are_known : List (Key × Bool) → Option Members → Bool
+are_known rows None = false
+are_known rows (Some ms) = all_known rows ms
+
+-- of an object with no other keys
+abbrev pub fields_in : Asked → Data → Result Fields ApiRefusal
+fields_in asked d = if are_known (keys_of asked) (as_object d) then taken (keys_of asked) d no_fields else Err (Field (codes "body"))
+
+-- and none where there is no JSON
+abbrev pub fields_from : Asked → Option Data → Result Fields ApiRefusal
+fields_from asked None = Err Json
+fields_from asked (Some d) = fields_in asked d

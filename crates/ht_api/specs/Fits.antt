@@ -1,0 +1,89 @@
+-- Which values of a body fit, and as what.
+use Rattle.std.specs.Prelude.{ℕ, ◌&&◌, not, nat_lt, nat_le, nat_eq, Bool, true, List, [], ◌∷◌, length, bytes_eq, codes, Option, Some, None, option_map, option_and_then, if◌then◌else◌}
+use Rattle.std.specs.Cmp.Lexicographic.{pointwise}
+use Rattle.std.specs.List.{list_any}
+use Rattle.serde_json.specs.Data.{Data, null, boolean, number, string, array, object, Items, no_items, item, Members, no_members, member}
+use Rattle.serde_json.specs.Find.{as_str, as_number, as_array, as_object, as_u64, as_i64}
+use Rattle.ht_base.specs.Name.{name_of}
+use Rattle.ht_base.specs.declared.role_list.RoleList.{RoleList}
+use Rattle.ht_base.specs.declared.role_list.RoleList.TheVariants.{PotentialOwners, ExcludedOwners, Administrators, Stakeholders}
+use Rattle.ht_base.specs.declared.scalar.Scalar.{Scalar}
+use Rattle.ht_base.specs.declared.scalar.Scalar.TheVariants.{Text, Int, Truth}
+
+-- a text that is a name
+abbrev pub name_in : Data → Option (List ℕ)
+name_in d = option_and_then name_of (as_str d)
+
+abbrev pub role_named : List ℕ → Option RoleList
+role_named text =
+    if bytes_eq text (codes "potentialOwners") then Some PotentialOwners
+    else (if bytes_eq text (codes "excludedOwners") then Some ExcludedOwners
+    else (if bytes_eq text (codes "administrators") then Some Administrators
+    else (if bytes_eq text (codes "stakeholders") then Some Stakeholders
+    else None)))
+
+abbrev pub role_in : Data → Option RoleList
+role_in d = option_and_then role_named (as_str d)
+
+-- a whole number from 0 to 10
+abbrev pub priority_if : ℕ → Option ℕ
+priority_if n = if nat_le n 10 then Some n else None
+
+abbrev pub priority_in : Data → Option ℕ
+priority_in d = option_and_then priority_if (option_and_then as_u64 (as_number d))
+
+-- ---- persons
+
+-- the names that the items are, if each is one
+abbrev pub names_of : Items → Option (List (List ℕ))
+names_of no_items = Some []
+names_of (item d ds) = option_and_then (λ name. option_map (λ more. name ∷ more) (names_of ds)) (name_in d)
+
+abbrev pub holds_name : List ℕ → List (List ℕ) → Bool
+holds_name name names = list_any (λ n. pointwise nat_eq n name) names
+
+-- no name stands twice
+abbrev pub are_distinct : List (List ℕ) → Bool
+are_distinct [] = true
+are_distinct (n ∷ ns) = not (holds_name n ns) && are_distinct ns
+
+abbrev pub persons_if : List (List ℕ) → Option (List (List ℕ))
+persons_if names = if nat_le (length names) 1024 && are_distinct names then Some names else None
+
+-- at most 1,024 distinct names
+abbrev pub persons_in : Data → Option (List (List ℕ))
+persons_in d = option_and_then persons_if (option_and_then names_of (as_array d))
+
+abbrev pub some_names : List (List ℕ) → Option (List (List ℕ))
+some_names names = if nat_lt 0 (length names) then Some names else None
+
+-- at least one
+abbrev pub owners_in : Data → Option (List (List ℕ))
+owners_in d = option_and_then some_names (persons_in d)
+
+-- ---- parts
+
+-- a text of at most 512 bytes, a whole number of 64 bits, or a truth
+abbrev pub scalar_in : Data → Option Scalar
+scalar_in null = None
+scalar_in (boolean b) = Some (Truth b)
+scalar_in (number n) = option_map Int (as_i64 n)
+scalar_in (string s) = if nat_le (length s) 512 then Some (Text s) else None
+scalar_in (array ds) = None
+scalar_in (object ms) = None
+
+-- what is given for the part of this name
+abbrev pub part_in : List ℕ → Data → Option (List ℕ × Scalar)
+part_in key d = option_and_then (λ name. option_map (λ value. (name, value)) (scalar_in d)) (name_of key)
+
+-- the parts that the members are, if each is one
+abbrev pub parts_of : Members → Option (List (List ℕ × Scalar))
+parts_of no_members = Some []
+parts_of (member k d ms) = option_and_then (λ part. option_map (λ more. part ∷ more) (parts_of ms)) (part_in k d)
+
+abbrev pub parts_if : List (List ℕ × Scalar) → Option (List (List ℕ × Scalar))
+parts_if parts = if nat_le (length parts) 8 then Some parts else None
+
+-- at most 8 parts
+abbrev pub parts_in : Data → Option (List (List ℕ × Scalar))
+parts_in d = option_and_then parts_if (option_and_then parts_of (as_object d))

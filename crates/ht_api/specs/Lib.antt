@@ -1,0 +1,16 @@
+pub mod Asked
+pub mod Bodies
+pub mod Commands
+pub mod Contents
+pub mod Events
+pub mod Examples
+pub mod Fields
+pub mod Fits
+pub mod Keys
+pub mod Numbers
+pub mod Refusals
+pub mod Replies
+pub mod Routes
+pub mod Statuses
+pub mod Table
+pub mod Writing

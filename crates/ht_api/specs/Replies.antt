@@ -1,0 +1,112 @@
+-- The JSON of each answer (RFC 8259), whose text has no space and the keys in byte order.
+use Rattle.std.specs.Prelude.{ℕ, ◌≤◌, List, [], ◌∷◌, ◌++◌, length, Option, Some, None, codes}
+use Rattle.serde_json.specs.Data.{Data, boolean, string, array, object, no_items, no_members}
+use Rattle.serde_json.specs.Written.{compact_text}
+use Rattle.ht_base.specs.declared.reply.Answer.{Answer}
+use Rattle.ht_base.specs.declared.reply.Answer.TheVariants.{Done, Sheet, Refused}
+use Rattle.ht_base.specs.declared.reply.Limit.{Limit}
+use Rattle.ht_base.specs.declared.reply.Limit.TheVariants.{Tasks}
+use Rattle.ht_base.specs.declared.reply.Refusal.{Refusal}
+use Rattle.ht_base.specs.declared.reply.Refusal.TheVariants as refusal
+use Rattle.ht_base.specs.declared.reply.Unknown.TheVariants as unknown
+use Rattle.ht_base.specs.declared.sheet.Sheet.{Sheet as TaskSheet}
+use Rattle.ht_base.specs.State.{state_name}
+use Rattle.ht_api.specs.Contents.{moment_or_null, name_or_null, names, roles_data, row_object, states_data, task_or_null, whole}
+
+-- ---- refusals
+
+abbrev pub fault : List ℕ → List (List ℕ × Data) → Data
+fault name rest = row_object ((codes "fault", string name) ∷ rest)
+
+-- which names something
+abbrev pub named_fault : List ℕ → List ℕ → List ℕ → Data
+named_fault name key what = fault name ((key, string what) ∷ [])
+
+abbrev pub limit_name : Limit → List ℕ
+limit_name Tasks = codes "tasks"
+
+abbrev pub refusal_data : Refusal → Data
+refusal_data refusal.Head = fault (codes "Head") []
+refusal_data refusal.Fields = fault (codes "Fields") []
+refusal_data refusal.Coding = fault (codes "Coding") []
+refusal_data refusal.Body = fault (codes "Body") []
+refusal_data refusal.Route = fault (codes "Route") []
+refusal_data refusal.Method = fault (codes "Method") []
+refusal_data refusal.Json = fault (codes "Json") []
+refusal_data (refusal.Field key) = named_fault (codes "Field") (codes "field") key
+refusal_data refusal.Person = fault (codes "Person") []
+refusal_data (refusal.Task task) = fault (codes "Task") ((codes "task", whole task.0) ∷ [])
+refusal_data (refusal.Role needs) = fault (codes "Role") ((codes "needs", roles_data needs) ∷ [])
+refusal_data (refusal.State allowed state) =
+    row_object ((codes "allowed", states_data allowed) ∷ (codes "fault", string (codes "State")) ∷ (codes "state", string (state_name state)) ∷ [])
+refusal_data (refusal.Unknown (unknown.Model name)) = named_fault (codes "Unknown") (codes "model") name
+refusal_data (refusal.Unknown (unknown.Person name)) = named_fault (codes "Unknown") (codes "person") name
+refusal_data (refusal.PartRefused part) = named_fault (codes "PartRefused") (codes "part") part
+refusal_data refusal.Ownerless = fault (codes "Ownerless") []
+refusal_data refusal.ByGroup = fault (codes "ByGroup") []
+refusal_data (refusal.Excluded person) = named_fault (codes "Excluded") (codes "person") person
+refusal_data (refusal.NotDelegatee person) = named_fault (codes "NotDelegatee") (codes "person") person
+refusal_data refusal.NoOwners = fault (codes "NoOwners") []
+refusal_data (refusal.Limit limit) = named_fault (codes "Limit") (codes "limit") (limit_name limit)
+refusal_data refusal.Memory = fault (codes "Memory") []
+
+-- ---- the sheet, in three parts. A task has no comments, parts and sub tasks yet
+
+abbrev pub first_rows : TaskSheet → List (List ℕ × Data)
+first_rows s =
+    (codes "administrators", names s.administrators)
+    ∷ (codes "byGroup", boolean s.by_group)
+    ∷ (codes "comments", array no_items)
+    ∷ (codes "created", whole s.created.0)
+    ∷ (codes "excludedOwners", names s.excluded_owners)
+    ∷ (codes "fault", name_or_null s.fault)
+    ∷ (codes "initiator", string s.initiator)
+    ∷ []
+
+abbrev pub middle_rows : TaskSheet → List (List ℕ × Data)
+middle_rows s =
+    (codes "input", object no_members)
+    ∷ (codes "lastOwner", name_or_null s.last_owner)
+    ∷ (codes "model", string s.model)
+    ∷ (codes "output", object no_members)
+    ∷ (codes "owner", name_or_null s.owner)
+    ∷ (codes "parent", task_or_null s.parent)
+    ∷ (codes "potentialOwners", names s.potential_owners)
+    ∷ []
+
+abbrev pub last_rows : TaskSheet → List (List ℕ × Data)
+last_rows s =
+    (codes "priority", whole s.priority)
+    ∷ (codes "stakeholders", names s.stakeholders)
+    ∷ (codes "started", boolean s.started)
+    ∷ (codes "state", string (state_name s.state))
+    ∷ (codes "subs", array no_items)
+    ∷ (codes "task", whole s.task.0)
+    ∷ (codes "until", moment_or_null s.until)
+    ∷ (codes "waits", moment_or_null s.waits)
+    ∷ []
+
+unfoldable pub sheet_data : TaskSheet → Data
+sheet_data s = row_object (first_rows s ++ (middle_rows s ++ last_rows s))
+
+-- ---- answers
+
+abbrev pub answer_data : Answer → Data
+answer_data (Done task state owner) =
+    row_object ((codes "owner", name_or_null owner) ∷ (codes "state", string (state_name state)) ∷ (codes "task", whole task.0) ∷ [])
+answer_data (Sheet s) = sheet_data s
+answer_data (Refused why) = refusal_data why
+
+abbrev pub answer_text : Answer → List ℕ
+answer_text a = compact_text (answer_data a)
+
+-- the answer is a sheet
+abbrev pub IsSheet : Answer → Type 0
+IsSheet (Done task state owner) = ⊥
+IsSheet (Sheet s) = Unit {0}
+IsSheet (Refused why) = ⊥
+
+-- the name, if there is one, has at most 32 bytes
+abbrev pub IsShort : Option (List ℕ) → Type 0
+IsShort None = Unit {0}
+IsShort (Some name) = length name ≤ 32

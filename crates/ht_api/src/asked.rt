@@ -1,0 +1,39 @@
+ghost use Rattle.std.specs.Prelude.{◌≡◌};
+ghost use Rattle.ht_api.specs.Asked.{asked_in};
+
+/// What a request asks of a task, or of a new one.
+#[derive(Clone, Copy, Debug, PartialEq, Eq)]
+pub(crate) enum Asked {
+    Create,
+    Claim,
+    Start,
+    Stop,
+    Release,
+    Delegate,
+    Forward,
+    Nominate,
+    Activate,
+    SetRole,
+    SetPriority,
+}
+
+impl Asked {
+    /// The operation of this name on a task that is there.
+    pub(crate) fn named(name: &str) -> Option<Asked>
+        ensures { result ≡ asked_in name.now }
+    {
+        match name {
+            "claim" => Some(Asked::Claim),
+            "start" => Some(Asked::Start),
+            "stop" => Some(Asked::Stop),
+            "release" => Some(Asked::Release),
+            "delegate" => Some(Asked::Delegate),
+            "forward" => Some(Asked::Forward),
+            "nominate" => Some(Asked::Nominate),
+            "activate" => Some(Asked::Activate),
+            "setRole" => Some(Asked::SetRole),
+            "setPriority" => Some(Asked::SetPriority),
+            _ => None,
+        }
+    }
+}

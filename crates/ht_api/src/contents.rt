@@ -1,0 +1,143 @@
+ghost use Rattle.std.specs.Prelude.{◌≡◌, [], ◌∷◌, map, filter};
+ghost use Rattle.json.specs.Token.{begin_object, end_object};
+ghost use Rattle.serde_json.specs.Data.{array};
+ghost use Rattle.ht_base.specs.Role.{contains_role, role_name};
+ghost use Rattle.ht_base.specs.State.{contains_state, state_name};
+ghost use Rattle.ht_api.specs.Contents.{content_data, rows_of, texts};
+ghost use Rattle.ht_api.specs.Writing.{Puts, object_tokens, rows_then, tokens_of};
+
+use ht_base::{Memory, Moment, Name, Names, Role, Roles, State, StateSet, TaskId};
+use json::Writer;
+
+/// The value of a member of a reply.
+#[derive(Clone, Copy)]
+pub(crate) enum Content<'a> {
+    Name(Name),
+    MaybeName(Option<Name>),
+    Text(&'a str),
+    Number(u64),
+    MaybeTask(Option<TaskId>),
+    MaybeMoment(Option<Moment>),
+    State(State),
+    Truth(bool),
+    Names(&'a Names),
+    Roles(Roles),
+    States(StateSet),
+    NoItems,
+    NoMembers,
+}
+
+/// Writes an object with these members.
+pub(crate) fn put_short(members: &[(&str, Content<'_>)], writer: &mut Writer) -> Result<(), Memory>
+    ensures { Puts result writer.old writer.new (object_tokens (rows_of members.now)) }
+{
+    put_object(members, &[], &[], writer)
+}
+
+/// Writes an object whose members are given in three parts.
+pub(crate) fn put_object(
+    first: &[(&str, Content<'_>)],
+    middle: &[(&str, Content<'_>)],
+    last: &[(&str, Content<'_>)],
+    writer: &mut Writer,
+) -> Result<(), Memory>
+    ensures { Puts result writer.old writer.new (begin_object ∷ rows_then (rows_of first.now)
+        (rows_then (rows_of middle.now) (rows_then (rows_of last.now) (end_object ∷ [])))) }
+{
+    open_object(writer)?;
+    put_members(first, writer)?;
+    put_members(middle, writer)?;
+    put_members(last, writer)?;
+    close_object(writer)
+}
+
+fn open_object(writer: &mut Writer) -> Result<(), Memory>
+    ensures { Puts result writer.old writer.new (begin_object ∷ []) }
+{
+    writer.begin_object()?;
+    Ok(())
+}
+
+fn close_object(writer: &mut Writer) -> Result<(), Memory>
+    ensures { Puts result writer.old writer.new (end_object ∷ []) }
+{
+    writer.end_object()?;
+    Ok(())
+}
+
+fn put_members(members: &[(&str, Content<'_>)], writer: &mut Writer) -> Result<(), Memory>
+    ensures { Puts result writer.old writer.new (rows_then (rows_of members.now) []) }
+{
+    for (key, content) in members {
+        writer.key(key)?;
+        put_content(content, writer)?;
+    }
+    Ok(())
+}
+
+fn put_content(content: &Content<'_>, writer: &mut Writer) -> Result<(), Memory>
+    ensures { Puts result writer.old writer.new (tokens_of (content_data content.now)) }
+{
+    match content {
+        Content::Name(name) => writer.string(name.as_str())?,
+        Content::MaybeName(Some(name)) => writer.string(name.as_str())?,
+        Content::MaybeName(None) => writer.null()?,
+        Content::Text(text) => writer.string(text)?,
+        Content::Number(number) => writer.u64(*number)?,
+        Content::MaybeTask(Some(task)) => writer.u64(u64::from(task.0))?,
+        Content::MaybeTask(None) => writer.null()?,
+        Content::MaybeMoment(Some(moment)) => writer.u64(moment.0)?,
+        Content::MaybeMoment(None) => writer.null()?,
+        Content::State(state) => writer.string(state.name())?,
+        Content::Truth(truth) => writer.boolean(*truth)?,
+        Content::Names(names) => return put_names(names.as_slice(), writer),
+        Content::Roles(roles) => return put_roles(&Role::ALL, roles, writer),
+        Content::States(states) => return put_states(&State::ALL, states, writer),
+        Content::NoItems => {
+            writer.begin_array()?;
+            writer.end_array()?;
+        }
+        Content::NoMembers => {
+            writer.begin_object()?;
+            writer.end_object()?;
+        }
+    }
+    Ok(())
+}
+
+fn put_names(names: &[Name], writer: &mut Writer) -> Result<(), Memory>
+    ensures { Puts result writer.old writer.new (tokens_of (array (texts names.now))) }
+{
+    writer.begin_array()?;
+    for name in names {
+        writer.string(name.as_str())?;
+    }
+    writer.end_array()?;
+    Ok(())
+}
+
+fn put_roles(all: &[Role], set: &Roles, writer: &mut Writer) -> Result<(), Memory>
+    ensures { Puts result writer.old writer.new (tokens_of (array (texts (map role_name (filter (contains_role set.now) all.now))))) }
+{
+    writer.begin_array()?;
+    for role in all {
+        if set.contains(*role) {
+            writer.string(role.name())?;
+        }
+    }
+    writer.end_array()?;
+    Ok(())
+}
+
+fn put_states(all: &[State], set: &StateSet, writer: &mut Writer) -> Result<(), Memory>
+    ensures { Puts result writer.old writer.new (tokens_of (array (texts (map state_name (filter (contains_state set.now) all.now))))) }
+{
+    writer.begin_array()?;
+    for state in all {
+        if set.contains(*state) {
+            writer.string(state.name())?;
+        }
+    }
+    writer.end_array()?;
+    Ok(())
+}

@@ -1,0 +1,159 @@
+ghost use Rattle.std.specs.Prelude.{◌≡◌, IfOk};
+ghost use Rattle.serde_json.specs.View.{view, items_view, members_view};
+ghost use Rattle.ht_api.specs.Fits as spec;
+ghost use Rattle.ht_api.specs.Fits.{holds_name};
+
+use ht_base::{Memory, Name, Names, Parts, RoleList, Scalar, Txt};
+use serde_json::{Map, Value};
+use std::alloc::Global;
+
+/// The last priority.
+const LOWEST_PRIORITY: u64 = 10;
+
+/// The most persons of a body.
+const MOST_PERSONS: usize = 1024;
+
+/// The most parts of a body.
+const MOST_PARTS: usize = 8;
+
+/// The most bytes of a part's text.
+const MOST_TEXT: usize = 512;
+
+pub(crate) fn name_in(value: &Value) -> Option<Name>
+    ensures { result ≡ spec.name_in (view value.now) }
+{
+    let text = value.as_str()?;
+    Name::of(text.as_bytes())
+}
+
+pub(crate) fn role_in(value: &Value) -> Option<RoleList>
+    ensures { result ≡ spec.role_in (view value.now) }
+{
+    let text = value.as_str()?;
+    match text {
+        "potentialOwners" => Some(RoleList::PotentialOwners),
+        "excludedOwners" => Some(RoleList::ExcludedOwners),
+        "administrators" => Some(RoleList::Administrators),
+        "stakeholders" => Some(RoleList::Stakeholders),
+        _ => None,
+    }
+}
+
+pub(crate) fn priority_in(value: &Value) -> Option<u8>
+    ensures { result ≡ spec.priority_in (view value.now) }
+{
+    let number = value.as_u64()?;
+    if number > LOWEST_PRIORITY {
+        return None;
+    }
+    Some(number as u8)
+}
+
+pub(crate) fn owners_in(alloc: Global, value: &Value) -> Result<Option<Names>, Memory>
+    ensures { IfOk result (λ ns. ns ≡ spec.owners_in (view value.now)) }
+{
+    let Some(names) = persons_in(alloc, value)? else {
+        return Ok(None);
+    };
+    if names.as_slice().is_empty() {
+        return Ok(None);
+    }
+    Ok(Some(names))
+}
+
+pub(crate) fn persons_in(alloc: Global, value: &Value) -> Result<Option<Names>, Memory>
+    ensures { IfOk result (λ ns. ns ≡ spec.persons_in (view value.now)) }
+{
+    let Some(items) = value.as_array() else {
+        return Ok(None);
+    };
+    let Some(names) = names_of(alloc, items)? else {
+        return Ok(None);
+    };
+    if names.as_slice().len() > MOST_PERSONS || !are_distinct(names.as_slice()) {
+        return Ok(None);
+    }
+    Ok(Some(names))
+}
+
+#[tactic(auto, using(crate::proofs::Fitting::one_more, crate::proofs::Fitting::all_read))]
+fn names_of(alloc: Global, items: &[Value]) -> Result<Option<Names>, Memory>
+    ensures { IfOk result (λ ns. ns ≡ spec.names_of (items_view items.now)) }
+{
+    let mut names = Names::new(alloc);
+    for item in items {
+        let Some(name) = name_in(item) else {
+            return Ok(None);
+        };
+        names.push(name)?;
+    }
+    Ok(Some(names))
+}
+
+fn are_distinct(names: &[Name]) -> bool
+    ensures { result ≡ spec.are_distinct names.now }
+{
+    for (place, name) in names.iter().enumerate() {
+        if holds(&names[place + 1..], name) {
+            return false;
+        }
+    }
+    true
+}
+
+fn holds(names: &[Name], name: &Name) -> bool
+    ensures { result ≡ holds_name name.now names.now }
+{
+    names.iter().any(|other| *other == *name)
+}
+
+pub(crate) fn parts_in(alloc: Global, value: &Value) -> Result<Option<Parts>, Memory>
+    ensures { IfOk result (λ ps. ps ≡ spec.parts_in (view value.now)) }
+{
+    let Some(members) = value.as_object() else {
+        return Ok(None);
+    };
+    let Some(parts) = parts_of(alloc, members)? else {
+        return Ok(None);
+    };
+    if parts.as_slice().len() > MOST_PARTS {
+        return Ok(None);
+    }
+    Ok(Some(parts))
+}
+
+#[tactic(auto, using(crate::proofs::Fitting::one_more, crate::proofs::Fitting::all_read))]
+fn parts_of(alloc: Global, members: &Map<String, Value>) -> Result<Option<Parts>, Memory>
+    ensures { IfOk result (λ ps. ps ≡ spec.parts_of (members_view members.now.entries)) }
+{
+    let mut parts = Parts::new(alloc);
+    for (key, value) in members {
+        let Some(name) = Name::of(key.as_bytes()) else {
+            return Ok(None);
+        };
+        let Some(scalar) = scalar_in(alloc, value)? else {
+            return Ok(None);
+        };
+        parts.push(name, scalar)?;
+    }
+    Ok(Some(parts))
+}
+
+fn scalar_in(alloc: Global, value: &Value) -> Result<Option<Scalar>, Memory>
+    ensures { IfOk result (λ s. s ≡ spec.scalar_in (view value.now)) }
+{
+    match value {
+        Value::Bool(truth) => Ok(Some(Scalar::Truth(*truth))),
+        Value::Number(_) => match value.as_i64() {
+            Some(number) => Ok(Some(Scalar::Int(number))),
+            None => Ok(None),
+        },
+        Value::String(text) => {
+            if text.len() > MOST_TEXT {
+                return Ok(None);
+            }
+            Ok(Some(Scalar::Text(Txt::of(alloc, text.as_str())?)))
+        }
+        Value::Null | Value::Array(_) | Value::Object(_) => Ok(None),
+    }
+}

@@ -1,0 +1,28 @@
+//! The interface in JSON (RFC 8259): the event that a request is, and the text of each reply.
+#![tactic(auto)]
+
+mod asked;
+mod commands;
+mod contents;
+mod events;
+mod faults;
+mod fields;
+mod fits;
+mod keys;
+mod numbers;
+mod refusal;
+mod replies;
+mod routes;
+mod sheets;
+mod statuses;
+#[cfg(test)]
+mod tests;
+#[cfg(test)]
+mod tests_of_bodies;
+#[cfg(test)]
+mod tests_of_replies;
+
+pub use events::event_of;
+pub use refusal::{ApiRefusal, wire_refusal};
+pub use replies::text_of;
+pub use routes::Routes;

@@ -1,0 +1,85 @@
+ghost use Rattle.std.specs.Prelude.{◌≡◌, ◌+◌, ◌≤◌, [], length, IsOk, IfOk, OnOk, OnErr};
+ghost use Rattle.serde_json.specs.Written.{compact_text};
+ghost use Rattle.ht_base.specs.declared.reply.Answer.TheVariants.{Done};
+ghost use Rattle.ht_wire.specs.Replies.{IsReplyStatus};
+ghost use Rattle.ht_api.specs.Replies.{IsSheet, IsShort, answer_data, answer_text};
+ghost use Rattle.ht_api.specs.Statuses.{answer_status};
+ghost use Rattle.ht_api.specs.Writing.{Puts, tokens_of};
+
+use crate::contents::{Content, put_short};
+use crate::faults::put_refusal;
+use crate::sheets::put_sheet;
+use crate::statuses::status_of;
+use ht_base::{Answer, Bytes, Memory, Name, Reply, State, TaskId};
+use json::Writer;
+use std::alloc::Global;
+
+/// The status of a reply, 200 where a command was done. Its text is put in place of what `into` holds;
+/// after Memory `into` is empty. Where there is room for 1,024 bytes, only a sheet may want memory.
+pub fn text_of(alloc: Global, reply: &Reply, into: &mut Bytes) -> Result<u16, Memory>
+    ensures status { IfOk result (λ s. s ≡ answer_status reply.now.answer) }
+    ensures known { IfOk result IsReplyStatus }
+    ensures text { OnOk result (into.new.items ≡ answer_text reply.now.answer) }
+    ensures none { OnErr result (into.new.items ≡ []) }
+    ensures room { 1024 ≤ into.old.spare + length into.old.items → OnErr result (IsSheet reply.now.answer) }
+{
+    into.clear();
+    write(alloc, &reply.answer, into)?;
+    Ok(status_of(&reply.answer))
+}
+
+// Writes the text of an answer into an empty buffer.
+fn write(alloc: Global, answer: &Answer, into: &mut Bytes) -> Result<(), Memory>
+    requires { into.old.items ≡ [] }
+    ensures text { OnOk result (into.new.items ≡ answer_text answer.now) }
+    ensures none { OnErr result (into.new.items ≡ []) }
+    ensures room { 1024 ≤ into.old.spare → OnErr result (IsSheet answer.now) }
+{
+    let mut writer = Writer::new(into.lend(alloc));
+    let put = put_answer(answer, &mut writer);
+    into.give_back(writer.into_inner());
+    if put.is_err() {
+        into.clear();
+    }
+    put
+}
+
+fn put_answer(answer: &Answer, writer: &mut Writer) -> Result<(), Memory>
+    ensures puts { Puts result writer.old writer.new (tokens_of (answer_data answer.now)) }
+    ensures room { 1024 ≤ writer.old.spare → OnErr result (IsSheet answer.now) }
+{
+    match answer {
+        Answer::Done { task, state, owner } => put_done(*task, *state, owner, writer),
+        Answer::Sheet(sheet) => put_sheet(sheet, writer),
+        Answer::Refused(refusal) => put_refusal(refusal, writer),
+    }
+}
+
+fn put_done(
+    task: TaskId,
+    state: State,
+    owner: &Option<Name>,
+    writer: &mut Writer,
+) -> Result<(), Memory>
+    ensures puts { Puts result writer.old writer.new (tokens_of (answer_data (Done task state owner.now))) }
+    ensures room { 1024 ≤ writer.old.spare → IsOk result }
+{
+    told_short(owner);
+    put_short(
+        &[
+            ("owner", Content::MaybeName(*owner)),
+            ("state", Content::State(state)),
+            ("task", Content::Number(u64::from(task.0))),
+        ],
+        writer,
+    )
+}
+
+// A name has at most 32 bytes.
+fn told_short(name: &Option<Name>)
+    ensures { IsShort name.now }
+{
+    if let Some(name) = name {
+        let _ = name.as_bytes();
+    }
+}

@@ -1,0 +1,331 @@
+use crate::{ApiRefusal, Routes, event_of, wire_refusal};
+use ht_base::{
+    Bytes, Command, Event, LAST, Moment, Name, Names, Parts, Query, Refusal, RoleList, Scalar,
+    TaskId,
+};
+use ht_wire::Request;
+use http::Method;
+use itoa::Buffer;
+use std::alloc::Global;
+use std::process::Abort;
+use std::test::Fail;
+
+// A request of a person, or of nobody for `-`.
+fn request(
+    alloc: Global,
+    method: &str,
+    target: &str,
+    person: &str,
+    body: &[u8],
+) -> Result<Request, Fail> {
+    Ok(Request {
+        method: Method::from_bytes(alloc, method.as_bytes())?,
+        target: Bytes::of(alloc, target.as_bytes())?,
+        person: if person == "-" {
+            None
+        } else {
+            Name::of(person.as_bytes())
+        },
+        last: false,
+        body: Bytes::of(alloc, body)?,
+    })
+}
+
+/// What a request gives in words: the caller, the task and the command, or the refusal.
+pub(crate) fn told(alloc: Global, routes: &Routes, request: &Request) -> Result<String, Fail> {
+    let mut text = String::new(alloc);
+    match event_of(alloc, routes, request, Moment(LAST)) {
+        Ok(event) => put_event(&event, &mut text)?,
+        Err(refusal) => put_refusal(&refusal, &mut text)?,
+    }
+    Ok(text)
+}
+
+fn put_refusal(refusal: &ApiRefusal, text: &mut String) -> Result<(), Fail> {
+    match refusal {
+        ApiRefusal::Route => text.push_str("Route")?,
+        ApiRefusal::Method => text.push_str("Method")?,
+        ApiRefusal::Json => text.push_str("Json")?,
+        ApiRefusal::Field(key) => {
+            text.push_str("Field ")?;
+            text.push_str(key.as_str())?;
+        }
+        ApiRefusal::Person => text.push_str("Person")?,
+        ApiRefusal::Memory => text.push_str("Memory")?,
+    }
+    Ok(())
+}
+
+fn put_event(event: &Event, text: &mut String) -> Result<(), Fail> {
+    match event {
+        Event::Ask {
+            at,
+            caller,
+            task,
+            command,
+        } => {
+            if *at != Moment(LAST) {
+                text.push_str("early ")?;
+            }
+            put_caller(caller, *task, text)?;
+            put_command(command, text)
+        }
+        Event::Read {
+            caller,
+            query: Query::Sheet(task),
+        } => {
+            put_caller(caller, *task, text)?;
+            text.push_str(" sheet")?;
+            Ok(())
+        }
+    }
+}
+
+fn put_caller(caller: &Name, task: TaskId, text: &mut String) -> Result<(), Fail> {
+    text.push_str(caller.as_str())?;
+    text.push(' ')?;
+    text.push_str(Buffer::new().format(task.0))?;
+    Ok(())
+}
+
+fn put_command(command: &Command, text: &mut String) -> Result<(), Fail> {
+    match command {
+        Command::Create { model, input } => {
+            text.push_str(" create ")?;
+            match model {
+                Some(model) => text.push_str(model.as_str())?,
+                None => text.push('-')?,
+            }
+            return put_parts(input, text);
+        }
+        Command::Claim => text.push_str(" claim")?,
+        Command::Start => text.push_str(" start")?,
+        Command::Stop => text.push_str(" stop")?,
+        Command::Release => text.push_str(" release")?,
+        Command::Delegate { person } => {
+            text.push_str(" delegate ")?;
+            text.push_str(person.as_str())?;
+        }
+        Command::Forward { persons } => {
+            text.push_str(" forward")?;
+            return put_names(persons, text);
+        }
+        Command::Nominate { persons } => {
+            text.push_str(" nominate")?;
+            return put_names(persons, text);
+        }
+        Command::Activate => text.push_str(" activate")?,
+        Command::SetRole { role, persons } => {
+            text.push_str(role_text(*role))?;
+            return put_names(persons, text);
+        }
+        Command::SetPriority { priority } => {
+            text.push_str(" setPriority ")?;
+            text.push_str(Buffer::new().format(*priority))?;
+        }
+    }
+    Ok(())
+}
+
+fn role_text(role: RoleList) -> &'static str {
+    match role {
+        RoleList::PotentialOwners => " setRole potentialOwners",
+        RoleList::ExcludedOwners => " setRole excludedOwners",
+        RoleList::Administrators => " setRole administrators",
+        RoleList::Stakeholders => " setRole stakeholders",
+    }
+}
+
+fn put_names(names: &Names, text: &mut String) -> Result<(), Fail> {
+    for name in names.as_slice() {
+        text.push(' ')?;
+        text.push_str(name.as_str())?;
+    }
+    Ok(())
+}
+
+fn put_parts(parts: &Parts, text: &mut String) -> Result<(), Fail> {
+    for (name, scalar) in parts.as_slice() {
+        text.push(' ')?;
+        text.push_str(name.as_str())?;
+        match scalar {
+            Scalar::Text(value) => {
+                text.push_str("=text ")?;
+                text.push_str(value.as_str())?;
+            }
+            Scalar::Int(number) => {
+                text.push_str("=int ")?;
+                text.push_str(Buffer::new().format(*number))?;
+            }
+            Scalar::Truth(true) => text.push_str("=true")?,
+            Scalar::Truth(false) => text.push_str("=false")?,
+        }
+    }
+    Ok(())
+}
+
+/// The body of each line, asked at a target by anna, gives what stands behind it.
+pub(crate) fn are_told(
+    rt: &impl Abort,
+    alloc: Global,
+    target: &str,
+    lines: &str,
+) -> Result<(), Fail> {
+    let routes = Routes::new(alloc)?;
+    for line in lines.lines() {
+        let (body, want) = line.split_once(" => ").ok_or("a body and what it gives")?;
+        let request = request(alloc, "POST", target, "anna", body.as_bytes())?;
+        assert_eq!(rt; told(alloc, &routes, &request)?.as_str(), want, "{line}");
+    }
+    Ok(())
+}
+
+/// A body asked at a target by anna gives this.
+pub(crate) fn is_told(
+    rt: &impl Abort,
+    alloc: Global,
+    target: &str,
+    body: &[u8],
+    want: &str,
+) -> Result<(), Fail> {
+    let routes = Routes::new(alloc)?;
+    let request = request(alloc, "POST", target, "anna", body)?;
+    assert_eq!(rt; told(alloc, &routes, &request)?.as_str(), want);
+    Ok(())
+}
+
+// A method, a target, a person, and perhaps a body.
+const REQUESTS: &str = "\
+POST /tasks anna  => anna 0 create -
+PUT /tasks anna  => Method
+GET /tasks anna  => Method
+HEAD /tasks anna  => Method
+post /tasks anna  => Method
+GET /tasks/1 anna  => anna 1 sheet
+GET /tasks/1 anna { => anna 1 sheet
+GET /tasks/9 anna [] => anna 9 sheet
+GET /tasks/4294967295 anna  => anna 4294967295 sheet
+POST /tasks/1 anna  => Method
+HEAD /tasks/1 anna  => Method
+get /tasks/1 anna  => Method
+POST /tasks/1/claim anna  => anna 1 claim
+POST /tasks/4294967295/claim anna  => anna 4294967295 claim
+GET /tasks/1/claim anna  => Method
+Post /tasks/1/claim anna  => Method
+POST /tasks/1/start anna  => anna 1 start
+POST /tasks/1/stop anna  => anna 1 stop
+POST /tasks/1/release anna  => anna 1 release
+POST /tasks/1/activate anna  => anna 1 activate
+POST /tasks/12/delegate anna {\"person\":\"ben\"} => anna 12 delegate ben
+POST /tasks/12/setPriority anna {\"priority\":3} => anna 12 setPriority 3";
+
+const NO_PLACES: &str = "\
+/
+*
+tasks
+//tasks
+/tasks/
+/Tasks
+/tasks?a
+/tasks#a
+/tasks/%31
+/tasks/1?a
+/tasks/1#a
+/tasks/0
+/tasks/01
+/tasks/00
+/tasks/+1
+/tasks/-1
+/tasks/1.0
+/tasks/4294967296
+/tasks/42949672950
+/tasks/a
+/tasks/1/
+/tasks/1/create
+/tasks/1/get
+/tasks/1/suspend
+/tasks/1/Claim
+/tasks/1/claims
+/tasks/1/claim/
+/tasks/1/claim?a
+/tasks/0/claim
+/tasks/4294967296/claim
+/tasks//claim
+/tasks/1//claim
+/tasks/é
+/lists/any/live/0/10
+/notifications/0/10
+http://a/tasks
+/nowhere";
+
+fn are_requests_told(rt: &impl Abort, alloc: Global, lines: &str) -> Result<(), Fail> {
+    let routes = Routes::new(alloc)?;
+    for line in lines.lines() {
+        let (asked, want) = line
+            .split_once(" => ")
+            .ok_or("what is asked and what it gives")?;
+        let (method, rest) = asked.split_once(' ').ok_or("a method")?;
+        let (target, rest) = rest.split_once(' ').ok_or("a target")?;
+        let (person, body) = rest.split_once(' ').ok_or("a person")?;
+        let request = request(alloc, method, target, person, body.as_bytes())?;
+        assert_eq!(rt; told(alloc, &routes, &request)?.as_str(), want, "{line}");
+    }
+    Ok(())
+}
+
+#[test]
+fn requests_give_events_by_their_place(rt: HostRuntime) -> Result<(), Fail> {
+    are_requests_told(&rt, rt.alloc(), REQUESTS)
+}
+
+#[test]
+fn other_targets_have_no_place(rt: HostRuntime) -> Result<(), Fail> {
+    let routes = Routes::new(rt.alloc())?;
+    for target in NO_PLACES.lines() {
+        for method in ["GET", "POST", "PUT"] {
+            let request = request(rt.alloc(), method, target, "anna", b"")?;
+            assert_eq!(rt;
+                told(rt.alloc(), &routes, &request)?.as_str(),
+                "Route",
+                "{target}"
+            );
+        }
+    }
+    Ok(())
+}
+
+// Each has what is refused later too.
+const ORDER: &str = "\
+PUT /tasks/0 - { => Route
+POST /tasks/1/create - { => Route
+PUT /tasks - { => Method
+GET /tasks/1/claim - { => Method
+POST /tasks - { => Json
+POST /tasks/1/claim - { => Json
+POST /tasks - [] => Field body
+POST /tasks/1/claim - {\"a\":1} => Field body
+POST /tasks/1/delegate -  => Field person
+POST /tasks -  => Person
+POST /tasks/1/claim - {} => Person
+GET /tasks/1 - { => Person";
+
+#[test]
+fn the_first_refusal_is_told(rt: HostRuntime) -> Result<(), Fail> {
+    are_requests_told(&rt, rt.alloc(), ORDER)
+}
+
+#[test]
+fn refusals_are_told_in_replies(rt: HostRuntime) -> Result<(), Fail> {
+    let key = Name::of(b"persons").ok_or("a name")?;
+    assert_eq!(rt; Refusal::from(ApiRefusal::Route), Refusal::Route);
+    assert_eq!(rt; Refusal::from(ApiRefusal::Method), Refusal::Method);
+    assert_eq!(rt; Refusal::from(ApiRefusal::Json), Refusal::Json);
+    assert_eq!(rt; Refusal::from(ApiRefusal::Field(key)), Refusal::Field(key));
+    assert_eq!(rt; Refusal::from(ApiRefusal::Person), Refusal::Person);
+    assert_eq!(rt; Refusal::from(ApiRefusal::Memory), Refusal::Memory);
+    assert_eq!(rt; wire_refusal(431), Refusal::Fields);
+    assert_eq!(rt; wire_refusal(501), Refusal::Coding);
+    assert_eq!(rt; wire_refusal(413), Refusal::Body);
+    assert_eq!(rt; wire_refusal(400), Refusal::Head);
+    Ok(())
+}
