@@ -1,6 +1,8 @@
 -- One exchange, and none.
-use Rattle.std.proofs.Common.{◌≡◌, inl, inr, ⊎_elim, ℕ, ◌+◌, ◌<◌, arith, true, false, List, [], ◌∷◌, ◌++◌, refl, sym, ap, subst, ◌∙◌, append-nil, Option, Some, None, Ok, Err}
+use Rattle.std.proofs.Common.{◌≡◌, inl, inr, ⊎_elim, ℕ, ◌+◌, ◌<◌, arith, true, false, List, [], ◌∷◌, ◌++◌, refl, sym, ap, subst, ◌∙◌, append-nil, Option, Some, None, Result, Ok, Err}
+use Rattle.std.specs.Result.{IsErr}
 use Rattle.ht_base.specs.declared.event.Event.{Event}
+use Rattle.ht_base.specs.declared.reply.Refusal.{Refusal}
 use Rattle.ht_outside.specs.Tells.{Flow, SourceState, SinkState, Takes, Grows, GrowsPart}
 use Rattle.ht_base.specs.History.{Entry, end_of}
 use Rattle.ht_base.specs.declared.reply.Reply.{Reply}
@@ -16,29 +18,34 @@ use Rattle.ht_wire.proofs.PublicLaws.{reason_code, request_on, request_or_end, r
 use Rattle.ht_wire.specs.Requests.{IsRefusalCode, IsRequest, IsUnfinished}
 use Rattle.ht_program.specs.declared.ending.Ending.{Ending}
 use Rattle.ht_program.specs.declared.ending.Ending.TheVariants as ending
-use Rattle.ht_program.specs.declared.routing.ApiRefusal.{ApiRefusal}
+use Rattle.ht_api.specs.declared.refusal.ApiRefusal.{ApiRefusal}
+use Rattle.ht_api.specs.declared.refusal.ApiRefusal.TheVariants as refusal
 use Rattle.ht_program.specs.Answering.{Answers, Decides}
 use Rattle.ht_program.specs.Exchanges.{Exchange, refused, answered, not_shown, entry_of, replies, spelled, status_of}
-use Rattle.ht_program.specs.Routing.{IsEvent}
+use Rattle.ht_api.specs.Events.{event_due}
+use Rattle.ht_api.specs.Refusals.{Gives, refusal_of}
+use Rattle.ht_api.specs.Replies.{IsSheet, answer_text}
+use Rattle.ht_api.specs.Statuses.{refusal_status}
+use Rattle.ht_base.specs.declared.reply.Answer.TheVariants.{Refused}
 use Rattle.ht_program.specs.Running.{AreNotWhole, EndsAs, IsMoreAt, Ran, Serves, Streams, refusal_bytes, streams}
 use Rattle.ht_program.specs.Serving.{EndsFrom, Follows, FollowsAs, Goes}
 use Rattle.ht_program.proofs.Continuing.{ran}
-use Rattle.ht_program.specs.Texts.{IsSheet, answer_status, answer_text, api_status, api_text, memory_text}
+use Rattle.ht_program.specs.Texts.{memory_text, reply_status, status_or, text_or}
 
 -- what the machine answers is an outcome of the request
-pub answers_event : (t u : TablesOf) (r : Request) (m status : ℕ) (text : List ℕ) (e : Event) → IsEvent r m (Ok e) → Decides t u e status text → Answers t u r m status text
+pub answers_event : (t u : TablesOf) (r : Request) (m status : ℕ) (text : List ℕ) (e : Event) → Ok e ≡ event_due r m → Decides t u e status text → Answers t u r m status text
 answers_event t u r m status text e event d = ⊎_elim as_answered as_not_shown d.told
   where
     entry : Entry TablesOf Event Reply
     entry = record { pass = 0; event = e; reply = d.reply; after = u }
 
-    as_answered : (status ≡ answer_status e d.reply.answer) × (text ≡ answer_text d.reply.answer) → Answers t u r m status text
+    as_answered : (status ≡ reply_status e d.reply.answer) × (text ≡ answer_text d.reply.answer) → Answers t u r m status text
     as_answered told = record { outcome = answered entry; may = (event, refl); legal = (d.step, tt); ends = refl; status_is = told.0; text_is = told.1 }
 
     as_not_shown : IsSheet d.reply.answer × (status ≡ 500) × (text ≡ memory_text) → Answers t u r m status text
     as_not_shown told = record { outcome = not_shown entry; may = (event, refl, told.0); legal = (d.step, tt); ends = refl; status_is = told.1; text_is = told.2 }
 
-pub answers_refusal : (t : TablesOf) (r : Request) (m status : ℕ) (text : List ℕ) (why : ApiRefusal) → IsEvent r m (Err why) → status ≡ api_status why → text ≡ api_text why → Answers t t r m status text
+pub answers_refusal : (t : TablesOf) (r : Request) (m status : ℕ) (text : List ℕ) (why : ApiRefusal) → Gives (event_due r m) (Err why) → status ≡ refusal_status (refusal_of why) → text ≡ answer_text (Refused (refusal_of why)) → Answers t t r m status text
 answers_refusal t r m status text why event status_is text_is = record {
   outcome = refused why;
   may = event;
@@ -47,6 +54,19 @@ answers_refusal t r m status text why event status_is text_is = record {
   status_is = status_is;
   text_is = text_is;
 }
+
+-- and so is the text of its refusal
+pub answers_refused : {E : Type 0} (t : TablesOf) (r : Request) (m : ℕ) (result : Result ℕ E) (text : List ℕ) (why : ApiRefusal) (told : Refusal) → Gives (event_due r m) (Err why)
+    → told ≡ refusal_of why → result ≡ Ok (refusal_status told) → text ≡ answer_text (Refused told) → Answers t t r m (status_or result) (text_or result text)
+answers_refused t r m result text why told event told_is status_is text_is =
+    answers_refusal t r m (status_or result) (text_or result text) why event
+    (ap (λ x. status_or x) status_is ∙ ap refusal_status told_is)
+    (ap (λ x. text_or x text) status_is ∙ text_is ∙ ap (λ x. answer_text (Refused x)) told_is)
+
+-- there was no memory for the text of an answer
+pub answers_none : {E : Type 0} (t : TablesOf) (r : Request) (m : ℕ) (result : Result ℕ E) (text : List ℕ) → IsErr result → Answers t t r m (status_or result) (text_or result text)
+answers_none t r m (Ok status) text err = absurd (cc)
+answers_none t r m (Err e) text err = answers_refusal t r m 500 memory_text refusal.Memory tt refl refl
 
 no_request : (r : Request) (bytes : List ℕ) → IsUnfinished bytes → AreNotWhole (r ∷ []) bytes
 no_request r bytes none rest are = request_or_unfinished bytes r are.0 are.1 none

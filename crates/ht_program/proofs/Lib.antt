@@ -1,4 +1,3 @@
-mod Adding
 mod Complaining
 mod Continuing
 mod Exchanging
@@ -6,5 +5,4 @@ mod Grammar
 mod Inputs
 mod Opened
 mod Options
-mod Rest
 mod Statuses

@@ -2,6 +2,8 @@
 -- the check.
 use Rattle.std.specs.Prelude.{◌≡◌, refl, ℕ, List, [], ◌∷◌, ◌++◌, Some, None, codes}
 use Rattle.std.specs.Fmt.{digits}
+use Rattle.std.specs.Str.{chars, is_utf8}
+use Rattle.serde_json.proofs.OnLiterals.{serde_json_on_literals}
 use Rattle.std.proofs.Common.{lit≤, lit<, inl, inr, sym}
 use Rattle.std.proofs.lemmas.List.Elements.{All-nil}
 use Rattle.ht_base.specs.declared.event.Event.{Event}
@@ -17,8 +19,7 @@ use Rattle.ht_wire.specs.Heads.{IsLineByte}
 use Rattle.ht_wire.specs.Replies.{phrase_of, reply_head}
 use Rattle.ht_wire.proofs.PublicLaws.{request_or_end}
 use Rattle.ht_program.specs.declared.ending.Ending.TheVariants as ending
-use Rattle.ht_program.specs.declared.routing.ApiRefusal.TheVariants.{Person}
-use Rattle.ht_program.specs.declared.routing.Form.TheVariants as form
+use Rattle.ht_api.specs.declared.refusal.ApiRefusal.TheVariants.{Person}
 use Rattle.ht_program.specs.Exchanges.{Exchange, AreExchanges, answered, entries, refused, replies}
 use Rattle.ht_program.specs.Running.{Ran, Streams}
 use Rattle.ht_program.specs.Words.{moment_of}
@@ -42,7 +43,8 @@ a_legal_history : (t u : TablesOf) → IsStep t create created u → IsHistory t
 a_legal_history t u step = (step, tt)
 
 two_exchanges : (u : TablesOf) → AreExchanges (moment_of 1000 1000) 0 (exchanges u)
-two_exchanges u = (refl, (form.Create, (refl, refl), refl), (refl, ((form.Create, codes "p3", (refl, refl), refl, refl), refl), tt))
+unfolding chars is_utf8 digits serde_json_on_literals
+two_exchanges u = (refl, refl, (refl, (refl, refl), tt))
 
 -- ---- the run
 
@@ -52,7 +54,7 @@ bytes_out =
     ++ codes "HTTP/1.1 201 Created\r\ncontent-type: application/json\r\ncontent-length: 39\r\nconnection: close\r\n\r\n{\"owner\":null,\"state\":\"Ready\",\"task\":1}"
 
 the_bytes_out : (u : TablesOf) → replies (exchanges u) ≡ bytes_out
-unfolding reply_head phrase_of digits
+unfolding reply_head phrase_of digits serde_json_on_literals
 the_bytes_out u = refl
 
 -- the input had both requests, and one read took them

@@ -8,12 +8,17 @@ use Rattle.ht_machine.specs.History.{History}
 use Rattle.ht_tree.specs.Tables.{TablesOf}
 use Rattle.ht_wire.specs.declared.request.Request.{Request}
 use Rattle.ht_wire.specs.Replies.{reply_bytes}
-use Rattle.ht_program.specs.declared.routing.ApiRefusal.{ApiRefusal}
-use Rattle.ht_program.specs.Routing.{IsEvent}
-use Rattle.ht_program.specs.Texts.{IsSheet, answer_status, answer_text, api_status, api_text, memory_text}
+use Rattle.ht_api.specs.declared.refusal.ApiRefusal.{ApiRefusal}
+use Rattle.ht_api.specs.Events.{event_due}
+use Rattle.ht_api.specs.Refusals.{Gives, refusal_of}
+use Rattle.ht_api.specs.Replies.{IsSheet, answer_text}
+use Rattle.ht_api.specs.Statuses.{refusal_status}
+use Rattle.ht_base.specs.declared.reply.Answer.TheVariants.{Refused}
+use Rattle.ht_program.specs.Texts.{memory_text, reply_status}
 
--- What came of a request: it is refused, since it makes no event; its event is answered, which is an
--- entry of the history; or so it is, and the answer is a sheet for whose text there is no memory.
+-- What came of a request: it is refused, since it makes no event, or there is no memory for one; its
+-- event is answered, which is an entry of the history; or so it is, and the answer is a sheet for whose
+-- text there is no memory.
 pub data Outcome : Type 0 where
   refused : ApiRefusal → Outcome
   answered : Entry TablesOf Event Reply → Outcome
@@ -26,18 +31,18 @@ pub record Exchange : Type 0 where
 
 -- the outcome is one of the event that the request makes at that moment, in the one pass of a run
 abbrev pub IsOutcome : Request → ℕ → Outcome → Type 0
-IsOutcome r moment (refused why) = IsEvent r moment (Err why)
-IsOutcome r moment (answered e) = IsEvent r moment (Ok e.event) × (e.pass ≡ 0)
-IsOutcome r moment (not_shown e) = IsEvent r moment (Ok e.event) × (e.pass ≡ 0) × IsSheet e.reply.answer
+IsOutcome r moment (refused why) = Gives (event_due r moment) (Err why)
+IsOutcome r moment (answered e) = (Ok e.event ≡ event_due r moment) × (e.pass ≡ 0)
+IsOutcome r moment (not_shown e) = (Ok e.event ≡ event_due r moment) × (e.pass ≡ 0) × IsSheet e.reply.answer
 
 -- the status and the text of the reply
 abbrev pub status_of : Outcome → ℕ
-status_of (refused why) = api_status why
-status_of (answered e) = answer_status e.event e.reply.answer
+status_of (refused why) = refusal_status (refusal_of why)
+status_of (answered e) = reply_status e.event e.reply.answer
 status_of (not_shown e) = 500
 
 abbrev pub text_of : Outcome → List ℕ
-text_of (refused why) = api_text why
+text_of (refused why) = answer_text (Refused (refusal_of why))
 text_of (answered e) = answer_text e.reply.answer
 text_of (not_shown e) = memory_text
 

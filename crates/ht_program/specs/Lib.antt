@@ -1,4 +1,3 @@
-pub mod Adding
 pub mod Answering
 pub mod BuiltIn
 pub mod Examples
@@ -8,7 +7,6 @@ pub mod Inputs
 pub mod Named
 pub mod Office
 pub mod Opening
-pub mod Routing
 pub mod Running
 pub mod Serving
 pub mod Texts

@@ -1,21 +1,24 @@
-ghost use Rattle.std.specs.Prelude.{◌≡◌, ◌≢◌, ◌+◌, ◌<◌, ◌≤◌, [], length, Some, IfOk, MatchOption};
+ghost use Rattle.std.specs.Prelude.{◌≡◌, ◌≢◌, ◌+◌, ◌<◌, ◌≤◌, [], length, Ok, Some, IfOk, MatchOption};
 ghost use Rattle.ht_outside.specs.Causes.{HasCause, Rose};
 ghost use Rattle.ht_base.specs.Moment.{last_moment};
 ghost use Rattle.ht_base.specs.Events.{IsValid};
 ghost use Rattle.ht_wire.specs.Reading.{HasReadCause};
 ghost use Rattle.ht_wire.specs.Replies.{IsReplyStatus};
-ghost use Rattle.ht_program.specs.Answering.{Answers, Decides};
+ghost use Rattle.ht_base.specs.declared.reply.Answer.TheVariants.{Refused};
+ghost use Rattle.ht_api.specs.Replies.{answer_text};
+ghost use Rattle.ht_program.specs.Answering.{Answers, Decides, Replies};
 ghost use Rattle.ht_program.specs.Inputs.{budget};
 ghost use Rattle.ht_program.specs.Running.{Ran, streams};
 ghost use Rattle.ht_program.specs.Serving.{EndsFrom, Follows, Goes, HasCauses};
-ghost use Rattle.ht_program.specs.Texts.{memory_text};
+ghost use Rattle.ht_api.specs.Statuses.{answer_status, refusal_status};
+ghost use Rattle.ht_program.specs.Texts.{reply_status, status_or, text_or};
 ghost use Rattle.ht_program.specs.Words.{moment_of};
 
 use crate::ending::Ending;
-use crate::routing::event_of;
-use crate::texts::{MEMORY_TEXT, TEXT_ROOM, api_reply, put, refused_text, status_of, write_answer};
+use crate::texts::{TEXT_ROOM, memory_text, refused_text};
 use crate::words::Run;
-use ht_base::{Bytes, Event, Memory, Moment};
+use ht_api::{Routes, event_of, text_of};
+use ht_base::{Answer, Bytes, Command, Event, Memory, Moment, Refusal, Reply};
 use ht_machine::run_one;
 use ht_outside::{Failed, Sink, Source};
 use ht_tree::Tables;
@@ -25,11 +28,12 @@ use std::alloc::Global;
 /// The most requests that one run answers.
 const BUDGET: u64 = 1_048_576;
 
-/// What was read and not answered yet, and the text of the last reply.
+/// What was read and not answered yet, the text of the last reply, and the paths of the interface.
 #[derive(Drop)]
 struct Buffers {
     input: Buffer,
     text: Bytes,
+    routes: Routes,
 }
 
 /// Serves the connection over input and output, from these tables on.
@@ -59,12 +63,13 @@ pub(crate) fn serve<S: Source, K: Sink>(
 
 impl Buffers {
     fn new(alloc: Global) -> Result<Buffers, Memory>
-        ensures { IfOk result (λ b. (b.input ≡ []) × (1024 ≤ b.text.spare + length b.text.items)) }
+        ensures { IfOk result (λ b. b.input ≡ []) }
     {
-        let input = Buffer::new(alloc)?;
-        let mut text = Bytes::new(alloc);
-        text.reserve(TEXT_ROOM)?;
-        Ok(Buffers { input, text })
+        Ok(Buffers {
+            input: Buffer::new(alloc)?,
+            text: Bytes::new(alloc),
+            routes: Routes::new(alloc)?,
+        })
     }
 }
 
@@ -78,26 +83,18 @@ fn serve_next<S: Source, K: Sink>(
     output: &mut K,
     buffers: &mut Buffers,
 ) -> Option<Ending>
-    requires few { number < budget }
-    requires room { 1024 ≤ buffers.old.text.spare + length buffers.old.text.items }
+    requires { number < budget }
     ensures served { MatchOption result
         (Goes (moment_of run.now.from run.now.step) number (number + 1) tables.old.tables tables.new.tables
         (streams (S.source_state input.old) (K.sink_state output.old)) (streams (S.source_state input.new) (K.sink_state output.new)) buffers.old.input buffers.new.input)
         (EndsFrom (moment_of run.now.from run.now.step) budget number tables.old.tables
         (streams (S.source_state input.old) (K.sink_state output.old)) (streams (S.source_state input.new) (K.sink_state output.new)) buffers.old.input) }
     ensures causes { HasCauses (streams (S.source_state input.old) (K.sink_state output.old)) (streams (S.source_state input.new) (K.sink_state output.new)) result }
-    ensures room { 1024 ≤ buffers.new.text.spare + length buffers.new.text.items }
 {
     match next_request(alloc, input, &mut buffers.input) {
         Next::Request(request) => {
-            let status = answer(
-                alloc,
-                tables,
-                &request,
-                run.moment(number),
-                &mut buffers.text,
-            );
-            match write_reply(output, status, buffers.text.as_slice(), request.last) {
+            let at = run.moment(number);
+            match reply_to(alloc, tables, &request, at, output, buffers) {
                 Ok(()) => {
                     if request.last {
                         return Some(Ending::Done);
@@ -133,57 +130,103 @@ fn what_follows<S: Source>(alloc: Global, input: &mut S, buffer: &mut Buffer) ->
     }
 }
 
-// The status of the reply to a request, whose text is put in place of the last one.
-fn answer(
+// Answers a request, and writes the reply.
+fn reply_to<K: Sink>(
     alloc: Global,
     tables: &mut Tables,
     request: &Request,
     at: Moment,
+    output: &mut K,
+    buffers: &mut Buffers,
+) -> Result<(), Failed>
+    requires { at.0 ≤ last_moment }
+    ensures replied { Replies tables.old.tables tables.new.tables request.now at.0 (K.sink_state output.old).written (K.sink_state output.new).written result }
+    ensures cause { HasCause (K.sink_state output.old).faults (K.sink_state output.new).faults result }
+    ensures beside { K.beside_sink output.new ≡ K.beside_sink output.old }
+    ensures input { buffers.new.input ≡ buffers.old.input }
+{
+    let answered = answer(
+        alloc,
+        &buffers.routes,
+        tables,
+        request,
+        at,
+        &mut buffers.text,
+    );
+    let (status, text) = match answered {
+        Ok(status) => (status, buffers.text.as_slice()),
+        Err(Memory) => (500, memory_text()),
+    };
+    write_reply(output, status, text, request.last)
+}
+
+// The status of the reply to a request, whose text is put in place of the last one.
+fn answer(
+    alloc: Global,
+    routes: &Routes,
+    tables: &mut Tables,
+    request: &Request,
+    at: Moment,
     text: &mut Bytes,
-) -> u16
-    requires at { at.0 ≤ last_moment }
-    requires room { 1024 ≤ text.old.spare + length text.old.items }
-    ensures answers { Answers tables.old.tables tables.new.tables request.now at.0 result text.new.items }
-    ensures known { IsReplyStatus result }
-    ensures room { 1024 ≤ text.new.spare + length text.new.items }
+) -> Result<u16, Memory>
+    requires { at.0 ≤ last_moment }
+    ensures answers { Answers tables.old.tables tables.new.tables request.now at.0 (status_or result) (text_or result text.new.items) }
+    ensures known { IfOk result IsReplyStatus }
 {
     text.clear();
-    match event_of(alloc, request, at) {
+    text.reserve(TEXT_ROOM)?;
+    match event_of(alloc, routes, request, at) {
         Ok(event) => decide_into(alloc, tables, &event, text),
-        Err(refusal) => {
-            let (status, bytes) = api_reply(refusal);
-            put(bytes, text);
-            status
-        }
+        Err(why) => refuse_into(alloc, why.into(), text),
     }
 }
 
-// The status of the reply to an event, whose text is put into the empty buffer.
-fn decide_into(alloc: Global, tables: &mut Tables, event: &Event, text: &mut Bytes) -> u16
+// The status of the reply to an event, whose text is put into the buffer.
+fn decide_into(
+    alloc: Global,
+    tables: &mut Tables,
+    event: &Event,
+    text: &mut Bytes,
+) -> Result<u16, Memory>
     requires valid { IsValid event.now }
-    requires empty { text.old.items ≡ [] }
-    requires room { 1024 ≤ text.old.spare }
-    ensures decides { Decides tables.old.tables tables.new.tables event.now result text.new.items }
-    ensures known { IsReplyStatus result }
-    ensures room { 1024 ≤ text.new.spare + length text.new.items }
+    requires room { 1024 ≤ text.old.spare + length text.old.items }
+    ensures decides { Decides tables.old.tables tables.new.tables event.now (status_or result) (text_or result text.new.items) }
+    ensures known { IfOk result IsReplyStatus }
 {
-    match run_one(alloc, tables, event) {
-        Ok(reply) => match write_answer(&reply.answer, text) {
-            Ok(()) => status_of(event, &reply.answer),
-            Err(Memory) => no_memory(text),
-        },
-        Err(Memory) => no_memory(text),
-    }
+    let reply = run_one(alloc, tables, event)?;
+    let status = text_of(alloc, &reply, text)?;
+    Ok(status_for(event, &reply.answer, status))
 }
 
-// The status of the reply where there is no memory, whose text is put in place of what is there.
-fn no_memory(text: &mut Bytes) -> u16
+// The same of a request that makes no event.
+fn refuse_into(alloc: Global, refusal: Refusal, text: &mut Bytes) -> Result<u16, Memory>
     requires { 1024 ≤ text.old.spare + length text.old.items }
-    ensures status { result ≡ 500 }
-    ensures text { text.new.items ≡ memory_text }
-    ensures room { 1024 ≤ text.new.spare + length text.new.items }
+    ensures status { result ≡ Ok (refusal_status refusal) }
+    ensures text { text.new.items ≡ answer_text (Refused refusal) }
+    ensures known { IfOk result IsReplyStatus }
 {
-    text.clear();
-    put(MEMORY_TEXT, text);
-    500
+    let reply = Reply {
+        taken: 0,
+        answer: Answer::Refused(refusal),
+    };
+    text_of(alloc, &reply, text)
+}
+
+// 201 in place of 200 where a task was created.
+fn status_for(event: &Event, answer: &Answer, status: u16) -> u16
+    requires status { status ≡ answer_status answer.now }
+    requires known { IsReplyStatus status }
+    ensures status { result ≡ reply_status event.now answer.now }
+    ensures known { IsReplyStatus result }
+{
+    match (event, answer) {
+        (
+            Event::Ask {
+                command: Command::Create { .. },
+                ..
+            },
+            Answer::Done { .. },
+        ) => 201,
+        _ => status,
+    }
 }

@@ -1,17 +1,15 @@
 //! `office`: a task server. Here are the words of the command line, the loop over one connection,
-//! and the top call. Which event a request is and the text of its answer stand here until they
-//! have a crate of their own.
+//! and the top call.
 #![tactic(auto)]
 
 mod connection;
 mod ending;
 mod fault_lines;
-mod listing;
 mod numbers;
 mod office_tables;
 mod opening;
-mod routing;
-mod sheet_text;
+#[cfg(test)]
+mod request_tests;
 mod status;
 #[cfg(test)]
 mod tests;

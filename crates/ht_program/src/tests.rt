@@ -1,17 +1,17 @@
 use crate::{Status, office};
 use ht_base::{Bytes, Txt};
 use ht_outside::{MemorySink, MemorySource, MemoryTexts};
-use ht_samples::PEOPLE;
+use ht_samples::{MODELS, PEOPLE};
 use std::alloc::Global;
 use std::process::Abort;
 use std::test::Fail;
 
 // What a run of the program leaves.
 #[derive(Drop)]
-struct Ran {
-    status: Status,
-    output: MemorySink,
-    complaints: MemorySink,
+pub(crate) struct Ran {
+    pub status: Status,
+    pub output: MemorySink,
+    pub complaints: MemorySink,
     left: usize,
 }
 
@@ -80,12 +80,12 @@ fn run_with(
     run_office(alloc, line, &NO_TEXTS, input, reads, writes)
 }
 
-fn run(alloc: Global, input: &str) -> Result<Ran, Fail> {
+pub(crate) fn run(alloc: Global, input: &str) -> Result<Ran, Fail> {
     run_with(alloc, "run --from 1000 --step 1000", input, &[], &[])
 }
 
 // The bytes of a reply with this status line and this text.
-fn reply(alloc: Global, line: &str, text: &str, close: bool) -> Result<String, Fail> {
+pub(crate) fn reply(alloc: Global, line: &str, text: &str, close: bool) -> Result<String, Fail> {
     let closing = if close { "connection: close\r\n" } else { "" };
     let length = text.len();
     let head = format!(in alloc; "HTTP/1.1 {line}\r\ncontent-type: application/json\r\n")?;
@@ -123,167 +123,21 @@ fn a_task_is_created_claimed_and_shown(rt: HostRuntime) -> Result<(), Fail> {
     Ok(())
 }
 
-// The head in each line, with `|` for the end of a line, is answered so.
-fn are_answered(
-    rt: &impl Abort,
-    alloc: Global,
-    heads: &str,
-    line: &str,
-    text: &str,
-    close: bool,
-) -> Result<(), Fail> {
-    let want = reply(alloc, line, text, close)?;
-    for head in heads.lines() {
-        let lines = head.replace(alloc, "|", "\r\n")?;
-        let input = format!(in alloc; "{lines}\r\n\r\n")?;
-        let ran = run(alloc, input.as_str())?;
-        assert_eq!(rt; ran.status, Status(0), "{head:?}");
-        assert_eq!(rt; ran.output.written(), want.as_bytes(), "{head:?}");
-    }
-    Ok(())
-}
-
-const UNKNOWN_PERSONS: &str = "\
-POST /tasks HTTP/1.1
-POST /tasks HTTP/1.1|x-person: p16
-POST /tasks HTTP/1.1|x-person: a b
-POST /tasks HTTP/1.1|x-person: p1|x-person: p1
-GET /tasks/1 HTTP/1.1|x-person: anna
-GET /tasks/1 HTTP/1.1";
-
-const UNKNOWN_ROUTES: &str = "\
-POST /tasks/ HTTP/1.1|x-person: p1
-post /tasks HTTP/1.1|x-person: p1
-GET /tasks HTTP/1.1|x-person: p1
-GET /tasks/ HTTP/1.1|x-person: p1
-GET /tasks/0 HTTP/1.1|x-person: p1
-GET /tasks/01 HTTP/1.1|x-person: p1
-GET /tasks/+1 HTTP/1.1|x-person: p1
-GET /tasks/4294967296 HTTP/1.1|x-person: p1
-GET /tasks/1/claim HTTP/1.1|x-person: p1
-POST /tasks/1 HTTP/1.1|x-person: p1
-POST /tasks/1/claim/ HTTP/1.1|x-person: p1
-POST /tasks//claim HTTP/1.1|x-person: p1
-POST /tasks/1/start HTTP/1.1|x-person: p1";
-
 #[test]
-fn requests_are_answered_by_their_form(rt: HostRuntime) -> Result<(), Fail> {
-    let ready = "{\"owner\":null,\"state\":\"Ready\",\"task\":1}";
-    let route = "{\"fault\":\"Route\"}";
-    let person = "{\"fault\":\"Person\"}";
-    let task = "{\"fault\":\"Task\",\"task\":1}";
-    are_answered(
-        &rt,
-        rt.alloc(),
-        "POST /tasks HTTP/1.1|X-PERSON: p15",
-        "201 Created",
-        ready,
-        false,
-    )?;
-    are_answered(
-        &rt,
-        rt.alloc(),
-        "POST /tasks HTTP/1.0|x-person: p0",
-        "201 Created",
-        ready,
-        true,
-    )?;
-    are_answered(
-        &rt,
-        rt.alloc(),
-        UNKNOWN_PERSONS,
-        "401 Unauthorized",
-        person,
-        false,
-    )?;
-    are_answered(
-        &rt,
-        rt.alloc(),
-        "POST /tasks/1/claim HTTP/1.1|x-person: p1",
-        "404 Not Found",
-        task,
-        false,
-    )?;
-    are_answered(
-        &rt,
-        rt.alloc(),
-        "GET /tasks/1 HTTP/1.1|x-person: p1",
-        "404 Not Found",
-        task,
-        false,
-    )?;
-    are_answered(
-        &rt,
-        rt.alloc(),
-        UNKNOWN_ROUTES,
-        "404 Not Found",
-        route,
-        false,
-    )?;
-    are_answered(
-        &rt,
-        rt.alloc(),
-        "GET / HTTP/1.1|connection: close",
-        "404 Not Found",
-        route,
-        true,
-    )?;
-    Ok(())
-}
-
-#[test]
-fn an_input_that_is_no_request_is_refused(rt: HostRuntime) -> Result<(), Fail> {
-    let head = ("400 Bad Request", "Head", "wire: 400\n");
-    let fields = (
-        "431 Request Header Fields Too Large",
-        "Fields",
-        "wire: 431\n",
-    );
-    let body = ("413 Payload Too Large", "Body", "wire: 413\n");
-    let coding = ("501 Not Implemented", "Coding", "wire: 501\n");
-    let begin = "POST /tasks HTTP/1.1\r\n";
-    let many = "a: b\r\n".repeat(rt.alloc(), 65)?;
-    let long = "x".repeat(rt.alloc(), 16_385 - begin.len() - 7)?;
-    let many = format!(in rt.alloc(); "{begin}{many}\r\n")?;
-    let long = format!(in rt.alloc(); "{begin}a: {long}\r\n\r\n")?;
-    assert_eq!(rt; long.len(), 16_385);
-    let table = [
-        ("POST", head),
-        ("POST /tasks HTTP/1.1\r\nx-person: p0\r\n\r", head),
-        ("?? /tasks\r\n\r\n", head),
-        ("POST /tasks HTTP/1.1\r\nContent-Length: 3\r\n\r\n{}", head),
-        ("POST / HTTP/1.1\r\nContent-Length: 1048577\r\n\r\n", body),
-        (
-            "POST /tasks HTTP/1.1\r\nTransfer-Encoding: chunked\r\n\r\n",
-            coding,
-        ),
-        (many.as_str(), fields),
-        (long.as_str(), fields),
-    ];
-    for (input, (line, fault, complaint)) in table {
-        let ran = run(rt.alloc(), input)?;
-        let text = format!(in rt.alloc(); "{{\"fault\":\"{fault}\"}}")?;
-        let want = reply(rt.alloc(), line, text.as_str(), true)?;
-        assert_eq!(rt; ran.status, Status(1), "{input:?}");
-        assert_eq!(rt; ran.output.written(), want.as_bytes(), "{input:?}");
-        assert_eq!(rt; ran.complaints.written(), complaint.as_bytes());
-    }
-    Ok(())
-}
-
-#[test]
-fn a_body_is_read_over(rt: HostRuntime) -> Result<(), Fail> {
-    let request = "POST /tasks HTTP/1.1\r\nHost: localhost:8080\r\nUser-Agent: curl/8.5.0\r\n\
-        Accept: */*\r\nx-person: p3\r\nContent-Type: application/json\r\nContent-Length: 16\r\n\r\n\
+fn a_task_is_created_by_json(rt: HostRuntime) -> Result<(), Fail> {
+    let input = "POST /tasks HTTP/1.1\r\nHost: localhost:8080\r\nUser-Agent: curl/8.5.0\r\n\
+        Accept: */*\r\nx-person: dan\r\nContent-Type: application/json\r\nContent-Length: 16\r\n\r\n\
         {\"model\":\"unit\"}";
-    let input = format!(in rt.alloc(); "{request}{CLAIM}")?;
-    let ran = run(rt.alloc(), input.as_str())?;
+    let office = Office {
+        texts: &[("m", MODELS), ("p", PEOPLE)],
+        failing: &[],
+    };
+    let line = "run --from 0 --step 0 --models m --people p";
+    let ran = run_office(rt.alloc(), line, &office, input, &[], &[])?;
+    let want =
+        "HTTP/1.1 201 Created\r\ncontent-type: application/json\r\ncontent-length: 39\r\n\r\n\
+        {\"owner\":null,\"state\":\"Ready\",\"task\":1}";
     assert_eq!(rt; ran.status, Status(0));
-    let created = "{\"owner\":null,\"state\":\"Ready\",\"task\":1}";
-    let created = reply(rt.alloc(), "201 Created", created, false)?;
-    let claimed = "{\"owner\":\"p0\",\"state\":\"Reserved\",\"task\":1}";
-    let claimed = reply(rt.alloc(), "200 OK", claimed, false)?;
-    let want = format!(in rt.alloc(); "{created}{claimed}")?;
     assert_eq!(rt; ran.output.written(), want.as_bytes());
     Ok(())
 }

@@ -9,8 +9,7 @@ returns-in_default-clause-ran g c = not_begun _ _ _ _ _
 
 pub loop-number-init : goal.loop-number-init
 loop-number-init g c = record {
-  goes = begun _ _ _ _ _ _ refl c.in-Ok.ensures.0;
-  room = c.in-Ok.ensures.1;
+  goes = begun _ _ _ _ _ _ refl c.in-Ok.ensures;
   read = omega arith;
   write = omega arith;
 }
@@ -21,7 +20,6 @@ returns-in-Some-clause-ran g c = ran _ _ _ _ _ _ (goes_ends _ _ _ _ _ _ _ _ _ _ 
 pub loop-number-preserved : goal.loop-number-preserved
 loop-number-preserved g c = record {
   goes = goes_on _ _ _ _ _ _ _ _ _ _ c.loop-number.invariant.goes _ _ _ c.in_default-served.ensures.served;
-  room = c.serve_next-served.ensures.room;
   read = omega (arith, c.loop-number.invariant.read, c.serve_next-served.ensures.causes.read_later);
   write = omega (arith, c.loop-number.invariant.write, c.serve_next-served.ensures.causes.write_later);
 }

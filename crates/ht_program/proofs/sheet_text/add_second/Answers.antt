@@ -1,5 +1,0 @@
-use Rattle.ht_program.proofs.Adding.{first_added, more_added, last_added}
-use Rattle.ht_program.proofs.sheet_text.add_second.Goals as goal
-
-pub returns : goal.returns
-returns c = last_added _ _ _ _ _ _ (more_added _ _ _ _ _ _ (more_added _ _ _ _ _ _ (more_added _ _ _ _ _ _ (first_added _ _ _ _ c.in_ok-add_name_or_null.ensures) c.in_ok-add_name.ensures) c.in_ok-add_name_or_null-2.ensures) c.in_ok-add_task_or_null.ensures) c.add_names.ensures
