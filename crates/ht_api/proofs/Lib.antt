@@ -4,6 +4,7 @@ mod Going
 mod JsonIn
 mod KeysAscend
 mod Numerals
+pub mod PublicLaws
 mod Required
 mod Room
 mod Routing

@@ -1,9 +1,12 @@
 -- The members of a reply as JSON.
-use Rattle.std.specs.Prelude.{ℕ, List, [], ◌∷◌, map, filter, Option, Some, None}
+use Rattle.std.specs.Prelude.{ℕ, ℤ, pos, negsuc, List, [], ◌∷◌, map, filter, Option, Some, None}
 use Rattle.std.specs.Borrow.{Bor}
-use Rattle.serde_json.specs.Data.{Data, null, boolean, number, string, array, object, unsigned, Items, no_items, item, Members, no_members, member}
+use Rattle.serde_json.specs.Data.{Data, null, boolean, number, string, array, object, unsigned, negative, Items, no_items, item, Members, no_members, member}
 use Rattle.ht_base.specs.declared.moment.Moment.{Moment}
+use Rattle.ht_base.specs.declared.parts.Parts.{Parts}
 use Rattle.ht_base.specs.declared.role.Roles.{Roles}
+use Rattle.ht_base.specs.declared.scalar.Scalar.{Scalar}
+use Rattle.ht_base.specs.declared.scalar.Scalar.TheVariants as scalar
 use Rattle.ht_base.specs.declared.state.StateSet.{StateSet}
 use Rattle.ht_base.specs.declared.task_id.TaskId.{TaskId}
 use Rattle.ht_base.specs.Role.{all_roles, contains_role, role_name}
@@ -49,6 +52,19 @@ members (r ∷ rs) = member r.0 r.1 (members rs)
 abbrev pub row_object : List (List ℕ × Data) → Data
 row_object rs = object (members rs)
 
+abbrev pub integer : ℤ → Data
+integer (pos n) = whole n
+integer (negsuc n) = number (negative (negsuc n))
+
+abbrev pub scalar_data : Scalar → Data
+scalar_data (scalar.Text text) = string text
+scalar_data (scalar.Int n) = integer n
+scalar_data (scalar.Truth b) = boolean b
+
+-- the parts that have a value, by their names
+abbrev pub part_rows : Parts → List (List ℕ × Data)
+part_rows parts = map (λ p. (p.0, scalar_data p.1)) parts
+
 -- ---- as the code has them
 
 abbrev pub content_data : Content → Data
@@ -61,10 +77,10 @@ content_data (content.MaybeMoment moment) = moment_or_null moment
 content_data (content.State state) = string (state_name state)
 content_data (content.Truth b) = boolean b
 content_data (content.Names ns) = names ns.now
+content_data (content.Parts parts) = row_object (part_rows parts.now)
 content_data (content.Roles roles) = roles_data roles
 content_data (content.States states) = states_data states
 content_data content.NoItems = array no_items
-content_data content.NoMembers = object no_members
 
 abbrev pub rows_of : List (Bor (List ℕ) × Content) → List (List ℕ × Data)
 rows_of [] = []

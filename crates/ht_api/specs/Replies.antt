@@ -1,6 +1,6 @@
 -- The JSON of each answer (RFC 8259), whose text has no space and the keys in byte order.
 use Rattle.std.specs.Prelude.{ℕ, ◌≤◌, List, [], ◌∷◌, ◌++◌, length, Option, Some, None, codes}
-use Rattle.serde_json.specs.Data.{Data, boolean, string, array, object, no_items, no_members}
+use Rattle.serde_json.specs.Data.{Data, boolean, string, array, no_items}
 use Rattle.serde_json.specs.Written.{compact_text}
 use Rattle.ht_base.specs.declared.reply.Answer.{Answer}
 use Rattle.ht_base.specs.declared.reply.Answer.TheVariants.{Done, Sheet, Refused}
@@ -11,7 +11,7 @@ use Rattle.ht_base.specs.declared.reply.Refusal.TheVariants as refusal
 use Rattle.ht_base.specs.declared.reply.Unknown.TheVariants as unknown
 use Rattle.ht_base.specs.declared.sheet.Sheet.{Sheet as TaskSheet}
 use Rattle.ht_base.specs.State.{state_name}
-use Rattle.ht_api.specs.Contents.{moment_or_null, name_or_null, names, roles_data, row_object, states_data, task_or_null, whole}
+use Rattle.ht_api.specs.Contents.{moment_or_null, name_or_null, names, part_rows, roles_data, row_object, states_data, task_or_null, whole}
 
 -- ---- refusals
 
@@ -50,7 +50,7 @@ refusal_data refusal.NoOwners = fault (codes "NoOwners") []
 refusal_data (refusal.Limit limit) = named_fault (codes "Limit") (codes "limit") (limit_name limit)
 refusal_data refusal.Memory = fault (codes "Memory") []
 
--- ---- the sheet, in three parts. A task has no comments, parts and sub tasks yet
+-- ---- the sheet, in three parts, without comments and sub tasks
 
 abbrev pub first_rows : TaskSheet → List (List ℕ × Data)
 first_rows s =
@@ -65,10 +65,10 @@ first_rows s =
 
 abbrev pub middle_rows : TaskSheet → List (List ℕ × Data)
 middle_rows s =
-    (codes "input", object no_members)
+    (codes "input", row_object (part_rows s.input))
     ∷ (codes "lastOwner", name_or_null s.last_owner)
     ∷ (codes "model", string s.model)
-    ∷ (codes "output", object no_members)
+    ∷ (codes "output", row_object (part_rows s.output))
     ∷ (codes "owner", name_or_null s.owner)
     ∷ (codes "parent", task_or_null s.parent)
     ∷ (codes "potentialOwners", names s.potential_owners)

@@ -3,10 +3,10 @@ ghost use Rattle.json.specs.Token.{begin_object, end_object};
 ghost use Rattle.serde_json.specs.Data.{array};
 ghost use Rattle.ht_base.specs.Role.{contains_role, role_name};
 ghost use Rattle.ht_base.specs.State.{contains_state, state_name};
-ghost use Rattle.ht_api.specs.Contents.{content_data, rows_of, texts};
+ghost use Rattle.ht_api.specs.Contents.{content_data, part_rows, row_object, rows_of, scalar_data, texts};
 ghost use Rattle.ht_api.specs.Writing.{Puts, object_tokens, rows_then, tokens_of};
 
-use ht_base::{Memory, Moment, Name, Names, Role, Roles, State, StateSet, TaskId};
+use ht_base::{Memory, Moment, Name, Names, Parts, Role, Roles, Scalar, State, StateSet, TaskId};
 use json::Writer;
 
 /// The value of a member of a reply.
@@ -21,10 +21,10 @@ pub(crate) enum Content<'a> {
     State(State),
     Truth(bool),
     Names(&'a Names),
+    Parts(&'a Parts),
     Roles(Roles),
     States(StateSet),
     NoItems,
-    NoMembers,
 }
 
 /// Writes an object with these members.
@@ -91,15 +91,12 @@ fn put_content(content: &Content<'_>, writer: &mut Writer) -> Result<(), Memory>
         Content::State(state) => writer.string(state.name())?,
         Content::Truth(truth) => writer.boolean(*truth)?,
         Content::Names(names) => return put_names(names.as_slice(), writer),
+        Content::Parts(parts) => return put_parts(parts.as_slice(), writer),
         Content::Roles(roles) => return put_roles(&Role::ALL, roles, writer),
         Content::States(states) => return put_states(&State::ALL, states, writer),
         Content::NoItems => {
             writer.begin_array()?;
             writer.end_array()?;
-        }
-        Content::NoMembers => {
-            writer.begin_object()?;
-            writer.end_object()?;
         }
     }
     Ok(())
@@ -113,6 +110,35 @@ fn put_names(names: &[Name], writer: &mut Writer) -> Result<(), Memory>
         writer.string(name.as_str())?;
     }
     writer.end_array()?;
+    Ok(())
+}
+
+fn put_parts(parts: &[(Name, Scalar)], writer: &mut Writer) -> Result<(), Memory>
+    ensures { Puts result writer.old writer.new (tokens_of (row_object (part_rows parts.now))) }
+{
+    open_object(writer)?;
+    put_part_members(parts, writer)?;
+    close_object(writer)
+}
+
+fn put_part_members(parts: &[(Name, Scalar)], writer: &mut Writer) -> Result<(), Memory>
+    ensures { Puts result writer.old writer.new (rows_then (part_rows parts.now) []) }
+{
+    for (name, scalar) in parts {
+        writer.key(name.as_str())?;
+        put_scalar(scalar, writer)?;
+    }
+    Ok(())
+}
+
+fn put_scalar(scalar: &Scalar, writer: &mut Writer) -> Result<(), Memory>
+    ensures { Puts result writer.old writer.new (tokens_of (scalar_data scalar.now)) }
+{
+    match scalar {
+        Scalar::Text(text) => writer.string(text.as_str())?,
+        Scalar::Int(number) => writer.i64(*number)?,
+        Scalar::Truth(truth) => writer.boolean(*truth)?,
+    }
     Ok(())
 }
 

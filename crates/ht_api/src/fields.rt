@@ -1,4 +1,5 @@
-ghost use Rattle.std.specs.Prelude.{◌≡◌, IfOk, IfErr, Some};
+ghost use Rattle.std.specs.Prelude.{◌≡◌, ◌==◌, false, length, IfOk, IfErr, IsTrue, Some};
+ghost use Rattle.serde_json.specs.Data.{object, no_members};
 ghost use Rattle.serde_json.specs.Find.{as_object};
 ghost use Rattle.serde_json.specs.View.{view, members_view};
 ghost use Rattle.ht_api.specs.Bodies.{HasNoValue, json_in};
@@ -90,7 +91,7 @@ fn value_of(alloc: Global, body: &[u8]) -> Result<Value, ApiRefusal>
     ensures ok { IfOk result (λ v. json_in body.now ≡ Some (view v)) }
     ensures err { IfErr result (HasNoValue body.now) }
 {
-    if body.is_empty() {
+    if is_bare(body) {
         return Ok(Value::Object(Map::new(alloc)));
     }
     match Value::from_slice(alloc, body) {
@@ -102,6 +103,15 @@ fn value_of(alloc: Global, body: &[u8]) -> Result<Value, ApiRefusal>
             Err(ApiRefusal::Json)
         }
     }
+}
+
+// Whether the body has no keys, which most operations ask for. The reader, which first clears an
+// index of 16 KiB, isn't needed for it.
+fn is_bare(body: &[u8]) -> bool
+    ensures bare { IsTrue result → json_in body.now ≡ Some (object no_members) }
+    ensures empty { result ≡ false → (length body.now == 0) ≡ false }
+{
+    body.is_empty() || body == b"{}".as_slice()
 }
 
 fn fields_of_value(alloc: Global, asked: Asked, body: &Value) -> Result<Fields, ApiRefusal>

@@ -8,7 +8,7 @@ use crate::contents::{Content, put_object};
 use ht_base::{Memory, Sheet};
 use json::Writer;
 
-/// Writes the sheet of a task. It has no comments, parts and sub tasks yet.
+/// Writes the sheet of a task, without comments and sub tasks.
 pub(crate) fn put_sheet(sheet: &Sheet, writer: &mut Writer) -> Result<(), Memory>
     ensures { Puts result writer.old writer.new (tokens_of (sheet_data sheet.now)) }
 {
@@ -36,10 +36,10 @@ fn middle_rows(sheet: &Sheet) -> [(&'static str, Content<'_>); 7]
     ensures { rows_of result ≡ spec.middle_rows sheet.now }
 {
     [
-        ("input", Content::NoMembers),
+        ("input", Content::Parts(&sheet.input)),
         ("lastOwner", Content::MaybeName(sheet.last_owner)),
         ("model", Content::Name(sheet.model)),
-        ("output", Content::NoMembers),
+        ("output", Content::Parts(&sheet.output)),
         ("owner", Content::MaybeName(sheet.owner)),
         ("parent", Content::MaybeTask(sheet.parent)),
         ("potentialOwners", Content::Names(&sheet.potential_owners)),

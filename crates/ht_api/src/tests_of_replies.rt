@@ -1,8 +1,10 @@
+use crate::fits::parts_in;
 use crate::text_of;
 use ht_base::{
-    Answer, Bytes, Limit, Moment, Name, Names, Refusal, Reply, Roles, Sheet, State, StateSet,
-    TaskId, Unknown,
+    Answer, Bytes, Limit, Moment, Name, Names, Parts, Refusal, Reply, Roles, Sheet, State,
+    StateSet, TaskId, Unknown,
 };
+use serde_json::Value;
 use std::alloc::Global;
 use std::process::Abort;
 use std::test::Fail;
@@ -217,6 +219,12 @@ fn states_are_told_in_their_order(rt: HostRuntime) -> Result<(), Fail> {
     )
 }
 
+// The parts that a body gives by this object.
+fn parts(alloc: Global, text: &str) -> Result<Parts, Fail> {
+    let value = Value::from_str(alloc, text)?;
+    Ok(parts_in(alloc, &value)?.ok_or("parts")?)
+}
+
 #[test]
 fn a_sheet_is_told(rt: HostRuntime) -> Result<(), Fail> {
     let sheet = Sheet {
@@ -226,8 +234,10 @@ fn a_sheet_is_told(rt: HostRuntime) -> Result<(), Fail> {
         excluded_owners: names(rt.alloc(), "")?,
         fault: None,
         initiator: name("dan")?,
+        input: Parts::new(rt.alloc()),
         last_owner: None,
         model: name("unit")?,
+        output: Parts::new(rt.alloc()),
         owner: Some(name("anna")?),
         parent: None,
         potential_owners: names(rt.alloc(), "anna ben")?,
@@ -249,6 +259,14 @@ fn a_sheet_is_told(rt: HostRuntime) -> Result<(), Fail> {
 
 #[test]
 fn a_sheet_may_have_each_value(rt: HostRuntime) -> Result<(), Fail> {
+    let input = parts(
+        rt.alloc(),
+        "{\"a\":\"\\\"é\\\"\",\"b.1\":-9223372036854775808}",
+    )?;
+    let output = parts(
+        rt.alloc(),
+        "{\"a\":0,\"b\":false,\"c\":9223372036854775807}",
+    )?;
     let sheet = Sheet {
         administrators: names(rt.alloc(), "a b")?,
         by_group: false,
@@ -256,8 +274,10 @@ fn a_sheet_may_have_each_value(rt: HostRuntime) -> Result<(), Fail> {
         excluded_owners: names(rt.alloc(), "c")?,
         fault: Some(name("lost")?),
         initiator: name("d")?,
+        input,
         last_owner: Some(name("e")?),
         model: name("m")?,
+        output,
         owner: None,
         parent: Some(TaskId(2)),
         potential_owners: names(rt.alloc(), "f g")?,
@@ -270,8 +290,10 @@ fn a_sheet_may_have_each_value(rt: HostRuntime) -> Result<(), Fail> {
         waits: Some(Moment(253_402_300_799_999)),
     };
     let text = "{\"administrators\":[\"a\",\"b\"],\"byGroup\":false,\"comments\":[],\"created\":0,\
-        \"excludedOwners\":[\"c\"],\"fault\":\"lost\",\"initiator\":\"d\",\"input\":{},\
-        \"lastOwner\":\"e\",\"model\":\"m\",\"output\":{},\"owner\":null,\"parent\":2,\
+        \"excludedOwners\":[\"c\"],\"fault\":\"lost\",\"initiator\":\"d\",\
+        \"input\":{\"a\":\"\\\"é\\\"\",\"b.1\":-9223372036854775808},\
+        \"lastOwner\":\"e\",\"model\":\"m\",\
+        \"output\":{\"a\":0,\"b\":false,\"c\":9223372036854775807},\"owner\":null,\"parent\":2,\
         \"potentialOwners\":[\"f\",\"g\"],\"priority\":0,\"stakeholders\":[\"h\",\"i\",\"j\"],\
         \"started\":true,\"state\":\"Failed\",\"subs\":[],\"task\":3,\"until\":4,\
         \"waits\":253402300799999}";

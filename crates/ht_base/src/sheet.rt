@@ -1,8 +1,7 @@
-use crate::{Moment, Name, Names, State, TaskId};
+use crate::{Moment, Name, Names, Parts, State, TaskId};
 
-/// All that is told of one task (WS-HumanTask 1.1, 7.1.1 "getTaskDetails"): its persons and its model
-/// by name. Comments and parts come with the operations that give a task some, and so do sub
-/// tasks.
+/// What is told of one task (WS-HumanTask 1.1, 7.1.1 "getTaskDetails"): its persons and its model by
+/// name, and its parts as a request gives them.
 #[derive(Drop)]
 pub struct Sheet {
     pub administrators: Names,
@@ -12,9 +11,11 @@ pub struct Sheet {
     pub excluded_owners: Names,
     pub fault: Option<Name>,
     pub initiator: Name,
+    pub input: Parts,
     /// Who owned the task before it ended.
     pub last_owner: Option<Name>,
     pub model: Name,
+    pub output: Parts,
     pub owner: Option<Name>,
     pub parent: Option<TaskId>,
     pub potential_owners: Names,

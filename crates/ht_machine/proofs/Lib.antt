@@ -4,4 +4,5 @@ mod Asking
 mod Commanded
 mod Created
 mod OneOutcome
+mod PartsShown
 mod Rows

@@ -1,10 +1,10 @@
--- The sheet of a task: its row, with persons and the model by name (WS-HumanTask 1.1, 7.1.1
+-- The sheet of a task: its row, with persons and the model by name and parts as they are given (WS-HumanTask 1.1, 7.1.1
 -- "getTaskDetails").
 use Rattle.std.specs.Prelude.{ℕ, List, [], option_map, unwrap_or}
 use Rattle.ht_base.specs.declared.sheet.Sheet.{Sheet}
 use Rattle.ht_tree.specs.declared.row.Row.{Row}
 use Rattle.ht_tree.specs.Tables.{TablesOf, administrators_of, directory, excluded_owners_of, model_of, potential_owners_of, stakeholders_of}
-use Rattle.ht_machine.specs.Naming.{name_of, name_or_none, names_of}
+use Rattle.ht_machine.specs.Naming.{name_of, name_or_none, names_of, parts_of}
 
 abbrev pub model_name : TablesOf → Row → List ℕ
 model_name t row = unwrap_or (option_map (λ m. m.name) (model_of t row)) []
@@ -17,8 +17,10 @@ sheet_of t row = record {
   excluded_owners = names_of (directory t) (excluded_owners_of t row);
   fault = row.fault;
   initiator = name_of (directory t) row.initiator;
+  input = parts_of (directory t) row.input;
   last_owner = name_or_none (directory t) row.last_owner;
   model = model_name t row;
+  output = parts_of (directory t) row.output;
   owner = name_or_none (directory t) row.owner;
   parent = option_map (λ p. p.0) row.parent;
   potential_owners = names_of (directory t) (potential_owners_of t row);

@@ -248,6 +248,22 @@ i int -1 => PartRefused i
 i text 2027-01-01T00:00:00Z => PartRefused i
 z int 7 => PartRefused z";
 
+// Each part with its value, as a sheet shows it.
+fn shown(alloc: Global, parts: &Parts) -> Result<String, Fail> {
+    let mut text = String::new(alloc);
+    for (name, scalar) in parts.as_slice() {
+        text.push_str(name.as_str())?;
+        text.push_str(" ")?;
+        match scalar {
+            Scalar::Text(value) => text.push_str(value.as_str())?,
+            Scalar::Int(value) => text.push_str(format!(in alloc; "{value}")?.as_str())?,
+            Scalar::Truth(value) => text.push_str(format!(in alloc; "{value}")?.as_str())?,
+        }
+        text.push_str(".")?;
+    }
+    Ok(text)
+}
+
 #[test]
 fn inputs_are_of_their_kinds(rt: HostRuntime) -> Result<(), Fail> {
     for line in INPUTS.lines() {
@@ -261,6 +277,13 @@ fn inputs_are_of_their_kinds(rt: HostRuntime) -> Result<(), Fail> {
         let reply = run_one(rt.alloc(), &mut tables, &event)?;
         let found = told(rt.alloc(), &reply.answer)?;
         assert_eq!(rt; found.as_str(), want, "{line}");
+        if want == " Created" {
+            let sheet = sheet_for(rt.alloc(), &mut tables, "dan")?;
+            let input = shown(rt.alloc(), &sheet.input)?;
+            let given = format!(in rt.alloc(); "{part} {value}.")?;
+            assert_eq!(rt; input.as_str(), given.as_str(), "{line}");
+            assert!(rt; sheet.output.as_slice().is_empty(), "{line}");
+        }
     }
     Ok(())
 }

@@ -1,8 +1,10 @@
-ghost use Rattle.std.specs.Prelude.{◌≡◌, ◌<◌, IfOk, IfSome, length};
+ghost use Rattle.std.specs.Prelude.{◌≡◌, ◌<◌, true, IfOk, IfSome, length};
 ghost use Rattle.ht_base.specs.Persons.{AllBelow};
 ghost use Rattle.ht_machine.specs.Naming as spec;
+ghost use Rattle.ht_machine.specs.Naming.{AreShown};
+ghost use Rattle.ht_tree.specs.Soundness.{is_known, is_timely};
 
-use ht_base::{Memory, Name, Names, Person, Persons};
+use ht_base::{Memory, Name, Names, Parts, Person, Persons, Scalar, Txt, Value, Values};
 use ht_people::Directory;
 use std::alloc::Global;
 
@@ -31,4 +33,30 @@ pub(crate) fn name_or_none(people: &Directory, person: Option<Person>) -> Option
         Some(person) => Some(people.name(person)),
         None => None,
     }
+}
+
+/// The values of parts as they are given: persons by name, and instants in milliseconds.
+pub(crate) fn parts_of(alloc: Global, people: &Directory, values: &Values) -> Result<Parts, Memory>
+    requires { AreShown (length people.now.persons) values.now }
+    ensures { IfOk result (λ parts. parts ≡ spec.parts_of people.now values.now) }
+{
+    let mut parts = Parts::new(alloc);
+    for (name, value) in values.as_slice() {
+        parts.push(*name, scalar_of(alloc, people, *name, value)?)?;
+    }
+    Ok(parts)
+}
+
+fn scalar_of(alloc: Global, people: &Directory, name: Name, value: &Value) -> Result<Scalar, Memory>
+    requires known { is_known (length people.now.persons) (name, value.now) ≡ true }
+    requires timely { is_timely (name, value.now) ≡ true }
+    ensures { IfOk result (λ scalar. scalar ≡ spec.scalar_of people.now value.now) }
+{
+    Ok(match value {
+        Value::Text(text) => Scalar::Text(text.copy(alloc)?),
+        Value::Int(number) => Scalar::Int(*number),
+        Value::Truth(truth) => Scalar::Truth(*truth),
+        Value::Person(person) => Scalar::Text(Txt::of(alloc, people.name(*person).as_str())?),
+        Value::Instant(moment) => Scalar::Int(moment.0 as i64),
+    })
 }

@@ -11,6 +11,7 @@ use Rattle.ht_wire.specs.Reading.{EndsAt, LastReadWhere}
 use Rattle.ht_wire.specs.Requests.{AreRequests}
 use Rattle.ht_outside.proofs.PublicLaws.{Grows-trans, Takes-trans}
 use Rattle.ht_wire.proofs.PublicLaws.{one_request, request_on}
+use Rattle.ht_program.proofs.Folded.{written}
 use Rattle.ht_program.specs.declared.ending.Ending.{Ending}
 use Rattle.ht_program.specs.declared.ending.Ending.TheVariants as ending
 use Rattle.ht_program.specs.Exchanges.{Exchange, AreExchanges, entries, entry_of, replies, requests, spelled}
@@ -221,13 +222,16 @@ module _ (moment : ℕ → ℕ) (most : ℕ) (t u : TablesOf) (old : Streams) (i
 
 -- the whole run, from the first number on
 pub ran : (moment : ℕ → ℕ) (most : ℕ) (t : TablesOf) (old new : Streams) (e : Ending) → EndsFrom moment most 0 t old new [] e → Ran moment most t old new e
-ran moment most t old new e a = record {
-  exchanges = a.exchanges;
-  after = a.after;
-  taken = a.taken;
-  takes = a.takes;
-  rest = a.rest;
-  serves = a.serves;
-  ends = subst (λ (n : ℕ). EndsAs most n e old new a.rest a.exchanges) (let zero : 0 + length a.exchanges ≡ length a.exchanges = omega arith in zero) a.ends;
-  closed = a.closed;
-}
+ran moment most t old new e a =
+    let ends = subst (λ (n : ℕ). EndsAs most n e old new a.rest a.exchanges) (let zero : 0 + length a.exchanges ≡ length a.exchanges = omega arith in zero) a.ends in
+    record {
+      exchanges = a.exchanges;
+      after = a.after;
+      taken = a.taken;
+      takes = a.takes;
+      rest = a.rest;
+      serves = a.serves;
+      ends = ends;
+      closed = a.closed;
+      output = λ settled memory. written moment most t a.after old new a.taken a.rest a.exchanges a.serves memory e ends settled;
+    }

@@ -27,10 +27,10 @@ use Rattle.ht_api.specs.Refusals.{Gives, refusal_of}
 use Rattle.ht_api.specs.Replies.{IsSheet, answer_text}
 use Rattle.ht_api.specs.Statuses.{refusal_status}
 use Rattle.ht_base.specs.declared.reply.Answer.TheVariants.{Refused}
-use Rattle.ht_program.specs.Running.{AreNotWhole, EndsAs, IsMoreAt, Ran, Serves, Streams, refusal_bytes, streams}
+use Rattle.ht_program.specs.Running.{AreNotWhole, EndsAs, IsMoreAt, Ran, Serves, Streams, streams}
 use Rattle.ht_program.specs.Serving.{EndsFrom, Follows, FollowsAs, Goes}
 use Rattle.ht_program.proofs.Continuing.{ran}
-use Rattle.ht_program.specs.Texts.{memory_text, reply_status, status_or, text_or}
+use Rattle.ht_program.specs.Texts.{memory_text, refusal_bytes, reply_status, status_or, text_or}
 
 -- what the machine answers is an outcome of the request
 pub answers_event : (t u : TablesOf) (r : Request) (m status : ℕ) (text : List ℕ) (e : Event) → Ok e ≡ event_due r m → Decides t u e status text → Answers t u r m status text
@@ -209,7 +209,7 @@ more_request (Some g) bytes r rest is = λ end. request_or_end (bytes ++ g.left)
 
 more_refused : (g : Option Flow) (bytes : List ℕ) (code : ℕ) → RefusedAt g bytes code → IsMoreAt g bytes
 more_refused None bytes code is = tt
-more_refused (Some g) bytes code is = is.more
+more_refused (Some g) bytes code is = (is.1).more
 
 pub follows : (f g : Option Flow) (p q : List ℕ) (n : Next) (e : Ending) → Reads f g p q n → e ≡ after_last n → Follows f g p e
 follows f g p q n e reads is = record { taken = reads.taken; takes = reads.takes; follows = subst (λ (x : Ending). FollowsAs x g (p ++ reads.taken)) (sym is) (by_answer n reads.finds) }
@@ -229,5 +229,4 @@ refusal_known code (inr (inr (inl e))) = rw e refl
 refusal_known code (inr (inr (inr e))) = rw e refl
 
 pub refused_known : (g : Option Flow) (bytes : List ℕ) (code : ℕ) → RefusedAt g bytes code → IsReplyStatus code
-refused_known None bytes code is = refusal_known code is
-refused_known (Some flow) bytes code is = refusal_known code (reason_code (bytes ++ flow.left) code is.why)
+refused_known g bytes code is = refusal_known code (reason_code bytes code (is.0).why)

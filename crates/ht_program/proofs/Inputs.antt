@@ -29,7 +29,7 @@ no_close : (q r : Request) → r.last ≡ q.last → q.last ≡ true → r.last 
 no_close q r same closes goes = absurd (cc)
 
 -- what follows in an input that ends so
-ends_later : (q : Request) (qs : List Request) (rest : List ℕ) → (q.last ≡ true → ⊥) → Ends (q ∷ qs) rest → Ends qs rest
+pub ends_later : (q : Request) (qs : List Request) (rest : List ℕ) → (q.last ≡ true → ⊥) → Ends (q ∷ qs) rest → Ends qs rest
 ends_later q [] rest going (inl close) = absurd (going close)
 ends_later q (p ∷ qs) rest going (inl close) = inl close
 ends_later q qs rest going (inr both) = inr (both.0.1, both.1)
@@ -127,7 +127,7 @@ module _ (moment : ℕ → ℕ) (most : ℕ) (t : TablesOf) (f g : Flow) (reads 
     few = (let n = counted a.exchanges in let few = a.ends.1 in omega (arith, n, few));
     open_still = a.ends.0;
     code = code;
-    refused = a.ends.2;
+    refused = a.ends.2.1;
   }
 
   is_much : Ended ending.Budget → IsTooMuch most f.left

@@ -1,8 +1,10 @@
 mod Complaining
 mod Continuing
 mod Exchanging
+mod Folded
 mod Grammar
 mod Inputs
+mod OneOutput
 mod Opened
 mod Options
 mod Statuses

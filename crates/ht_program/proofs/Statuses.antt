@@ -33,10 +33,10 @@ same_texts (Some a) (Some b) (Some x) None p q = absurd q
 same_texts (Some a) (Some b) (Some x) (Some y) p q =
     ap (λ (m : List ℕ). Some (m, x.1)) (p.0 ∙ sym q.0) ∙ ap (λ (m : List ℕ). Some (y.0, m)) (p.1 ∙ sym q.1)
 
-same_rest : (words a b : List (List ℕ)) (command : List ℕ) → words ≡ command ∷ a → words ≡ command ∷ b → a ≡ b
+pub same_rest : (words a b : List (List ℕ)) (command : List ℕ) → words ≡ command ∷ a → words ≡ command ∷ b → a ≡ b
 same_rest words a b command e f = cc
 
-one_reading : (words : List (List ℕ)) (from step start pace : ℕ) (x y : Option (List ℕ × List ℕ)) → IsRun words from step x → IsRun words start pace y → x ≡ y
+pub one_reading : (words : List (List ℕ)) (from step start pace : ℕ) (x y : Option (List ℕ × List ℕ)) → IsRun words from step x → IsRun words start pace y → x ≡ y
 one_reading words from step start pace x y p q =
     let same : q.options ≡ p.options = same_rest words q.options p.options _ q.words_are p.words_are in
     let P : List (List ℕ) → Type 0 = λ os. AreTexts (value_of (codes "--models") os) (value_of (codes "--people") os) y in

@@ -1,6 +1,6 @@
 -- A worked run: two requests in, the bytes of two replies out. A wrong reading of a definition fails
 -- the check.
-use Rattle.std.specs.Prelude.{◌≡◌, refl, ℕ, List, [], ◌∷◌, ◌++◌, Some, None, codes}
+use Rattle.std.specs.Prelude.{◌≡◌, refl, ℕ, List, [], ◌∷◌, ◌++◌, Option, Some, None, codes}
 use Rattle.std.specs.Fmt.{digits}
 use Rattle.std.specs.Str.{chars, is_utf8}
 use Rattle.serde_json.proofs.OnLiterals.{serde_json_on_literals}
@@ -9,9 +9,11 @@ use Rattle.std.proofs.lemmas.List.Elements.{All-nil}
 use Rattle.ht_base.specs.declared.event.Event.{Event}
 use Rattle.ht_base.specs.declared.event.Event.TheVariants.{Ask}
 use Rattle.ht_base.specs.declared.event.Command.TheVariants as command
+use Rattle.ht_base.specs.declared.record.Record.{Record}
 use Rattle.ht_base.specs.declared.reply.Answer.TheVariants.{Done}
 use Rattle.ht_base.specs.declared.reply.Reply.{Reply}
 use Rattle.ht_base.specs.declared.state.State.TheVariants.{Ready}
+use Rattle.ht_machine.specs.Deciding.{Decides}
 use Rattle.ht_machine.specs.History.{IsHistory, IsStep}
 use Rattle.ht_tree.specs.Tables.{TablesOf}
 use Rattle.ht_wire.specs.ExampleRequests.{both_stand, first, first_bytes, second, second_bytes}
@@ -21,6 +23,7 @@ use Rattle.ht_wire.proofs.PublicLaws.{request_or_end}
 use Rattle.ht_program.specs.declared.ending.Ending.TheVariants as ending
 use Rattle.ht_api.specs.declared.refusal.ApiRefusal.TheVariants.{Person}
 use Rattle.ht_program.specs.Exchanges.{Exchange, AreExchanges, answered, entries, refused, replies}
+use Rattle.ht_program.specs.Folding.{Folds, IsOutput}
 use Rattle.ht_program.specs.Running.{Ran, Streams}
 use Rattle.ht_program.specs.Words.{moment_of}
 
@@ -48,14 +51,35 @@ two_exchanges u = (refl, refl, (refl, (refl, refl), tt))
 
 -- ---- the run
 
+abbrev first_out : List ℕ
+first_out = codes "HTTP/1.1 401 Unauthorized\r\ncontent-type: application/json\r\ncontent-length: 18\r\n\r\n{\"fault\":\"Person\"}"
+
+abbrev second_out : List ℕ
+second_out = codes "HTTP/1.1 201 Created\r\ncontent-type: application/json\r\ncontent-length: 39\r\nconnection: close\r\n\r\n{\"owner\":null,\"state\":\"Ready\",\"task\":1}"
+
 abbrev bytes_out : List ℕ
-bytes_out =
-    codes "HTTP/1.1 401 Unauthorized\r\ncontent-type: application/json\r\ncontent-length: 18\r\n\r\n{\"fault\":\"Person\"}"
-    ++ codes "HTTP/1.1 201 Created\r\ncontent-type: application/json\r\ncontent-length: 39\r\nconnection: close\r\n\r\n{\"owner\":null,\"state\":\"Ready\",\"task\":1}"
+bytes_out = first_out ++ second_out
 
 the_bytes_out : (u : TablesOf) → replies (exchanges u) ≡ bytes_out
 unfolding reply_head phrase_of digits serde_json_on_literals
 the_bytes_out u = refl
+
+-- what the fold over both requests gives
+the_fold : (t u : TablesOf) (left : Option Record) → Decides t create left created u → Folds (moment_of 1000 1000) 0 t (first ∷ second ∷ []) bytes_out
+unfolding chars is_utf8 reply_head phrase_of digits serde_json_on_literals
+the_fold t u left decides = (first_out, t, second_out, (refl, refl), (second_out, u, [], (left, created, decides, refl), refl, refl), refl)
+
+the_output : (t u : TablesOf) (left : Option Record) → Decides t create left created u → IsOutput (moment_of 1000 1000) 1048576 t (first_bytes ++ second_bytes) bytes_out
+the_output t u left decides = record {
+  asked = first ∷ second ∷ [];
+  rest = [];
+  stand = both_stand;
+  replies = bytes_out;
+  folds = the_fold t u left decides;
+  tail = [];
+  behind = inl (refl, inl (lit≤ tt, inl refl));
+  all = refl;
+}
 
 -- the input had both requests, and one read took them
 abbrev before : Streams
@@ -70,14 +94,15 @@ after = record {
   output = record { written = Some bytes_out; faults = 0 };
 }
 
-a_run : (t u : TablesOf) → IsStep t create created u → Ran (moment_of 1000 1000) 1048576 t before after ending.Done
-a_run t u step = record {
+a_run : (t u : TablesOf) (left : Option Record) → Decides t create left created u → Ran (moment_of 1000 1000) 1048576 t before after ending.Done
+a_run t u left decides = record {
   exchanges = exchanges u;
   after = u;
   taken = first_bytes ++ second_bytes;
   takes = record { left = refl; taken = refl };
   rest = [];
-  serves = record { stand = both_stand; numbered = two_exchanges u; legal = a_legal_history t u step; ends = refl };
+  serves = record { stand = both_stand; numbered = two_exchanges u; legal = a_legal_history t u (inl (left, decides)); ends = refl };
   ends = (inl refl, lit≤ tt, sym (the_bytes_out u));
   closed = λ _. inr ([], refl, (λ rest whole. request_or_end [] first whole.0 whole.1 (record { short = lit< tt; blank = All-nil IsLineByte })));
+  output = λ settled memory. (bytes_out, the_output t u left decides, refl);
 }

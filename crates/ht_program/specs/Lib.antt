@@ -3,6 +3,7 @@ pub mod BuiltIn
 pub mod Examples
 pub mod ExampleRun
 pub mod Exchanges
+pub mod Folding
 pub mod Inputs
 pub mod Named
 pub mod Office

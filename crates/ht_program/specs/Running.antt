@@ -1,5 +1,5 @@
 -- What a run does to a connection, and how it ends.
-use Rattle.std.specs.Prelude.{◌≡◌, ◌⊎◌, ℕ, ◌<◌, ◌≤◌, true, List, [], ◌++◌, length, Option, Some, None, ⊤, codes, decimal}
+use Rattle.std.specs.Prelude.{◌≡◌, ◌≢◌, ◌⊎◌, ℕ, ◌<◌, ◌≤◌, true, List, [], ◌∷◌, ◌++◌, length, Option, Some, None, ⊤, codes, decimal}
 use Rattle.ht_base.specs.History.{end_of}
 use Rattle.ht_outside.specs.Causes.{Rose}
 use Rattle.ht_outside.specs.Tells.{Flow, SourceState, SinkState, Takes, Grows, GrowsPart}
@@ -7,14 +7,14 @@ use Rattle.ht_machine.specs.History.{IsHistory}
 use Rattle.ht_tree.specs.Tables.{TablesOf}
 use Rattle.ht_wire.specs.Heads.{IsEnd}
 use Rattle.ht_wire.specs.Reading.{EndsAt, LastReadWhere, RefusedAt}
-use Rattle.ht_wire.specs.Replies.{reply_bytes}
 use Rattle.ht_wire.specs.Requests.{AreRequests, IsUnfinished}
 use Rattle.ht_wire.specs.declared.request.Request.{Request}
 use Rattle.ht_program.specs.declared.ending.Ending.{Ending}
 use Rattle.ht_program.specs.declared.ending.Ending.TheVariants.{Done, Wire, Budget, ReadFault, WriteFault, Memory}
-use Rattle.ht_program.specs.Exchanges.{Exchange, AreExchanges, entries, replies, requests}
+use Rattle.ht_program.specs.Exchanges.{Exchange, AreExchanges, entries, replies, requests, status_of}
+use Rattle.ht_program.specs.Folding.{IsOutput}
 use Rattle.ht_program.specs.Inputs.{GoOn, Close}
-use Rattle.ht_program.specs.Texts.{refused_text}
+use Rattle.ht_program.specs.Texts.{refusal_bytes}
 
 -- what the two ends of a connection tell
 pub record Streams : Type 0 where
@@ -31,10 +31,6 @@ pub record Serves (moment : ℕ → ℕ) (k : ℕ) (t u : TablesOf) (bytes rest 
   pub numbered : AreExchanges moment k xs
   pub legal : IsHistory t (entries xs)
   pub ends : end_of t (entries xs) ≡ u
-
--- the bytes that refuse what follows
-abbrev pub refusal_bytes : ℕ → List ℕ
-refusal_bytes code = reply_bytes code (refused_text code) true
 
 -- nothing, or the refusal of what follows requests that go on and are fewer than the most
 abbrev pub IsTail : ℕ → ℕ → Option Flow → List ℕ → List Exchange → List ℕ → Type 0
@@ -72,6 +68,20 @@ EndsAs most n Memory old new rest xs =
 abbrev pub AreNotWhole : List Request → List ℕ → Type 0
 AreNotWhole asked bytes = (rest : List ℕ) → AreRequests bytes asked rest → ⊥
 
+-- a run ended without a fault, and without want of memory
+abbrev pub IsSettled : Ending → Type 0
+IsSettled Done = Unit {0}
+IsSettled (Wire code) = Unit {0}
+IsSettled Budget = Unit {0}
+IsSettled ReadFault = ⊥
+IsSettled WriteFault = ⊥
+IsSettled Memory = ⊥
+
+-- no reply tells want of memory, whose status is 500
+abbrev pub HaveMemory : List Exchange → Type 0
+HaveMemory [] = Unit {0}
+HaveMemory (x ∷ xs) = (status_of x.outcome ≢ 500) × HaveMemory xs
+
 -- A connection was served from these tables to its ending. Where the last request closes it, no read
 -- was made behind that request.
 pub record Ran (moment : ℕ → ℕ) (most : ℕ) (t : TablesOf) (old new : Streams) (ending : Ending) : Type 0 where
@@ -83,6 +93,9 @@ pub record Ran (moment : ℕ → ℕ) (most : ℕ) (t : TablesOf) (old new : Str
   pub serves : Serves moment 0 t after taken rest exchanges
   pub ends : EndsAs most (length exchanges) ending old new rest exchanges
   pub closed : Close (requests exchanges) → LastReadWhere (AreNotWhole (requests exchanges)) old.input.flow new.input.flow []
+  -- without a fault, and with memory for each reply, what was written is a function of the bytes read
+  pub output : IsSettled ending → HaveMemory exchanges
+      → (out : List ℕ) × IsOutput moment most t taken out × Grows old.output.written new.output.written out
 
 -- the status of an ending
 abbrev pub ending_status : Ending → ℕ

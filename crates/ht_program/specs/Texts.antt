@@ -1,7 +1,9 @@
 -- The status and the text of the replies of a run.
-use Rattle.std.specs.Prelude.{ℕ, ◌==◌, List, Result, Ok, Err, if◌then◌else◌}
+use Rattle.std.specs.Prelude.{ℕ, true, List, Result, Ok, Err}
+use Rattle.ht_api.specs.Refusals.{wire_refusal}
 use Rattle.ht_api.specs.Replies.{answer_text}
 use Rattle.ht_api.specs.Statuses.{answer_status}
+use Rattle.ht_wire.specs.Replies.{reply_bytes}
 use Rattle.ht_base.specs.declared.event.Event.{Event}
 use Rattle.ht_base.specs.declared.event.Event.TheVariants.{Ask}
 use Rattle.ht_base.specs.declared.event.Command.TheVariants as command
@@ -24,19 +26,16 @@ reply_status e a = answer_status a
 abbrev pub memory_text : List ℕ
 memory_text = answer_text (Refused refusal.Memory)
 
--- why a connection is refused with this status
-abbrev pub wire_refusal : ℕ → Refusal
-wire_refusal code =
-    if code == 431 then refusal.Fields
-    else (if code == 501 then refusal.Coding
-    else (if code == 413 then refusal.Body
-    else refusal.Head))
-
+-- of a refusal, and of a connection that is refused with this status
 unfoldable pub refusal_text : Refusal → List ℕ
 refusal_text why = answer_text (Refused why)
 
 abbrev pub refused_text : ℕ → List ℕ
 refused_text code = refusal_text (wire_refusal code)
+
+-- the reply to a connection that is refused with this status, which it ends
+abbrev pub refusal_bytes : ℕ → List ℕ
+refusal_bytes code = reply_bytes code (refused_text code) true
 
 -- ---- as the code has them: a status, or none where there is no memory
 

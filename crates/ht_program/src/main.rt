@@ -5,8 +5,11 @@
 mod connection;
 mod ending;
 mod fault_lines;
+mod laws;
 mod numbers;
 mod office_tables;
+#[cfg(test)]
+mod office_tests;
 mod opening;
 #[cfg(test)]
 mod request_tests;
@@ -18,6 +21,7 @@ mod top_call;
 mod words;
 
 use ht_outside::{FileTexts, StdSink, StdSource};
+pub use laws::one_output;
 pub use status::Status;
 use status::exit_code;
 use std::env;

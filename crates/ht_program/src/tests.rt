@@ -25,9 +25,9 @@ fn words(alloc: Global, line: &str) -> Result<Vec<String>, Fail> {
 
 // The texts of an office, each behind its name, and the numbers of the reads that fail.
 #[derive(Clone, Copy)]
-struct Office<'a> {
-    texts: &'a [(&'a str, &'a str)],
-    failing: &'a [u32],
+pub(crate) struct Office<'a> {
+    pub texts: &'a [(&'a str, &'a str)],
+    pub failing: &'a [u32],
 }
 
 const NO_TEXTS: Office = Office {
@@ -35,7 +35,7 @@ const NO_TEXTS: Office = Office {
     failing: &[],
 };
 
-fn run_office(
+pub(crate) fn run_office(
     alloc: Global,
     line: &str,
     office_texts: &Office<'_>,
@@ -215,9 +215,6 @@ const SHUT: &str = "[[model]]\nname = \"shut\"\npotentialOwners = \"user('anna')
 
 const WITH_TEXTS: &str = "run --people p --step 1000 --models m --from 1000";
 
-const UNIT: &str = "[[model]]\nname = \"unit\"\npotentialOwners = \"group('clerks')\"\n\
-    administrators = \"user('cora')\"\n";
-
 // Whether an office of this models text answers each request line, with its person, as it should.
 fn answers(alloc: Global, models: &str, table: &[(&str, &str, &str, &str)]) -> Result<bool, Fail> {
     let mut input = String::new(alloc);
@@ -235,38 +232,6 @@ fn answers(alloc: Global, models: &str, table: &[(&str, &str, &str, &str)]) -> R
     let ran = run_office(alloc, WITH_TEXTS, &office, input.as_str(), &[], &[])?;
     let is_quiet = ran.complaints.written().is_empty();
     Ok(ran.status == Status(0) && is_quiet && ran.output.written() == want.as_bytes())
-}
-
-#[test]
-fn an_office_is_that_of_its_texts(rt: HostRuntime) -> Result<(), Fail> {
-    let needs = "{\"fault\":\"Role\",\"needs\":[\"potentialOwner\"]}";
-    let sees = "{\"fault\":\"Role\",\"needs\":[\"initiator\",\"stakeholder\",\"potentialOwner\",\
-        \"actualOwner\",\"administrator\"]}";
-    let created = "{\"owner\":null,\"state\":\"Created\",\"task\":1}";
-    let ready = "{\"owner\":null,\"state\":\"Ready\",\"task\":1}";
-    let claimed = "{\"owner\":\"anna\",\"state\":\"Reserved\",\"task\":1}";
-    let taken = "{\"allowed\":[\"Ready\"],\"fault\":\"State\",\"state\":\"Reserved\"}";
-    let sheet = "{\"administrators\":[\"cora\"],\"byGroup\":true,\"comments\":[],\"created\":1000,\
-        \"excludedOwners\":[],\"fault\":null,\"initiator\":\"dan\",\"input\":{},\"lastOwner\":null,\
-        \"model\":\"unit\",\"output\":{},\"owner\":\"anna\",\"parent\":null,\
-        \"potentialOwners\":[\"anna\",\"ben\"],\"priority\":5,\"stakeholders\":[],\"started\":false,\
-        \"state\":\"Reserved\",\"subs\":[],\"task\":1,\"until\":null,\"waits\":null}";
-    let unit = [
-        ("POST /tasks", "dan", "201 Created", ready),
-        ("POST /tasks/1/claim", "anna", "200 OK", claimed),
-        ("POST /tasks/1/claim", "ben", "409 Conflict", taken),
-        ("GET /tasks/1", "ben", "200 OK", sheet),
-        ("POST /tasks/1/claim", "root", "403 Forbidden", needs),
-        ("POST /tasks/1/claim", "dan", "403 Forbidden", needs),
-    ];
-    let shut = [
-        ("POST /tasks", "dan", "201 Created", created),
-        ("POST /tasks/1/claim", "cora", "403 Forbidden", needs),
-        ("GET /tasks/1", "anna", "403 Forbidden", sees),
-    ];
-    assert!(rt; answers(rt.alloc(), UNIT, &unit)?);
-    assert!(rt; answers(rt.alloc(), SHUT, &shut)?);
-    Ok(())
 }
 
 #[test]

@@ -82,7 +82,7 @@ parent_fits t p (Some above) sound fit = at (task_row (planned t p) above.0.0) r
 -- it holds what is given, and has set and passed nothing
 held_new : (persons : ℕ) (o : Option ModelOf) (input : Values) → IsInput persons o input → IfSome o (λ m. IsHeldBy persons m input [] [])
 held_new persons None input given = tt
-held_new persons (Some m) input given = record { input = given; output = record { declared = refl; known = refl; texts_within = refl }; taken = tt; taken_ascend = tt }
+held_new persons (Some m) input given = record { input = given; output = record { declared = refl; known = refl; texts_within = refl; moments_within = refl }; taken = tt; taken_ascend = tt }
 
 level_low : (o : Outcome) → level_of o ≤ 10
 level_low (a_text x) = omega arith

@@ -1,9 +1,11 @@
 -- What is given for parts may be held: its values are of declared parts and of their kinds.
-use Rattle.std.proofs.Common.{◌≡◌, ℕ, nat_lt, Bool, true, false, cond, if◌then◌else◌, List, [], ◌∷◌, ◌++◌, length, map, bytes_eq, Option, Some, None, option_map, refl, ap, subst, arith}
+use Rattle.std.proofs.Common.{◌≡◌, ℕ, ◌+◌, nat_lt, Bool, true, false, cond, if◌then◌else◌, List, [], ◌∷◌, ◌++◌, length, map, bytes_eq, Option, Some, None, option_map, refl, ap, subst, arith}
+use Rattle.std.specs.Prelude.{pos, negsuc}
 use Rattle.std.specs.List.{list_all}
 use Rattle.std.specs.Option.{option_and_then}
 use Rattle.std.proofs.lemmas.List.{length-map}
 use Rattle.std.proofs.lemmas.Bool.{and_parts}
+use Rattle.std.proofs.lemmas.Bool.Decides.{nat_tests}
 use Rattle.ht_base.specs.declared.kind.Kind.{Kind}
 use Rattle.ht_base.specs.declared.kind.Kind.TheVariants as kind
 use Rattle.ht_base.specs.declared.moment.Moment.{Moment}
@@ -11,6 +13,7 @@ use Rattle.ht_base.specs.declared.scalar.Scalar.{Scalar}
 use Rattle.ht_base.specs.declared.scalar.Scalar.TheVariants as scalar
 use Rattle.ht_base.specs.declared.value.Value.{Value}
 use Rattle.ht_base.specs.declared.value.Value.TheVariants as values
+use Rattle.ht_base.specs.Moment.{last_moment}
 use Rattle.ht_base.specs.Events as events
 use Rattle.ht_base.specs.Events.{AreGiven}
 use Rattle.ht_base.specs.Name.{name_of}
@@ -24,7 +27,7 @@ use Rattle.ht_people.specs.declared.entries.PersonEntry.{PersonEntry}
 use Rattle.ht_people.specs.Directory.{DirectoryOf, find as find_person}
 use Rattle.ht_tree.specs.Assigning.{find_user}
 use Rattle.ht_tree.specs.Giving.{moment_given, part_named, value_of, values_given}
-use Rattle.ht_tree.specs.Soundness.{AreHeld, is_declared, is_known, is_short}
+use Rattle.ht_tree.specs.Soundness.{AreHeld, is_declared, is_known, is_short, is_timely}
 use Rattle.ht_tree.proofs.Selecting.{below_is}
 
 -- the first part of a name is the one that is declared first
@@ -38,11 +41,12 @@ kind_named name (q ∷ parts) rest p is = at (bytes_eq q.name name) refl is (kin
 
 -- ---- one value
 
--- it is of its kind, of a person who is there, and short
+-- it is of its kind, of a person who is there, short, and of a moment that there is
 record IsFine (d : DirectoryOf) (k : Kind) (name : List ℕ) (v : Value) : Type 0 where
   of_kind : may_be (Some k) v ≡ true
   known : is_known (length d.persons) (name, v) ≡ true
   short : is_short 512 (name, v) ≡ true
+  timely : is_timely (name, v) ≡ true
 
 person_within : (d : DirectoryOf) (text : List ℕ) (p : ℕ) → find_user text d ≡ Some p → nat_lt p (length d.persons) ≡ true
 person_within d text p is = at (name_of text) is
@@ -59,17 +63,32 @@ fine_person d name None v within is = cc
 fine_person d name (Some p) v within is =
     let same : values.Person p ≡ v = cc in
     let P : Value → Type 0 = λ x. IsFine d kind.Person name x in
-    subst P same (record { of_kind = refl; known = within p refl; short = refl })
+    subst P same (record { of_kind = refl; known = within p refl; short = refl; timely = refl })
 
-fine_instant : (d : DirectoryOf) (name : List ℕ) (o : Option Moment) (v : Value) → option_map values.Instant o ≡ Some v → IsFine d kind.Instant name v
-fine_instant d name None v is = cc
-fine_instant d name (Some m) v is =
+not_behind : (m last : ℕ) → nat_lt last m ≡ false → nat_lt m (last + 1) ≡ true
+not_behind m last h = grind (arith, nat_tests)
+
+moment_within : (s : Scalar) (m : Moment) → moment_given s ≡ Some m → nat_lt m.0 (last_moment + 1) ≡ true
+moment_within (scalar.Text text) m is = cc
+moment_within (scalar.Truth b) m is = cc
+moment_within (scalar.Int (negsuc n)) m is = cc
+moment_within (scalar.Int (pos n)) m is = at (nat_lt last_moment n) refl is
+  where
+    at : (b : Bool) → nat_lt last_moment n ≡ b → (if b then None else Some (record { 0 = n })) ≡ Some m → nat_lt m.0 (last_moment + 1) ≡ true
+    at true late h = cc
+    at false early h =
+        let same : n ≡ m.0 = cc in
+        rw (← same) (not_behind n last_moment early)
+
+fine_instant : (d : DirectoryOf) (name : List ℕ) (o : Option Moment) (v : Value) → ((m : Moment) → o ≡ Some m → nat_lt m.0 (last_moment + 1) ≡ true) → option_map values.Instant o ≡ Some v → IsFine d kind.Instant name v
+fine_instant d name None v within is = cc
+fine_instant d name (Some m) v within is =
     let same : values.Instant m ≡ v = cc in
     let P : Value → Type 0 = λ x. IsFine d kind.Instant name x in
-    subst P same (record { of_kind = refl; known = refl; short = refl })
+    subst P same (record { of_kind = refl; known = refl; short = refl; timely = within m refl })
 
 fine_text : (d : DirectoryOf) (name text : List ℕ) (v : Value) → events.is_short 512 (name, scalar.Text text) ≡ true → values.Text text ≡ v → IsFine d kind.Text name v
-fine_text d name text v short same = let P : Value → Type 0 = λ x. IsFine d kind.Text name x in subst P same (record { of_kind = refl; known = refl; short = short })
+fine_text d name text v short same = let P : Value → Type 0 = λ x. IsFine d kind.Text name x in subst P same (record { of_kind = refl; known = refl; short = short; timely = refl })
 
 given_fine : (d : DirectoryOf) (k : Kind) (name : List ℕ) (s : Scalar) (v : Value) → events.is_short 512 (name, s) ≡ true → value_of d k s ≡ Some v → IsFine d k name v
 given_fine d kind.Text name (scalar.Text text) v short is = fine_text d name text v short cc
@@ -78,19 +97,19 @@ given_fine d kind.Text name (scalar.Truth b) v short is = cc
 given_fine d kind.Int name (scalar.Int n) v short is =
     let same : values.Int n ≡ v = cc in
     let P : Value → Type 0 = λ x. IsFine d kind.Int name x in
-    subst P same (record { of_kind = refl; known = refl; short = refl })
+    subst P same (record { of_kind = refl; known = refl; short = refl; timely = refl })
 given_fine d kind.Int name (scalar.Text text) v short is = cc
 given_fine d kind.Int name (scalar.Truth b) v short is = cc
 given_fine d kind.Truth name (scalar.Truth b) v short is =
     let same : values.Truth b ≡ v = cc in
     let P : Value → Type 0 = λ x. IsFine d kind.Truth name x in
-    subst P same (record { of_kind = refl; known = refl; short = refl })
+    subst P same (record { of_kind = refl; known = refl; short = refl; timely = refl })
 given_fine d kind.Truth name (scalar.Text text) v short is = cc
 given_fine d kind.Truth name (scalar.Int n) v short is = cc
 given_fine d kind.Person name (scalar.Text text) v short is = fine_person d name (find_user text d) v (person_within d text) is
 given_fine d kind.Person name (scalar.Int n) v short is = cc
 given_fine d kind.Person name (scalar.Truth b) v short is = cc
-given_fine d kind.Instant name s v short is = fine_instant d name (moment_given s) v is
+given_fine d kind.Instant name s v short is = fine_instant d name (moment_given s) v (moment_within s) is
 
 -- ---- all values
 
@@ -98,6 +117,7 @@ record AreFine (d : DirectoryOf) (kinds : Declared) (vs : List (List ℕ × Valu
   declared : list_all (is_declared kinds Input) vs ≡ true
   known : list_all (is_known (length d.persons)) vs ≡ true
   short : list_all (is_short 512) vs ≡ true
+  timely : list_all is_timely vs ≡ true
 
 one_more : (d : DirectoryOf) (parts : List Part) (rest : Declared) (p : Part) (name : List ℕ) (v : Value) (vs : List (List ℕ × Value)) → part_named name parts ≡ Some p → IsFine d p.kind name v → AreFine d (map (λ q. (Input, q.name, q.kind)) parts ++ rest) vs → AreFine d (map (λ q. (Input, q.name, q.kind)) parts ++ rest) ((name, v) ∷ vs)
 one_more d parts rest p name v vs is fine all =
@@ -106,10 +126,11 @@ one_more d parts rest p name v vs is fine all =
       declared = rw (kind, fine.of_kind) all.declared;
       known = rw fine.known all.known;
       short = rw fine.short all.short;
+      timely = rw fine.timely all.timely;
     }
 
 all_fine : (d : DirectoryOf) (parts : List Part) (rest : Declared) (given : List (List ℕ × Scalar)) → list_all (events.is_short 512) given ≡ true → AreFine d (map (λ q. (Input, q.name, q.kind)) parts ++ rest) (values_given d parts given)
-all_fine d parts rest [] short = record { declared = refl; known = refl; short = refl }
+all_fine d parts rest [] short = record { declared = refl; known = refl; short = refl; timely = refl }
 all_fine d parts rest (g ∷ given) short =
     let both = and_parts (events.is_short 512 g) (list_all (events.is_short 512) given) short in
     at (part_named g.0 parts) refl both.0 (all_fine d parts rest given both.1)
@@ -125,4 +146,4 @@ all_fine d parts rest (g ∷ given) short =
 pub given_held : (d : DirectoryOf) (input output : List Part) (given : List (List ℕ × Scalar)) → AreGiven given → AreHeld (parts_of input output) (length d.persons) Input (values_given d input given)
 given_held d input output given are =
     let all = all_fine d input (map (λ q. (Output, q.name, q.kind)) output) given are.short in
-    record { declared = all.declared; known = all.known; texts_within = all.short }
+    record { declared = all.declared; known = all.known; texts_within = all.short; moments_within = all.timely }

@@ -32,7 +32,7 @@ given_seen persons o m input env given at same none =
     let P : Option ModelOf → Type 0 = λ x. IsInput persons x input in
     let Q : Values → Type 0 = λ vs. IsTrue (values_fit kinds Input vs && values_fit kinds Output env.output) in
     let R : Values → Type 0 = λ vs. IsTrue (values_fit kinds Input input && values_fit kinds Output vs) in
-    subst Q (sym same) (subst R (sym none) (may_see kinds persons input [] (subst P at given) (record { declared = refl; known = refl; texts_within = refl })))
+    subst Q (sym same) (subst R (sym none) (may_see kinds persons input [] (subst P at given) (record { declared = refl; known = refl; texts_within = refl; moments_within = refl })))
 
 -- what a row holds that fits
 pub row_seen : (m : ModelOf) (persons : ℕ) (row : Row) → IsHeldBy persons m row.input row.output row.taken → IsTrue (has_parts (parts_of m.input m.output) (env_of row))

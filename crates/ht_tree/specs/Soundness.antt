@@ -112,10 +112,16 @@ abbrev pub is_short : ℕ → List ℕ × Value → Bool
 is_short most (name, values.Text text) = nat_lt (length text) (most + 1)
 is_short most _ = true
 
+-- a moment that is a value is at most the last one
+abbrev pub is_timely : List ℕ × Value → Bool
+is_timely (name, values.Instant m) = nat_lt m.0 (last_moment + 1)
+is_timely _ = true
+
 pub record AreHeld (kinds : Declared) (persons : ℕ) (side : Side) (parts : Values) : Type 0 where
   pub declared : list_all (is_declared kinds side) parts ≡ true
   pub known : list_all (is_known persons) parts ≡ true
   pub texts_within : list_all (is_short 512) parts ≡ true
+  pub moments_within : list_all is_timely parts ≡ true
 
 pub record IsHeldBy (persons : ℕ) (m : ModelOf) (given set : Values) (passed : List ℕ) : Type 0 where
   pub input : AreHeld (parts_of m.input m.output) persons Input given

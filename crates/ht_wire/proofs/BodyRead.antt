@@ -26,6 +26,20 @@ refused_now f old headers spans code is = record {
   needed = needed_none (λ bytes. IsCutShort (fields_at (front old) headers spans) (drop spans.len bytes)) f old;
 }
 
+-- there is none
+pub no_body : (f : Option Flow) (old : List ℕ) (headers : List HeaderSpan) (spans : RequestSpans) (n : ℕ) → Ok n ≡ announced (fields_at (front old) headers spans) → n ≡ 0 → (r : Request) (new : List ℕ) → r.body.items ≡ [] → new ≡ drop spans.len old
+    → Carries (span_bytes (front old) spans.method) (span_bytes (front old) spans.path) spans.version (fields_at (front old) headers spans) r → GivesOut f f old headers spans new (next.Request r)
+no_body f old headers spans n is none r new body rest carries = record {
+  taken = [];
+  takes = Takes-none f;
+  gives = (
+    ap (drop spans.len) (append-nil old) ∙ sym rest ∙ ap (λ l. l ++ new) (sym body),
+    sym is ∙ ap Ok (none ∙ sym (ap (λ (l : List ℕ). length l) body)),
+    carries,
+  );
+  needed = needed_none (λ bytes. IsCutShort (fields_at (front old) headers spans) (drop spans.len bytes)) f old;
+}
+
 -- where no byte is missing, all are there
 pub all_there : (old : List ℕ) (headers : List HeaderSpan) (spans : RequestSpans) (n : ℕ) → Ok n ≡ announced (fields_at (front old) headers spans) → spans.len ≤ length old
     → (IsCutShort (fields_at (front old) headers spans) (drop spans.len old) → ⊥) → spans.len + n ≤ length old

@@ -5,7 +5,6 @@ use Rattle.httparse.specs.declared.spans.HeaderSpan.{HeaderSpan}
 use Rattle.httparse.specs.declared.spans.RequestSpans.{RequestSpans}
 use Rattle.httparse.specs.Grammar.{RequestHead, ReadsRequest}
 use Rattle.httparse.specs.Spans.{IsRequestAt, span_bytes}
-use Rattle.httparse.proofs.GrammarLemmas.{request_unique}
 use Rattle.ht_outside.specs.Tells.{Flow, Takes, IsAtEnd}
 use Rattle.ht_outside.proofs.PublicLaws.{Takes-trans}
 use Rattle.ht_wire.specs.declared.looking.Sight.TheVariants.{Head}
@@ -15,22 +14,15 @@ use Rattle.ht_wire.specs.declared.request.Request.{Request}
 use Rattle.ht_wire.specs.Bodies.{announced}
 use Rattle.ht_wire.specs.Buffering.{ReadsOn}
 use Rattle.ht_wire.specs.GivingOut.{GivesAs, GivesOut, fields_at}
-use Rattle.ht_wire.specs.Heads.{IsEnd, IsHead, fields_of}
+use Rattle.ht_wire.specs.Heads.{IsHead, fields_of}
 use Rattle.ht_wire.specs.Looking.{Sees}
-use Rattle.ht_wire.specs.Reading.{Finds, Reads, RefusedAt}
-use Rattle.ht_wire.specs.Requests.{Carries, IsCutShort, IsUnfinished}
+use Rattle.ht_wire.specs.Reading.{Finds, IsRefusedOn, Reads, RefusedAt}
+use Rattle.ht_wire.specs.Requests.{Carries, IsCutShort, IsRefused, IsUnfinished}
 use Rattle.ht_wire.specs.Window.{window, front}
 use Rattle.ht_wire.proofs.Finding.{front_most}
-use Rattle.ht_wire.proofs.Lengths.{code_known}
 use Rattle.ht_wire.proofs.Outcomes.{reads_on, more_on}
 use Rattle.ht_wire.proofs.Steps.{needed_then, weaker}
 use Rattle.ht_wire.proofs.Uniqueness.{exact_of, head_or_end}
-
--- more bytes are needed where a head stands whole, and its body doesn't
-pub unfinished_of : (bytes : List ℕ) (h : RequestHead) (behind : List ℕ) → IsHead bytes h behind → IsCutShort (fields_of h) behind → IsUnfinished bytes
-unfinished_of bytes h behind head cut k rest other =
-    let same = request_unique bytes h k behind rest head.reads other.reads in
-    subst (λ (j : RequestHead). IsCutShort (fields_of j) rest) same.0 (subst (λ (l : List ℕ). IsCutShort (fields_of h) l) same.1 cut)
 
 carried : (bytes : List ℕ) (headers : List HeaderSpan) (spans : RequestSpans) (h : RequestHead) (r : Request) → IsRequestAt bytes headers spans h
     → Carries (span_bytes bytes spans.method) (span_bytes bytes spans.path) spans.version (fields_at bytes headers spans) r → Carries h.method h.target h.minor (fields_of h) r
@@ -77,27 +69,43 @@ module _ (mid : List ℕ) (headers : List HeaderSpan) (spans : RequestSpans) (se
   cut_is behind cut = subst (λ (fs : List (List ℕ × List ℕ)). IsCutShort fs behind) fields_is cut
 
   unfinished : (more : List ℕ) → IsCutShort fields (drop spans.len (mid ++ more)) → IsUnfinished (mid ++ more)
-  unfinished more cut = unfinished_of (mid ++ more) h (drop spans.len (mid ++ more)) (stands more) (cut_is (drop spans.len (mid ++ more)) cut)
+  unfinished more cut = inr (inr (h, drop spans.len (mid ++ more), stands more, cut_is (drop spans.len (mid ++ more)) cut))
 
   -- of the bytes that were there
   pub unfinished_now : IsCutShort fields (drop spans.len mid) → IsUnfinished mid
   unfinished_now cut = subst IsUnfinished (append-nil mid) (unfinished [] (subst (λ (l : List ℕ). IsCutShort fields (drop spans.len l)) (sym (append-nil mid)) cut))
 
-  refused : (g : Option Flow) (more : List ℕ) (code : ℕ) → (announced fields ≡ Err code) ⊎ ((code ≡ 400) × IsCutShort fields (drop spans.len (mid ++ more)) × IsAtEnd g) → RefusedAt g (mid ++ more) code
-  refused None more code (inl e) = code_known fields code e
-  refused None more code (inr cut) = inr (inl cut.0)
-  refused (Some flow) more code why = record { more = no_end; why = inr (inr (h, drop spans.len (mid ++ more) ++ flow.left, on, body why)) }
+  -- with more bytes, in which the body isn't whole either
+  refused_with : (more left : List ℕ) (code : ℕ) → (announced fields ≡ Err code) ⊎ ((code ≡ 400) × IsCutShort fields (drop spans.len (mid ++ more) ++ left)) → IsRefused ((mid ++ more) ++ left) code
+  refused_with more left code why = record {
+    more = more_on (mid ++ more) left (head_or_end (mid ++ more) h (drop spans.len (mid ++ more)) (stands more));
+    why = inr (inr (h, drop spans.len (mid ++ more) ++ left, on, body why));
+  }
     where
-      no_end : IsEnd ((mid ++ more) ++ flow.left) → ⊥
-      no_end = more_on (mid ++ more) flow.left (head_or_end (mid ++ more) h (drop spans.len (mid ++ more)) (stands more))
+      on : IsHead ((mid ++ more) ++ left) h (drop spans.len (mid ++ more) ++ left)
+      on = let s = stands more in record { reads = reads_on (mid ++ more) left h (drop spans.len (mid ++ more)) s.reads; short = s.short; few = s.few }
 
-      on : IsHead ((mid ++ more) ++ flow.left) h (drop spans.len (mid ++ more) ++ flow.left)
-      on = let s = stands more in record { reads = reads_on (mid ++ more) flow.left h (drop spans.len (mid ++ more)) s.reads; short = s.short; few = s.few }
-
-      body : (announced fields ≡ Err code) ⊎ ((code ≡ 400) × IsCutShort fields (drop spans.len (mid ++ more)) × IsAtEnd (Some flow)) → (announced (fields_of h) ≡ Err code) ⊎ ((code ≡ 400) × IsCutShort (fields_of h) (drop spans.len (mid ++ more) ++ flow.left))
+      body : (announced fields ≡ Err code) ⊎ ((code ≡ 400) × IsCutShort fields (drop spans.len (mid ++ more) ++ left)) → (announced (fields_of h) ≡ Err code) ⊎ ((code ≡ 400) × IsCutShort (fields_of h) (drop spans.len (mid ++ more) ++ left))
       body (inl e) = inl (ap announced (sym fields_is) ∙ e)
-      body (inr cut) =
-          inr (cut.0, subst (λ (l : List ℕ). IsCutShort (fields_of h) l) (sym (append-nil (drop spans.len (mid ++ more))) ∙ ap (λ (l : List ℕ). drop spans.len (mid ++ more) ++ l) (sym cut.2)) (cut_is (drop spans.len (mid ++ more)) cut.1))
+      body (inr cut) = inr (cut.0, cut_is (drop spans.len (mid ++ more) ++ left) cut.1)
+
+  refused : (g : Option Flow) (more : List ℕ) (code : ℕ) → (announced fields ≡ Err code) ⊎ ((code ≡ 400) × IsCutShort fields (drop spans.len (mid ++ more)) × IsAtEnd g) → RefusedAt g (mid ++ more) code
+  refused g more code why = (subst (λ (l : List ℕ). IsRefused l code) (append-nil (mid ++ more)) (refused_with more [] code (now why)), with_left g why)
+    where
+      behind : List ℕ
+      behind = drop spans.len (mid ++ more)
+
+      IsWhy : Option Flow → Type 0
+      IsWhy f = (announced fields ≡ Err code) ⊎ ((code ≡ 400) × IsCutShort fields behind × IsAtEnd f)
+
+      now : IsWhy g → (announced fields ≡ Err code) ⊎ ((code ≡ 400) × IsCutShort fields (behind ++ []))
+      now (inl e) = inl e
+      now (inr cut) = inr (cut.0, subst (λ (l : List ℕ). IsCutShort fields l) (sym (append-nil behind)) cut.1)
+
+      with_left : (f : Option Flow) → IsWhy f → IsRefusedOn f (mid ++ more) code
+      with_left None w = tt
+      with_left (Some flow) (inl e) = refused_with more flow.left code (inl e)
+      with_left (Some flow) (inr cut) = refused_with more flow.left code (inr (cut.0, subst (λ (l : List ℕ). IsCutShort fields l) (sym (append-nil behind) ∙ ap (λ (l : List ℕ). behind ++ l) (sym cut.2)) cut.1))
 
   gives : (g : Option Flow) (more new : List ℕ) (n : Next) → GivesAs g (mid ++ more) (front mid) headers spans new n → Finds (mid ++ more) g new n
   gives g more new (next.Request r) out = record {

@@ -94,11 +94,14 @@ request_or_end s r rest a end = head_or_end s a.head (r.body.items ++ rest) a.st
 
 -- where bytes are missing, no request stands whole
 pub request_or_unfinished : (s : List ℕ) (r : Request) (rest : List ℕ) → IsRequest s r rest → IsUnfinished s → ⊥
-request_or_unfinished s r rest a none =
-    let cut = none a.head (r.body.items ++ rest) a.stands in
-    let n : cut.0 ≡ length r.body.items = (let is = cut.1 in let its = a.sized in cc) in
+request_or_unfinished s r rest a (inl end) = request_or_end s r rest a end
+request_or_unfinished s r rest a (inr (inl begun)) = begun.none a.head (r.body.items ++ rest) (a.stands).reads
+request_or_unfinished s r rest a (inr (inr without)) =
+    let same = request_unique s without.0 a.head without.1 (r.body.items ++ rest) (without.2).reads (a.stands).reads in
+    let mine : IsCutShort (fields_of a.head) (r.body.items ++ rest) = subst (λ (h : RequestHead). IsCutShort (fields_of h) (r.body.items ++ rest)) same.0 (subst (λ (l : List ℕ). IsCutShort (fields_of without.0) l) same.1 without.3) in
+    let n : mine.0 ≡ length r.body.items = (let is = mine.1 in let its = a.sized in cc) in
     let all = length-append r.body.items rest in
-    let short = cut.2 in
+    let short = mine.2 in
     omega (arith, n, all, short)
 
 -- why a body is refused, of one head
@@ -135,7 +138,7 @@ request_or_refused s r rest code a refused = by_reason refused.why
 
 -- ---- refusals
 
-one_reason : (s : List ℕ) (c d : ℕ) → IsReason s c → IsReason s d → (d ≡ c) ⊎ IsEither s c d
+pub one_reason : (s : List ℕ) (c d : ℕ) → IsReason s c → IsReason s d → (d ≡ c) ⊎ IsEither s c d
 one_reason s c d (inl a) (inl b) = inl (b.0 ∙ sym a.0)
 one_reason s c d (inl a) (inr (inl b)) = inr (long_or_none s a.1 b.1, inl (a.0, b.0))
 one_reason s c d (inl a) (inr (inr b)) = absurd (head_or_long s b.0 b.1 b.2 a.1)
@@ -178,7 +181,7 @@ true_to s next.Memory a = record { request = λ r rest b. inr tt; end = λ end. 
 found_stands : (bytes new : List ℕ) (g : Flow) (n : Next) → Finds bytes (Some g) new n → Stands (bytes ++ g.left) n
 found_stands bytes new g (next.Request r) finds = (new ++ g.left, request_on bytes g.left r new finds)
 found_stands bytes new g next.End finds = subst IsEnd (sym (append-nil bytes) ∙ ap (λ l. bytes ++ l) (sym finds.1.0)) finds.1.1
-found_stands bytes new g (next.Refused code) finds = finds.1
+found_stands bytes new g (next.Refused code) finds = finds.1.1
 found_stands bytes new g next.ReadFault finds = tt
 found_stands bytes new g next.Memory finds = tt
 

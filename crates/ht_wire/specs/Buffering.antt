@@ -1,5 +1,5 @@
 -- What the two steps of reading a request do to a buffer.
-use Rattle.std.specs.Prelude.{◌≡◌, ℕ, ◌<◌, ◌≤◌, List, ◌++◌, length, Option, Some, None, Result, Ok, Err}
+use Rattle.std.specs.Prelude.{◌≡◌, ◌⊎◌, ℕ, ◌<◌, ◌≤◌, List, ◌++◌, length, Option, Some, None, Result, Ok, Err}
 use Rattle.httparse.specs.declared.spans.HeaderSpan.{HeaderSpan}
 use Rattle.httparse.specs.declared.spans.RequestSpans.{RequestSpans}
 use Rattle.ht_outside.specs.Tells.{Flow, Takes, IsAtEnd}
@@ -19,6 +19,10 @@ pub record ReadsOn (P : List ℕ → Type 0) (f g : Option Flow) (old new : List
   pub takes : Takes f g taken
   pub behind : new ≡ old ++ taken
   pub needed : LastReadWhere P f g old
+
+-- nothing was read, or bytes were needed that weren't there
+abbrev pub ReadsWhereNeeded : {A : Type 0} → A → A → List ℕ → List ℕ → Type 0
+ReadsWhereNeeded before after old new = ((after ≡ before) × (new ≡ old)) ⊎ IsUnfinished old
 
 -- a whole head stands in front, or the answer is found
 abbrev pub FindsHead : Option Flow → Option Flow → List ℕ → List ℕ → List HeaderSpan → Result RequestSpans Next → Type 0

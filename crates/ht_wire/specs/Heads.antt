@@ -20,6 +20,12 @@ pub record IsHead (stream : List ℕ) (h : RequestHead) (rest : List ℕ) : Type
   pub short : length (print_request h) ≤ window
   pub few : length h.fields ≤ room
 
+-- a head is begun and isn't whole: bytes can follow that make it so, or it ends in its target
+pub record IsBegun (stream : List ℕ) : Type 0 where
+  pub short : length stream < window
+  pub none : HasNoRequest stream
+  pub may : MayBecomeRequest stream
+
 -- the fields of a head by name and value
 abbrev pub fields_of : RequestHead → List (List ℕ × List ℕ)
 fields_of h = map name_and_value h.fields

@@ -1,11 +1,11 @@
 -- What a look at the bytes so far says of them.
-use Rattle.std.specs.Prelude.{◌⊎◌, ℕ, ◌<◌, ◌≤◌, List, length, All}
+use Rattle.std.specs.Prelude.{◌⊎◌, ℕ, ◌≤◌, List, length}
 use Rattle.httparse.specs.declared.spans.HeaderSpan.{HeaderSpan}
 use Rattle.httparse.specs.Grammar.{RequestHead, HasNoRequest, NeverHasRequest, MayBecomeRequest}
 use Rattle.httparse.specs.Spans.{IsRequestAt, IsRequestWithin, RequestExceeds, RequestOverflows}
 use Rattle.ht_wire.specs.declared.looking.Sight.{Sight}
 use Rattle.ht_wire.specs.declared.looking.Sight.TheVariants.{Head, TooLong, NoHead, Blank, Partial}
-use Rattle.ht_wire.specs.Heads.{IsEnd, IsLineByte}
+use Rattle.ht_wire.specs.Heads.{IsBegun, IsEnd}
 use Rattle.ht_wire.specs.Window.{window, room}
 
 abbrev pub Sees : List ℕ → List HeaderSpan → Sight → Type 0
@@ -14,5 +14,5 @@ Sees bytes headers TooLong =
     (IsEnd bytes → ⊥)
     × ((RequestExceeds room bytes × RequestOverflows room bytes) ⊎ ((window ≤ length bytes) × HasNoRequest bytes × MayBecomeRequest bytes))
 Sees bytes headers NoHead = (IsEnd bytes → ⊥) × NeverHasRequest bytes
-Sees bytes headers Blank = (length bytes < window) × All IsLineByte bytes
-Sees bytes headers Partial = (length bytes < window) × (IsEnd bytes → ⊥) × HasNoRequest bytes
+Sees bytes headers Blank = IsEnd bytes
+Sees bytes headers Partial = (IsEnd bytes → ⊥) × IsBegun bytes

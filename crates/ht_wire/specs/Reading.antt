@@ -2,22 +2,25 @@
 -- from the source, to the bytes that are buffered after it. It reads on only while more are needed.
 use Rattle.std.specs.Prelude.{◌≡◌, ◌⊎◌, ℕ, ◌≤◌, List, [], ◌++◌, Option, Some, None, ⊤}
 use Rattle.ht_outside.specs.Causes.{Rose}
-use Rattle.ht_outside.specs.Tells.{Flow, Takes}
+use Rattle.ht_outside.specs.Tells.{Flow, Takes, IsAtEnd}
 use Rattle.ht_wire.specs.declared.reading.Next.{Next}
 use Rattle.ht_wire.specs.declared.reading.Next.TheVariants.{Request, End, Refused, ReadFault, Memory}
 use Rattle.ht_wire.specs.declared.request.Request.{Request as OneRequest}
 use Rattle.ht_wire.specs.Heads.{IsEnd, IsCorner}
-use Rattle.ht_wire.specs.Requests.{IsRequest, IsRefused, IsRefusalCode, IsSame, IsUnfinished}
+use Rattle.ht_wire.specs.Requests.{IsRequest, IsRefused, IsSame, IsUnfinished}
 
 -- the bytes read are all there are, and they are the end of the requests
 abbrev pub EndsAt : Option Flow → List ℕ → Type 0
-EndsAt None bytes = ⊤
-EndsAt (Some flow) bytes = (flow.left ≡ []) × IsEnd bytes
+EndsAt flow bytes = IsAtEnd flow × IsEnd bytes
 
--- the bytes read, and those that the source has left, are refused with this code
+-- and so they are with those that the source has left
+abbrev pub IsRefusedOn : Option Flow → List ℕ → ℕ → Type 0
+IsRefusedOn None bytes code = ⊤
+IsRefusedOn (Some flow) bytes code = IsRefused (bytes ++ flow.left) code
+
+-- the bytes read are refused with this code
 abbrev pub RefusedAt : Option Flow → List ℕ → ℕ → Type 0
-RefusedAt None bytes code = IsRefusalCode code
-RefusedAt (Some flow) bytes code = IsRefused (bytes ++ flow.left) code
+RefusedAt flow bytes code = IsRefused bytes code × IsRefusedOn flow bytes code
 
 -- the answer, of the bytes that were read and not given out yet
 abbrev pub Finds : List ℕ → Option Flow → List ℕ → Next → Type 0

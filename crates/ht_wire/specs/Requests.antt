@@ -4,7 +4,7 @@ use Rattle.httparse.specs.Grammar.{RequestHead}
 use Rattle.ht_wire.specs.declared.request.Request.{Request}
 use Rattle.ht_wire.specs.Bodies.{announced}
 use Rattle.ht_wire.specs.Fields.{person_of, is_last}
-use Rattle.ht_wire.specs.Heads.{IsEnd, IsHead, fields_of, IsTooLong, IsNoHead}
+use Rattle.ht_wire.specs.Heads.{IsEnd, IsHead, IsBegun, fields_of, IsTooLong, IsNoHead}
 
 -- the request says what these parts of a head say
 pub record Carries (method target : List ℕ) (minor : ℕ) (fields : List (List ℕ × List ℕ)) (r : Request) : Type 0 where
@@ -24,9 +24,14 @@ pub record IsRequest (stream : List ℕ) (r : Request) (rest : List ℕ) : Type 
 abbrev pub IsCutShort : List (List ℕ × List ℕ) → List ℕ → Type 0
 IsCutShort fields behind = (n : ℕ) × (announced fields ≡ Ok n) × (length behind < n)
 
--- bytes are needed that follow: no whole head stands at the front, or its body isn't there whole
+-- a whole head, and less of a body than it announces
+abbrev pub IsWithoutBody : List ℕ → Type 0
+IsWithoutBody stream = (h : RequestHead) × (behind : List ℕ) × IsHead stream h behind × IsCutShort (fields_of h) behind
+
+-- more bytes are needed to tell what stands there: so far it is the end, or the beginning of a head, or
+-- a head without all of its body
 abbrev pub IsUnfinished : List ℕ → Type 0
-IsUnfinished stream = (h : RequestHead) (behind : List ℕ) → IsHead stream h behind → IsCutShort (fields_of h) behind
+IsUnfinished stream = IsEnd stream ⊎ (IsBegun stream ⊎ IsWithoutBody stream)
 
 -- a whole head, whose body is refused with this code: by the fields, or since the bytes end before it
 abbrev pub IsBadBody : List ℕ → ℕ → Type 0

@@ -7,7 +7,7 @@ ghost use Rattle.ht_wire.specs.Bodies.{announced, is_length};
 ghost use Rattle.ht_wire.specs.Bodies as spec;
 ghost use Rattle.ht_wire.specs.Fields.{values_of};
 
-use crate::fields::{is_missing, same_text};
+use crate::fields::{are_missing, is_missing, same_text};
 use crate::reading::{BAD_REQUEST, CONTENT_TOO_LARGE, NOT_IMPLEMENTED};
 use httparse::spans::HeaderSpan;
 use std::str;
@@ -25,6 +25,10 @@ pub(crate) fn body_length(bytes: &[u8], headers: &[HeaderSpan]) -> Result<usize,
     ensures length { result ≡ announced (map (header_bytes bytes.now) headers.now) }
     ensures most { IfOk result (λ n. n ≤ 1048576) }
 {
+    // Most requests have neither field, and one walk is enough for these.
+    if are_missing(bytes, headers, b"transfer-encoding", b"content-length") {
+        return Ok(0);
+    }
     if !is_missing(bytes, headers, b"transfer-encoding") {
         return Err(NOT_IMPLEMENTED);
     }

@@ -1,4 +1,4 @@
-ghost use Rattle.std.specs.Prelude.{◌≡◌, All, length, map, option_map};
+ghost use Rattle.std.specs.Prelude.{◌≡◌, [], All, IsTrue, length, map, option_map};
 ghost use Rattle.std.specs.List.{list_any};
 ghost use Rattle.std.specs.Str.{str_eq_ignore_ascii_case};
 ghost use Rattle.httparse.specs.Spans.{IsHeaderWithin, header_bytes};
@@ -56,6 +56,20 @@ pub(crate) fn is_missing(bytes: &[u8], headers: &[HeaderSpan], name: &[u8]) -> b
 {
     for header in headers {
         if same_text(header.name.of(bytes), name) {
+            return false;
+        }
+    }
+    true
+}
+
+/// Whether no field has one of these two names.
+pub(crate) fn are_missing(bytes: &[u8], headers: &[HeaderSpan], name: &[u8], other: &[u8]) -> bool
+    requires { All (IsHeaderWithin (length bytes.now)) headers.now }
+    ensures { IsTrue result → (values_of name.now (map (header_bytes bytes.now) headers.now) ≡ []) × (values_of other.now (map (header_bytes bytes.now) headers.now) ≡ []) }
+{
+    for header in headers {
+        let found = header.name.of(bytes);
+        if same_text(found, name) || same_text(found, other) {
             return false;
         }
     }

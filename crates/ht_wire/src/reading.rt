@@ -1,7 +1,7 @@
-ghost use Rattle.std.specs.Prelude.{◌≡◌, ◌≤◌, All, IfOk, MatchOption, MatchResult, length, drop, map};
+ghost use Rattle.std.specs.Prelude.{◌≡◌, ◌≤◌, [], All, IfOk, MatchOption, MatchResult, length, drop, map};
 ghost use Rattle.http_header.specs.Token.{IsToken};
 ghost use Rattle.httparse.specs.Spans.{IsHeaderWithin, IsRequestWithin, IsWithin, header_bytes, span_bytes};
-ghost use Rattle.ht_wire.specs.Buffering.{FindsHead, FindsBody, failure};
+ghost use Rattle.ht_wire.specs.Buffering.{FindsHead, FindsBody, ReadsWhereNeeded, failure};
 ghost use Rattle.ht_wire.specs.GivingOut.{GivesOut, fields_at};
 ghost use Rattle.ht_wire.specs.Reading.{Reads, HasReadCause};
 ghost use Rattle.ht_wire.specs.Requests.{Carries, IsCutShort, IsUnfinished};
@@ -47,7 +47,8 @@ pub enum Next {
 /// has at most 16,384 bytes and 64 fields: more are refused with 431, and what is no head, or ends
 /// before one does, with 400. Behind a head stand as many bytes of a body as `content-length` says,
 /// at most 1,048,576: more are refused with 413, a length that is none or a body that ends early
-/// with 400, and a transfer coding with 501. It reads only while the request isn't there whole.
+/// with 400, and a transfer coding with 501. It reads only where more
+/// bytes are needed.
 pub fn next_request<S: Source>(alloc: Global, source: &mut S, buffer: &mut Buffer) -> Next
     ensures reads { Reads (S.source_state source.old).flow (S.source_state source.new).flow buffer.old buffer.new result }
     ensures buffered { (IsUnfinished buffer.old → ⊥) → source.new ≡ source.old }
@@ -68,7 +69,7 @@ fn next_head<S: Source>(
     headers: &mut [HeaderSpan; ROOM],
 ) -> Result<RequestSpans, Next>
     ensures finds { FindsHead (S.source_state source.old).flow (S.source_state source.new).flow buffer.old buffer.new headers.new result }
-    ensures buffered { (IsUnfinished buffer.old → ⊥) → source.new ≡ source.old }
+    ensures buffered { ReadsWhereNeeded source.old source.new buffer.old buffer.new }
     ensures beside { S.beside_source source.new ≡ S.beside_source source.old }
     ensures cause { MatchResult result (λ _. (S.source_state source.old).faults ≤ (S.source_state source.new).faults) (HasReadCause (S.source_state source.old).faults (S.source_state source.new).faults) }
 {
@@ -133,14 +134,19 @@ fn give_out<S: Source>(
     ensures beside { S.beside_source source.new ≡ S.beside_source source.old }
     ensures cause { HasReadCause (S.source_state source.old).faults (S.source_state source.new).faults result }
 {
+    let front = buffer.front();
     let fields = &headers[..head.headers];
-    let length = match body_length(buffer.front(), fields) {
+    let length = match body_length(front, fields) {
         Ok(length) => length,
         Err(code) => return Next::Refused(code),
     };
-    let Ok(request) = request_of(alloc, buffer.front(), fields, head) else {
+    let Ok(request) = request_of(alloc, front, fields, head) else {
         return Next::Memory;
     };
+    if length == 0 {
+        buffer.consume(head.len);
+        return Next::Request(request);
+    }
     let end = head.len + length;
     if let Some(next) = read_to(source, buffer, end) {
         return next;
@@ -165,7 +171,8 @@ fn request_of(
     requires method { IsWithin (length bytes.now) head.now.method }
     requires path { IsWithin (length bytes.now) head.now.path }
     requires token { IsToken (span_bytes bytes.now head.now.method) }
-    ensures { IfOk result (Carries (span_bytes bytes.now head.now.method) (span_bytes bytes.now head.now.path) head.now.version (map (header_bytes bytes.now) fields.now)) }
+    ensures carries { IfOk result (Carries (span_bytes bytes.now head.now.method) (span_bytes bytes.now head.now.path) head.now.version (map (header_bytes bytes.now) fields.now)) }
+    ensures body { IfOk result (λ r. r.body.items ≡ []) }
 {
     let method = method_of(alloc, head.method.of(bytes))?;
     let target = Bytes::of(alloc, head.path.of(bytes))?;

@@ -1,20 +1,27 @@
-use Rattle.ht_wire.proofs.BodyRead.{all_there, no_room, refused_now, short_body, whole_body}
+use Rattle.ht_wire.proofs.BodyRead.{all_there, no_body, no_room, refused_now, short_body, whole_body}
 use Rattle.ht_wire.proofs.Finding.{within_all}
 use Rattle.ht_wire.proofs.reading.give_out.Goals as goal
 
 pub returns-in-Err-clause-gives : goal.returns-in-Err-clause-gives
-returns-in-Err-clause-gives g c = refused_now _ _ _ _ _ (rw c.front.ensures.value at c.in-Err.ensures.length)
+returns-in-Err-clause-gives g c = refused_now _ _ _ _ _ (rw c.front-front.ensures.value at c.in-Err.ensures.length)
+
+pub consume-requires : goal.consume-requires
+consume-requires g c = within_all _ _ c.requires.within.section.len_fits
+
+pub returns-then-length-eq0-clause-gives : goal.returns-then-length-eq0-clause-gives
+returns-then-length-eq0-clause-gives g c =
+    no_body _ _ _ _ _ (rw c.front-front.ensures.value at c.in-Ok.ensures.length) c.if-length-eq0.true _ _ c.in-Ok-request_of.ensures.body c.consume.ensures (rw c.front-front.ensures.value at c.in-Ok-request_of.ensures.carries)
 
 pub returns-in-Some-clause-gives : goal.returns-in-Some-clause-gives
-returns-in-Some-clause-gives g c = short_body _ _ _ _ _ _ _ (rw c.front.ensures.value at c.in-Ok.ensures.length) (within_all _ _ c.requires.within.section.len_fits) _ c.in-Some.ensures.finds
+returns-in-Some-clause-gives g c = short_body _ _ _ _ _ _ _ (rw c.front-front.ensures.value at c.in-Ok.ensures.length) (within_all _ _ c.requires.within.section.len_fits) _ c.in-Some.ensures.finds
 
 pub returns-in-Some-clause-still : goal.returns-in-Some-clause-still
-returns-in-Some-clause-still g c = λ done. c.in-Some.ensures.still (all_there c.args.buffer.now c.args.headers.now c.args.head.now c.in-Ok.length (rw c.front.ensures.value at c.in-Ok.ensures.length) (within_all _ _ c.requires.within.section.len_fits) done)
+returns-in-Some-clause-still g c = λ done. c.in-Some.ensures.still (all_there c.args.buffer.now c.args.headers.now c.args.head.now c.in-Ok.length (rw c.front-front.ensures.value at c.in-Ok.ensures.length) (within_all _ _ c.requires.within.section.len_fits) done)
 
 pub returns-in-Ok-of-clause-gives : goal.returns-in-Ok-of-clause-gives
 returns-in-Ok-of-clause-gives g c =
-    let carried = rw c.front-2.ensures.value at c.in-Ok-request_of.ensures in
-    whole_body _ _ _ _ _ _ _ (rw c.front.ensures.value at c.in-Ok.ensures.length) (within_all _ _ c.requires.within.section.len_fits) _ _ c.in_default-read_to.ensures.finds (rw c.pending.ensures at c.in-Ok-of.ensures) c.consume.ensures (record {
+    let carried = rw c.front-front.ensures.value at c.in-Ok-request_of.ensures.carries in
+    whole_body _ _ _ _ _ _ _ (rw c.front-front.ensures.value at c.in-Ok.ensures.length) (within_all _ _ c.requires.within.section.len_fits) _ _ c.in_default-read_to.ensures.finds (rw c.pending.ensures at c.in-Ok-of.ensures) c.consume-in-Ok-of.ensures (record {
       method_is = carried.method_is;
       target_is = carried.target_is;
       person_is = carried.person_is;
@@ -22,10 +29,10 @@ returns-in-Ok-of-clause-gives g c =
     })
 
 pub returns-in-Ok-of-clause-still : goal.returns-in-Ok-of-clause-still
-returns-in-Ok-of-clause-still g c = λ done. c.in_default-read_to.ensures.still (all_there c.args.buffer.now c.args.headers.now c.args.head.now c.in-Ok.length (rw c.front.ensures.value at c.in-Ok.ensures.length) (within_all _ _ c.requires.within.section.len_fits) done)
+returns-in-Ok-of-clause-still g c = λ done. c.in_default-read_to.ensures.still (all_there c.args.buffer.now c.args.headers.now c.args.head.now c.in-Ok.length (rw c.front-front.ensures.value at c.in-Ok.ensures.length) (within_all _ _ c.requires.within.section.len_fits) done)
 
 pub returns-in-Err-of-clause-gives : goal.returns-in-Err-of-clause-gives
-returns-in-Err-of-clause-gives g c = no_room _ _ _ _ _ _ _ (rw c.front.ensures.value at c.in-Ok.ensures.length) (within_all _ _ c.requires.within.section.len_fits) c.in_default-read_to.ensures.finds
+returns-in-Err-of-clause-gives g c = no_room _ _ _ _ _ _ _ (rw c.front-front.ensures.value at c.in-Ok.ensures.length) (within_all _ _ c.requires.within.section.len_fits) c.in_default-read_to.ensures.finds
 
 pub returns-in-Err-of-clause-still : goal.returns-in-Err-of-clause-still
-returns-in-Err-of-clause-still g c = λ done. c.in_default-read_to.ensures.still (all_there c.args.buffer.now c.args.headers.now c.args.head.now c.in-Ok.length (rw c.front.ensures.value at c.in-Ok.ensures.length) (within_all _ _ c.requires.within.section.len_fits) done)
+returns-in-Err-of-clause-still g c = λ done. c.in_default-read_to.ensures.still (all_there c.args.buffer.now c.args.headers.now c.args.head.now c.in-Ok.length (rw c.front-front.ensures.value at c.in-Ok.ensures.length) (within_all _ _ c.requires.within.section.len_fits) done)

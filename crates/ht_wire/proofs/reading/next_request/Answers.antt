@@ -1,6 +1,6 @@
-use Rattle.std.proofs.Common.{◌∙◌, subst, sym}
+use Rattle.std.proofs.Common.{◌∙◌, inl, inr, subst, sym}
 use Rattle.http_header.specs.Token.{IsToken}
-use Rattle.ht_wire.proofs.Finding.{none_before}
+use Rattle.ht_wire.specs.Requests.{IsUnfinished}
 use Rattle.ht_wire.proofs.Giving.{found_head, unfinished_now}
 use Rattle.ht_wire.proofs.Outcomes.{token_is}
 use Rattle.ht_wire.proofs.reading.next_request.Goals as goal
@@ -14,5 +14,15 @@ returns-in-Ok-clause-reads g c = found_head _ _ _ c.in-Ok.ensures.finds.1 _ _ _ 
 pub returns-in-Ok-clause-buffered : goal.returns-in-Ok-clause-buffered
 returns-in-Ok-clause-buffered g c =
     λ done.
-    c.give_out.ensures.still (λ cut. done (none_before _ _ _ _ _ c.in-Ok.ensures.finds.0 (unfinished_now _ _ _ c.in-Ok.ensures.finds.1 cut)))
-    ∙ c.in-Ok.ensures.buffered done
+    elim c.in-Ok.ensures.buffered [
+      | inl same ↦ c.give_out.ensures.still (λ cut. done (subst IsUnfinished same.1 (unfinished_now _ _ _ c.in-Ok.ensures.finds.1 cut))) ∙ same.0
+      | inr needed ↦ absurd (done needed)
+    ]
+
+pub returns-in-Err-clause-buffered : goal.returns-in-Err-clause-buffered
+returns-in-Err-clause-buffered g c =
+    λ done.
+    elim c.in-Err.ensures.buffered [
+      | inl same ↦ same.0
+      | inr needed ↦ absurd (done needed)
+    ]
