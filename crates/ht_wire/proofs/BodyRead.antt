@@ -1,7 +1,8 @@
 -- The answers of `give_out`: the body behind a head is read.
-use Rattle.std.proofs.Common.{◌≡◌, ℕ, ◌+◌, ◌-◌, ◌<◌, ◌≤◌, ◌⊎◌, inl, inr, List, [], ◌++◌, length, take, drop, slice_range, arith, append-nil, length-append, ap, sym, subst, ◌∙◌, Option, Some, None, Ok, Err}
+use Rattle.std.proofs.Common.{◌≡◌, ℕ, Bool, ◌||◌, ◌==◌, codes, ◌+◌, ◌-◌, ◌<◌, ◌≤◌, ◌⊎◌, inl, inr, List, [], ◌++◌, length, take, drop, slice_range, arith, append-nil, length-append, ap, sym, subst, ◌∙◌, Option, Some, None, Ok, Err}
 use Rattle.std.proofs.lemmas.Bool.{cases_lt}
 use Rattle.std.proofs.lemmas.List.{take-append-drop, drop-drop, length-drop, length-take-le}
+use Rattle.std.specs.List.{list_any}
 use Rattle.httparse.specs.declared.spans.HeaderSpan.{HeaderSpan}
 use Rattle.httparse.specs.declared.spans.RequestSpans.{RequestSpans}
 use Rattle.httparse.specs.Spans.{span_bytes}
@@ -12,6 +13,7 @@ use Rattle.ht_wire.specs.declared.reading.Next.TheVariants as next
 use Rattle.ht_wire.specs.declared.request.Request.{Request}
 use Rattle.ht_wire.specs.Bodies.{announced}
 use Rattle.ht_wire.specs.Buffering.{ComesTo, FindsBody, ReadsOn}
+use Rattle.ht_wire.specs.Fields.{is_close, name_in, only, values_of}
 use Rattle.ht_wire.specs.GivingOut.{GivesAs, GivesOut, fields_at}
 use Rattle.ht_wire.specs.Requests.{Carries, IsCutShort}
 use Rattle.ht_wire.specs.Window.{front}
@@ -24,6 +26,16 @@ refused_now f old headers spans code is = record {
   takes = Takes-none f;
   gives = (sym (append-nil old), inl (sym is));
   needed = needed_none (λ bytes. IsCutShort (fields_at (front old) headers spans) (drop spans.len bytes)) f old;
+}
+
+-- the parts of a request are those of its head
+pub carried : (method target : List ℕ) (minor : ℕ) (fields : List (List ℕ × List ℕ)) (r : Request) (value : Option (List ℕ)) (close : Bool) → r.method ≡ method → r.target.items ≡ target
+    → r.person ≡ name_in value → value ≡ only (values_of (codes "x-person") fields) → r.last ≡ (minor == 0 || close) → close ≡ list_any is_close fields → Carries method target minor fields r
+carried method target minor fields r value close one two person value_is last close_is = record {
+  method_is = one;
+  target_is = two;
+  person_is = person ∙ ap name_in value_is;
+  last_is = last ∙ ap (λ c. minor == 0 || c) close_is;
 }
 
 -- there is none

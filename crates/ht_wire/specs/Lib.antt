@@ -11,4 +11,5 @@ pub mod Looking
 pub mod Reading
 pub mod Replies
 pub mod Requests
+pub mod Walking
 pub mod Window

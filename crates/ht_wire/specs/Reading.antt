@@ -1,6 +1,6 @@
 -- What one call of `next_request` reads: from the bytes that were buffered and those that it took
 -- from the source, to the bytes that are buffered after it. It reads on only while more are needed.
-use Rattle.std.specs.Prelude.{◌≡◌, ◌⊎◌, ℕ, ◌≤◌, List, [], ◌++◌, Option, Some, None, ⊤}
+use Rattle.std.specs.Prelude.{◌≡◌, ◌⊎◌, ℕ, ◌≤◌, List, ◌++◌, Option, Some, None, ⊤}
 use Rattle.ht_outside.specs.Causes.{Rose}
 use Rattle.ht_outside.specs.Tells.{Flow, Takes, IsAtEnd}
 use Rattle.ht_wire.specs.declared.reading.Next.{Next}

@@ -6,8 +6,9 @@ ghost use Rattle.httparse.specs.Spans.{IsHeaderWithin, header_bytes};
 ghost use Rattle.ht_wire.specs.Bodies.{announced, is_length};
 ghost use Rattle.ht_wire.specs.Bodies as spec;
 ghost use Rattle.ht_wire.specs.Fields.{values_of};
+ghost use Rattle.ht_wire.specs.Walking.{IsBare};
 
-use crate::fields::{are_missing, is_missing, same_text};
+use crate::fields::{is_missing, same_text};
 use crate::reading::{BAD_REQUEST, CONTENT_TOO_LARGE, NOT_IMPLEMENTED};
 use httparse::spans::HeaderSpan;
 use std::str;
@@ -19,14 +20,15 @@ const MOST: u64 = 1_048_576;
 const DIGITS: usize = 10;
 
 /// How long the body is that these fields announce, or the status code of the refusal: 501 where it
-/// has a transfer coding, 400 where its length is none, 413 where it has too many bytes.
-pub(crate) fn body_length(bytes: &[u8], headers: &[HeaderSpan]) -> Result<usize, u16>
-    requires { All (IsHeaderWithin (length bytes.now)) headers.now }
+/// has a transfer coding, 400 where its length is none, 413 where it has too many bytes. `bare` says
+/// that they speak of no body.
+pub(crate) fn body_length(bytes: &[u8], headers: &[HeaderSpan], bare: bool) -> Result<usize, u16>
+    requires within { All (IsHeaderWithin (length bytes.now)) headers.now }
+    requires bare { IsTrue bare → IsBare (map (header_bytes bytes.now) headers.now) }
     ensures length { result ≡ announced (map (header_bytes bytes.now) headers.now) }
     ensures most { IfOk result (λ n. n ≤ 1048576) }
 {
-    // Most requests have neither field, and one walk is enough for these.
-    if are_missing(bytes, headers, b"transfer-encoding", b"content-length") {
+    if bare {
         return Ok(0);
     }
     if !is_missing(bytes, headers, b"transfer-encoding") {

@@ -5,8 +5,10 @@ ghost use Rattle.ht_wire.specs.declared.buffer.FillFault.TheVariants as fault;
 ghost use Rattle.ht_wire.specs.Buffer.{Fills, HasFillCause, IsReadOrNone, MakesRoom};
 ghost use Rattle.ht_wire.specs.Window.{front};
 
+use crate::looking::ROOM;
 use ht_base::Memory;
 use ht_outside::{Failed, Source};
+use httparse::spans::{EMPTY_HEADER_SPAN, HeaderSpan};
 use std::alloc::Global;
 use std::marker::Model;
 
@@ -20,6 +22,8 @@ pub struct Buffer {
     bytes: Vec<u8>,
     start: usize,
     end: usize,
+    // It is cleared once, and not for each head.
+    room: Option<Box<[HeaderSpan; ROOM]>>,
 }
 
 impl Model for Buffer {
@@ -44,7 +48,25 @@ impl Buffer {
             bytes,
             start: 0,
             end: 0,
+            room: None,
         })
+    }
+
+    /// Takes out the room for the fields of a head, and makes it where there is none.
+    pub(crate) fn take_room(&mut self, alloc: Global) -> Result<Box<[HeaderSpan; ROOM]>, Memory>
+        ensures { self.new ≡ self.old }
+    {
+        match self.room.take() {
+            Some(room) => Ok(room),
+            None => new_room(alloc),
+        }
+    }
+
+    /// Puts the room for the fields of a head back.
+    pub(crate) fn put_room(&mut self, room: Box<[HeaderSpan; ROOM]>)
+        ensures { self.new ≡ self.old }
+    {
+        self.room = Some(room);
     }
 
     /// The bytes.
@@ -96,6 +118,11 @@ impl Buffer {
         self.end += count;
         Ok(count)
     }
+}
+
+#[inline(never)]
+fn new_room(alloc: Global) -> Result<Box<[HeaderSpan; ROOM]>, Memory> {
+    Ok(Box::new(alloc, [EMPTY_HEADER_SPAN; ROOM])?)
 }
 
 /// Why a read puts nothing into a buffer.

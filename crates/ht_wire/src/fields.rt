@@ -1,52 +1,79 @@
-ghost use Rattle.std.specs.Prelude.{◌≡◌, [], All, IsTrue, length, map, option_map};
+ghost use Rattle.std.specs.Prelude.{◌≡◌, [], All, IsTrue, length, map, option_map, codes};
 ghost use Rattle.std.specs.List.{list_any};
 ghost use Rattle.std.specs.Str.{str_eq_ignore_ascii_case};
 ghost use Rattle.httparse.specs.Spans.{IsHeaderWithin, header_bytes};
 ghost use Rattle.ht_wire.specs.Fields.{values_of, is_nothing, only, is_close};
-ghost use Rattle.ht_wire.specs.Fields as spec;
+ghost use Rattle.ht_wire.specs.Walking.{IsBare, only_after};
+ghost use Rattle.ht_wire.specs.Walking as spec;
 
-use ht_base::Name;
 use httparse::spans::HeaderSpan;
 
-/// Who sends the request: the name in the one field `x-person`.
-pub(crate) fn person_of(bytes: &[u8], headers: &[HeaderSpan]) -> Option<Name>
-    requires { All (IsHeaderWithin (length bytes.now)) headers.now }
-    ensures { result ≡ spec.person_of (map (header_bytes bytes.now) headers.now) }
-{
-    match only_value(bytes, headers, b"x-person") {
-        Some(value) => Name::of(value),
-        None => None,
-    }
+/// What the fields of a head say, as one walk over them finds it.
+#[derive(Clone, Copy)]
+pub(crate) struct Said<'b> {
+    /// The value of the one field `x-person`.
+    pub person: Option<&'b [u8]>,
+    /// Whether a field asks that the connection close.
+    pub close: bool,
+    /// Whether no field speaks of a body.
+    pub bare: bool,
 }
 
-/// Whether a field asks that the connection close.
-pub(crate) fn asks_close(bytes: &[u8], headers: &[HeaderSpan]) -> bool
+pub(crate) fn said_in<'b>(bytes: &'b [u8], headers: &[HeaderSpan]) -> Said<'b>
     requires { All (IsHeaderWithin (length bytes.now)) headers.now }
-    ensures { result ≡ list_any is_close (map (header_bytes bytes.now) headers.now) }
+    ensures person { option_map (λ v. v.now) result.person ≡ only (values_of (codes "x-person") (map (header_bytes bytes.now) headers.now)) }
+    ensures close { result.close ≡ list_any is_close (map (header_bytes bytes.now) headers.now) }
+    ensures bare { IsTrue result.bare → IsBare (map (header_bytes bytes.now) headers.now) }
 {
+    let mut first = None;
+    let mut several = false;
+    let mut close = false;
+    let mut bare = true;
     for header in headers {
         let name = header.name.of(bytes);
-        if same_text(name, b"connection") && same_text(header.value.of(bytes), b"close") {
-            return true;
-        }
+        let value = header.value.of(bytes);
+        let is_person = same_text(name, b"x-person");
+        several = several | (is_person & first.is_some());
+        first = kept(first, is_person, value);
+        close = close | asks_close(name, value);
+        bare = bare & !is_of_body(name);
     }
-    false
+    Said {
+        person: alone(first, several),
+        close,
+        bare,
+    }
 }
 
-// The value of the field of this name, if there is just one.
-fn only_value<'b>(bytes: &'b [u8], headers: &[HeaderSpan], name: &[u8]) -> Option<&'b [u8]>
-    requires { All (IsHeaderWithin (length bytes.now)) headers.now }
-    ensures { option_map (λ v. v.now) result ≡ only (values_of name.now (map (header_bytes bytes.now) headers.now)) }
+// The first value of a person: this one, where it is one and none came before.
+fn kept<'b>(first: Option<&'b [u8]>, is_person: bool, value: &'b [u8]) -> Option<&'b [u8]>
+    ensures { option_map (λ v. v.now) result ≡ spec.kept (option_map (λ v. v.now) first.entry) is_person value.now }
 {
-    for (place, header) in headers.iter().enumerate() {
-        if same_text(header.name.of(bytes), name) {
-            if is_missing(bytes, &headers[place + 1..], name) {
-                return Some(header.value.of(bytes));
-            }
-            return None;
-        }
+    if is_person && first.is_none() {
+        return Some(value);
     }
-    None
+    first
+}
+
+fn alone(first: Option<&[u8]>, several: bool) -> Option<&[u8]>
+    ensures { option_map (λ v. v.now) result ≡ only_after several (option_map (λ v. v.now) first.entry) [] }
+{
+    if several {
+        return None;
+    }
+    first
+}
+
+fn asks_close(name: &[u8], value: &[u8]) -> bool
+    ensures { result ≡ is_close (name.now, value.now) }
+{
+    same_text(name, b"connection") && same_text(value, b"close")
+}
+
+fn is_of_body(name: &[u8]) -> bool
+    ensures { result ≡ spec.is_of_body name.now }
+{
+    same_text(name, b"content-length") || same_text(name, b"transfer-encoding")
 }
 
 /// Whether no field has this name.
@@ -62,22 +89,10 @@ pub(crate) fn is_missing(bytes: &[u8], headers: &[HeaderSpan], name: &[u8]) -> b
     true
 }
 
-/// Whether no field has one of these two names.
-pub(crate) fn are_missing(bytes: &[u8], headers: &[HeaderSpan], name: &[u8], other: &[u8]) -> bool
-    requires { All (IsHeaderWithin (length bytes.now)) headers.now }
-    ensures { IsTrue result → (values_of name.now (map (header_bytes bytes.now) headers.now) ≡ []) × (values_of other.now (map (header_bytes bytes.now) headers.now) ≡ []) }
-{
-    for header in headers {
-        let found = header.name.of(bytes);
-        if same_text(found, name) || same_text(found, other) {
-            return false;
-        }
-    }
-    true
-}
-
+/// Whether two texts are the same, ASCII case aside. Most names come in the case in which they are
+/// looked for.
 pub(crate) fn same_text(a: &[u8], b: &[u8]) -> bool
     ensures { result ≡ str_eq_ignore_ascii_case a.now b.now }
 {
-    a.eq_ignore_ascii_case(b)
+    a == b || a.eq_ignore_ascii_case(b)
 }

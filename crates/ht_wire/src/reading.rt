@@ -1,22 +1,23 @@
-ghost use Rattle.std.specs.Prelude.{◌≡◌, ◌≤◌, [], All, IfOk, MatchOption, MatchResult, length, drop, map};
+ghost use Rattle.std.specs.Prelude.{◌≡◌, ◌≤◌, IfOk, MatchOption, MatchResult, length, drop, option_map};
 ghost use Rattle.http_header.specs.Token.{IsToken};
-ghost use Rattle.httparse.specs.Spans.{IsHeaderWithin, IsRequestWithin, IsWithin, header_bytes, span_bytes};
+ghost use Rattle.httparse.specs.Spans.{IsRequestWithin, span_bytes};
 ghost use Rattle.ht_wire.specs.Buffering.{FindsHead, FindsBody, ReadsWhereNeeded, failure};
+ghost use Rattle.ht_wire.specs.Fields as spec;
 ghost use Rattle.ht_wire.specs.GivingOut.{GivesOut, fields_at};
 ghost use Rattle.ht_wire.specs.Reading.{Reads, HasReadCause};
-ghost use Rattle.ht_wire.specs.Requests.{Carries, IsCutShort, IsUnfinished};
+ghost use Rattle.ht_wire.specs.Requests.{IsCutShort, IsUnfinished};
 ghost use Rattle.ht_wire.specs.Window.{front};
 
 use crate::bodies::body_length;
 use crate::buffer::{FillFault, WINDOW};
-use crate::fields::{asks_close, person_of};
+use crate::fields::said_in;
 use crate::looking::{ROOM, Sight, look};
 use crate::{Buffer, Request};
-use ht_base::{Bytes, Memory};
+use ht_base::{Bytes, Memory, Name};
 use ht_outside::Source;
 use http::Method;
 use http::method::MethodError;
-use httparse::spans::{EMPTY_HEADER_SPAN, HeaderSpan, RequestSpans};
+use httparse::spans::{HeaderSpan, RequestSpans};
 use std::alloc::Global;
 
 // Each look but the last is followed by a read of at least one byte.
@@ -55,9 +56,28 @@ pub fn next_request<S: Source>(alloc: Global, source: &mut S, buffer: &mut Buffe
     ensures beside { S.beside_source source.new ≡ S.beside_source source.old }
     ensures cause { HasReadCause (S.source_state source.old).faults (S.source_state source.new).faults result }
 {
-    let mut headers = [EMPTY_HEADER_SPAN; ROOM];
-    match next_head(source, buffer, &mut headers) {
-        Ok(head) => give_out(alloc, source, buffer, &headers, &head),
+    let Ok(mut room) = buffer.take_room(alloc) else {
+        return Next::Memory;
+    };
+    let next = next_within(alloc, source, buffer, &mut room);
+    buffer.put_room(room);
+    next
+}
+
+// The same, in this room for the fields of a head.
+fn next_within<S: Source>(
+    alloc: Global,
+    source: &mut S,
+    buffer: &mut Buffer,
+    headers: &mut [HeaderSpan; ROOM],
+) -> Next
+    ensures reads { Reads (S.source_state source.old).flow (S.source_state source.new).flow buffer.old buffer.new result }
+    ensures buffered { (IsUnfinished buffer.old → ⊥) → source.new ≡ source.old }
+    ensures beside { S.beside_source source.new ≡ S.beside_source source.old }
+    ensures cause { HasReadCause (S.source_state source.old).faults (S.source_state source.new).faults result }
+{
+    match next_head(source, buffer, headers) {
+        Ok(head) => give_out(alloc, source, buffer, headers, &head),
         Err(next) => next,
     }
 }
@@ -136,16 +156,29 @@ fn give_out<S: Source>(
 {
     let front = buffer.front();
     let fields = &headers[..head.headers];
-    let length = match body_length(front, fields) {
+    let said = said_in(front, fields);
+    let length = match body_length(front, fields, said.bare) {
         Ok(length) => length,
         Err(code) => return Next::Refused(code),
     };
-    let Ok(request) = request_of(alloc, front, fields, head) else {
+    let Ok(method) = method_of(alloc, head.method.of(front)) else {
         return Next::Memory;
     };
+    let Ok(target) = Bytes::of(alloc, head.path.of(front)) else {
+        return Next::Memory;
+    };
+    let person = name_in(said.person);
+    let last = (head.version == 0) | said.close;
     if length == 0 {
         buffer.consume(head.len);
-        return Next::Request(request);
+        let body = Bytes::new(alloc);
+        return Next::Request(Request {
+            method,
+            target,
+            person,
+            last,
+            body,
+        });
     }
     let end = head.len + length;
     if let Some(next) = read_to(source, buffer, end) {
@@ -154,35 +187,16 @@ fn give_out<S: Source>(
     match Bytes::of(alloc, &buffer.pending()[head.len..end]) {
         Ok(body) => {
             buffer.consume(end);
-            Next::Request(Request { body, ..request })
+            Next::Request(Request {
+                method,
+                target,
+                person,
+                last,
+                body,
+            })
         }
         Err(Memory) => Next::Memory,
     }
-}
-
-// The request of a head, with no body.
-fn request_of(
-    alloc: Global,
-    bytes: &[u8],
-    fields: &[HeaderSpan],
-    head: &RequestSpans,
-) -> Result<Request, Memory>
-    requires fields { All (IsHeaderWithin (length bytes.now)) fields.now }
-    requires method { IsWithin (length bytes.now) head.now.method }
-    requires path { IsWithin (length bytes.now) head.now.path }
-    requires token { IsToken (span_bytes bytes.now head.now.method) }
-    ensures carries { IfOk result (Carries (span_bytes bytes.now head.now.method) (span_bytes bytes.now head.now.path) head.now.version (map (header_bytes bytes.now) fields.now)) }
-    ensures body { IfOk result (λ r. r.body.items ≡ []) }
-{
-    let method = method_of(alloc, head.method.of(bytes))?;
-    let target = Bytes::of(alloc, head.path.of(bytes))?;
-    Ok(Request {
-        method,
-        target,
-        person: person_of(bytes, fields),
-        last: head.version == 0 || asks_close(bytes, fields),
-        body: Bytes::new(alloc),
-    })
 }
 
 fn method_of(alloc: Global, bytes: &[u8]) -> Result<Method, Memory>
@@ -193,5 +207,14 @@ fn method_of(alloc: Global, bytes: &[u8]) -> Result<Method, Memory>
         Ok(method) => Ok(method),
         Err(MethodError::OutOfMemory) => Err(Memory),
         Err(MethodError::Invalid) => unreachable!(),
+    }
+}
+
+fn name_in(value: Option<&[u8]>) -> Option<Name>
+    ensures { result ≡ spec.name_in (option_map (λ v. v.now) value.entry) }
+{
+    match value {
+        Some(value) => Name::of(value),
+        None => None,
     }
 }

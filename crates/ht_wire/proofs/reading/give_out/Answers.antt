@@ -1,4 +1,5 @@
-use Rattle.ht_wire.proofs.BodyRead.{all_there, no_body, no_room, refused_now, short_body, whole_body}
+use Rattle.std.proofs.Common.{refl, ◌∙◌}
+use Rattle.ht_wire.proofs.BodyRead.{all_there, carried, no_body, no_room, refused_now, short_body, whole_body}
 use Rattle.ht_wire.proofs.Finding.{within_all}
 use Rattle.ht_wire.proofs.reading.give_out.Goals as goal
 
@@ -10,7 +11,7 @@ consume-requires g c = within_all _ _ c.requires.within.section.len_fits
 
 pub returns-then-length-eq0-clause-gives : goal.returns-then-length-eq0-clause-gives
 returns-then-length-eq0-clause-gives g c =
-    no_body _ _ _ _ _ (rw c.front-front.ensures.value at c.in-Ok.ensures.length) c.if-length-eq0.true _ _ c.in-Ok-request_of.ensures.body c.consume.ensures (rw c.front-front.ensures.value at c.in-Ok-request_of.ensures.carries)
+    no_body _ c.args.buffer.now c.args.headers.now c.args.head.now c.in-Ok.length (rw c.front-front.ensures.value at c.in-Ok.ensures.length) c.if-length-eq0.true _ _ c.new-body.ensures c.consume.ensures (carried _ _ _ _ _ _ c.said_in-said.result.close (rw c.front-front.ensures.value at (c.in-Ok-method_of.ensures ∙ c.of.ensures)) (rw c.front-front.ensures.value at (c.in-Ok-of.ensures ∙ c.of-2.ensures)) c.name_in-person.ensures (rw c.front-front.ensures.value at c.said_in-said.ensures.person) refl (rw c.front-front.ensures.value at c.said_in-said.ensures.close))
 
 pub returns-in-Some-clause-gives : goal.returns-in-Some-clause-gives
 returns-in-Some-clause-gives g c = short_body _ _ _ _ _ _ _ (rw c.front-front.ensures.value at c.in-Ok.ensures.length) (within_all _ _ c.requires.within.section.len_fits) _ c.in-Some.ensures.finds
@@ -18,18 +19,12 @@ returns-in-Some-clause-gives g c = short_body _ _ _ _ _ _ _ (rw c.front-front.en
 pub returns-in-Some-clause-still : goal.returns-in-Some-clause-still
 returns-in-Some-clause-still g c = λ done. c.in-Some.ensures.still (all_there c.args.buffer.now c.args.headers.now c.args.head.now c.in-Ok.length (rw c.front-front.ensures.value at c.in-Ok.ensures.length) (within_all _ _ c.requires.within.section.len_fits) done)
 
-pub returns-in-Ok-of-clause-gives : goal.returns-in-Ok-of-clause-gives
-returns-in-Ok-of-clause-gives g c =
-    let carried = rw c.front-front.ensures.value at c.in-Ok-request_of.ensures.carries in
-    whole_body _ _ _ _ _ _ _ (rw c.front-front.ensures.value at c.in-Ok.ensures.length) (within_all _ _ c.requires.within.section.len_fits) _ _ c.in_default-read_to.ensures.finds (rw c.pending.ensures at c.in-Ok-of.ensures) c.consume-in-Ok-of.ensures (record {
-      method_is = carried.method_is;
-      target_is = carried.target_is;
-      person_is = carried.person_is;
-      last_is = carried.last_is;
-    })
+pub returns-in-Ok-of-2-clause-gives : goal.returns-in-Ok-of-2-clause-gives
+returns-in-Ok-of-2-clause-gives g c =
+    whole_body _ _ c.args.buffer.now _ c.args.headers.now c.args.head.now c.in-Ok.length (rw c.front-front.ensures.value at c.in-Ok.ensures.length) (within_all _ _ c.requires.within.section.len_fits) _ _ c.in_default-read_to.ensures.finds (rw c.pending.ensures at c.in-Ok-of-2.ensures) c.consume-in-Ok-of-2.ensures (carried _ _ _ _ _ _ c.said_in-said.result.close (rw c.front-front.ensures.value at (c.in-Ok-method_of.ensures ∙ c.of.ensures)) (rw c.front-front.ensures.value at (c.in-Ok-of.ensures ∙ c.of-2.ensures)) c.name_in-person.ensures (rw c.front-front.ensures.value at c.said_in-said.ensures.person) refl (rw c.front-front.ensures.value at c.said_in-said.ensures.close))
 
-pub returns-in-Ok-of-clause-still : goal.returns-in-Ok-of-clause-still
-returns-in-Ok-of-clause-still g c = λ done. c.in_default-read_to.ensures.still (all_there c.args.buffer.now c.args.headers.now c.args.head.now c.in-Ok.length (rw c.front-front.ensures.value at c.in-Ok.ensures.length) (within_all _ _ c.requires.within.section.len_fits) done)
+pub returns-in-Ok-of-2-clause-still : goal.returns-in-Ok-of-2-clause-still
+returns-in-Ok-of-2-clause-still g c = λ done. c.in_default-read_to.ensures.still (all_there c.args.buffer.now c.args.headers.now c.args.head.now c.in-Ok.length (rw c.front-front.ensures.value at c.in-Ok.ensures.length) (within_all _ _ c.requires.within.section.len_fits) done)
 
 pub returns-in-Err-of-clause-gives : goal.returns-in-Err-of-clause-gives
 returns-in-Err-of-clause-gives g c = no_room _ _ _ _ _ _ _ (rw c.front-front.ensures.value at c.in-Ok.ensures.length) (within_all _ _ c.requires.within.section.len_fits) c.in_default-read_to.ensures.finds

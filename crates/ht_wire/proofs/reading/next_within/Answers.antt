@@ -3,7 +3,7 @@ use Rattle.http_header.specs.Token.{IsToken}
 use Rattle.ht_wire.specs.Requests.{IsUnfinished}
 use Rattle.ht_wire.proofs.Giving.{found_head, unfinished_now}
 use Rattle.ht_wire.proofs.Outcomes.{token_is}
-use Rattle.ht_wire.proofs.reading.next_request.Goals as goal
+use Rattle.ht_wire.proofs.reading.next_within.Goals as goal
 
 pub give_out-requires-clause-token : goal.give_out-requires-clause-token
 give_out-requires-clause-token g c = let seen = c.in-Ok.ensures.finds.1 in subst IsToken (sym seen.2.1.method) (token_is seen.2.0.method seen.2.1.reads.0.method)
