@@ -6,13 +6,13 @@ use Rattle.std.specs.List.{list_all}
 use Rattle.std.proofs.lemmas.Bool.{and_parts, leb-true, ltb-true, lt-ltb}
 use Rattle.std.proofs.lemmas.Cmp.{nat_list_eq_equiv}
 use Rattle.serde_json.specs.Data.{Data, null, boolean, number, string, array, object, Members, no_members, member}
-use Rattle.serde_json.specs.Find.{as_array, as_i64, as_number, as_object, as_u64}
+use Rattle.serde_json.specs.Find.{as_array, as_i64, as_number, as_object, as_str, as_u64}
 use Rattle.ht_base.specs.declared.scalar.Scalar.{Scalar}
 use Rattle.ht_base.specs.declared.scalar.Scalar.TheVariants.{Text, Int, Truth}
 use Rattle.ht_base.specs.Events.{AreGiven, AreNames, is_short}
 use Rattle.ht_base.specs.Name.{name_of}
 use Rattle.ht_base.specs.Places.{IsRepeated}
-use Rattle.ht_api.specs.Fits.{are_distinct, holds_name, names_of, owners_in, part_in, parts_if, parts_in, parts_of, persons_if, persons_in, priority_if, priority_in, scalar_in, some_names}
+use Rattle.ht_api.specs.Fits.{are_distinct, holds_name, if_any, names_of, owners_in, part_in, parts_if, parts_in, parts_of, persons_if, persons_in, scalar_in, some_parts_in, text_if, text_in, whole_if, whole_in}
 
 -- ---- what an option that is there came from
 
@@ -31,6 +31,14 @@ if_there (Some b) P a h e = let same : b ≡ a = cc in subst P same h
 pub from_mapped : {A B : Type 0} (f : A → B) (o : Option A) (b : B) → option_map f o ≡ Some b → (a : A) × (o ≡ Some a) × (f a ≡ b)
 from_mapped f None b e = cc
 from_mapped f (Some a) b e = (a, refl, cc)
+
+-- of what has at least one
+pub some_fit : {A : Type 0} (o : Option (List A)) (xs : List A) (P : List A → Type 0) → option_and_then if_any o ≡ Some xs → ((ys : List A) → o ≡ Some ys → P ys) → P xs × (1 ≤ length xs)
+some_fit o xs P e all =
+    let p = from_some o if_any xs e in
+    let s = from_if (nat_lt 0 (length p.0)) p.0 xs p.2 in
+    let some = ltb-true 0 (length p.0) s.0 in
+    subst (λ ys. P ys × (1 ≤ length ys)) s.1 (all p.0 p.1, omega arith)
 
 -- ---- what a loop has read, before what is left
 
@@ -90,6 +98,9 @@ given d parts e =
     let fit : AreGiven p.0 = record { few = leb-true (length p.0) 8 s.0; short = all_short q.0 p.0 q.2 } in
     subst AreGiven s.1 fit
 
+pub some_given : (d : Data) (parts : List (List ℕ × Scalar)) → some_parts_in d ≡ Some parts → AreGiven parts × (1 ≤ length parts)
+some_given d parts e = some_fit (parts_in d) parts AreGiven e (given d)
+
 -- ---- persons
 
 first_or : (a b : Bool) → b ≡ true → (a || b) ≡ true
@@ -101,7 +112,7 @@ holds_there [] name i h = cc
 holds_there (n ∷ ns) name zero h = let same : n ≡ name = cc in rw (same, nat_list_eq_equiv.refl name) refl
 holds_there (n ∷ ns) name (suc i) h = first_or (pointwise nat_eq n name) (holds_name name ns) (holds_there ns name i h)
 
-not_true : (b : Bool) → not b ≡ true → b ≡ false
+pub not_true : (b : Bool) → not b ≡ true → b ≡ false
 not_true true e = cc
 not_true false e = refl
 
@@ -126,16 +137,22 @@ persons_fit d names e =
     subst AreNames s.1 fit
 
 pub owners_fit : (d : Data) (names : List (List ℕ)) → owners_in d ≡ Some names → AreNames names × (1 ≤ length names)
-owners_fit d names e =
-    let p = from_some (persons_in d) some_names names e in
-    let s = from_if (nat_lt 0 (length p.0)) p.0 names p.2 in
-    let fit = λ (ns : List (List ℕ)). AreNames ns × (1 ≤ length ns) in
-    let some = ltb-true 0 (length p.0) s.0 in
-    subst fit s.1 (persons_fit d p.0 p.1, omega arith)
+owners_fit d names e = some_fit (persons_in d) names AreNames e (persons_fit d)
 
-pub priority_fits : (d : Data) (n : ℕ) → priority_in d ≡ Some n → n ≤ 10
-priority_fits d n e =
-    let p = from_some (option_and_then as_u64 (as_number d)) priority_if n e in
-    let s = from_if (nat_le p.0 10) p.0 n p.2 in
-    let few = leb-true p.0 10 s.0 in
-    let same = s.1 in omega arith
+pub whole_fits : (least most : ℕ) (d : Data) (n : ℕ) → whole_in least most d ≡ Some n → (least ≤ n) × (n ≤ most)
+whole_fits least most d n e =
+    let p = from_some (option_and_then as_u64 (as_number d)) (whole_if least most) n e in
+    let s = from_if (nat_le least p.0 && nat_le p.0 most) p.0 n p.2 in
+    let t = and_parts (nat_le least p.0) (nat_le p.0 most) s.0 in
+    let low = leb-true least p.0 t.0 in
+    let few = leb-true p.0 most t.1 in
+    subst (λ (k : ℕ). (least ≤ k) × (k ≤ most)) s.1 (low, few)
+
+pub text_fits : (d : Data) (text : List ℕ) → text_in d ≡ Some text → (1 ≤ length text) × (length text ≤ 512)
+text_fits d text e =
+    let p = from_some (as_str d) text_if text e in
+    let s = from_if (nat_lt 0 (length p.0) && nat_le (length p.0) 512) p.0 text p.2 in
+    let t = and_parts (nat_lt 0 (length p.0)) (nat_le (length p.0) 512) s.0 in
+    let some = ltb-true 0 (length p.0) t.0 in
+    let few = leb-true (length p.0) 512 t.1 in
+    subst (λ ys. (1 ≤ length ys) × (length ys ≤ 512)) s.1 (omega arith, omega arith)

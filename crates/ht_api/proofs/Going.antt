@@ -44,6 +44,10 @@ module _ (start now new : Written) (all : List Token) where
     pub then_full : now.spare < room ts → start.spare < room all
     then_full f = omega (arith, g.spare, room-append ts left)
 
+  pub one_put : (k : Token) (left : List Token) → Going start now all (k ∷ left) → new.tokens ≡ now.tokens ++ k ∷ [] → new.before ≡ now.before → now.spare ≤ new.spare + (length (token_text k) + 1)
+      → Going start new all left
+  one_put k left g t b s = then_put (k ∷ []) left g t b (omega (arith, s))
+
   pub ended : {E : Type 0} (r : Result (Unit {0}) E) (ts : List Token) → Going start now all ts → Puts r now new ts → Puts r start new all
   ended (Ok u) ts g p = record { ok = p.ok ∙ g.tokens; before = p.before ∙ g.before; spare = omega (arith, g.spare, p.spare); full = tt }
   ended (Err e) ts g p = record { ok = tt; before = p.before ∙ g.before; spare = tt; full = omega (arith, g.spare, p.full) }

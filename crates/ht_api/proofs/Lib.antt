@@ -1,4 +1,5 @@
 mod Ascii
+mod ByKey
 mod Fitting
 mod Going
 mod JsonIn

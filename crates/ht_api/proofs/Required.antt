@@ -1,70 +1,36 @@
 -- The fields that are read have each required key.
-use Rattle.std.proofs.Common.{◌≡◌, refl, subst, ℕ, Bool, true, false, List, [], ◌∷◌, Option, Some, None, option_map, Result, Ok, Err, if◌then◌else◌}
+use Rattle.std.proofs.Common.{◌≡◌, refl, subst, ℕ, Bool, true, false, List, [], ◌∷◌, Option, Some, None, IsSome, Result, Ok, Err, if◌then◌else◌}
 use Rattle.serde_json.specs.Data.{Data}
 use Rattle.serde_json.specs.Find.{get}
-use Rattle.ht_base.specs.declared.role_list.RoleList.{RoleList}
-use Rattle.ht_base.specs.declared.scalar.Scalar.{Scalar}
 use Rattle.ht_api.specs.declared.asked.Asked.{Asked}
 use Rattle.ht_api.specs.declared.fields.Fields.{Fields}
 use Rattle.ht_api.specs.declared.keys.Key.{Key}
-use Rattle.ht_api.specs.declared.keys.Key.TheVariants.{Model, Input, Person, Role, Owners, Persons, Priority}
+use Rattle.ht_api.specs.declared.keys.Key.TheVariants.{Model}
 use Rattle.ht_api.specs.declared.refusal.ApiRefusal.{ApiRefusal}
 use Rattle.ht_api.specs.declared.refusal.ApiRefusal.TheVariants.{Field}
 use Rattle.ht_api.specs.Commands.{Has, HasAll, HasIf}
-use Rattle.ht_api.specs.Fields.{fields_from, no_fields, or_refused, taken, turn, with_key, without}
-use Rattle.ht_api.specs.Fits.{name_in, owners_in, parts_in, persons_in, priority_in, role_in}
+use Rattle.ht_api.specs.Fields.{fields_from, no_fields, number_keys, or_refused, taken, then_taken, turn, with_key, without}
 use Rattle.ht_api.specs.Keys.{key_name, keys_of}
+use Rattle.ht_api.proofs.ByKey.{field, from_key, key_keeps, put_there, with_field}
 
--- what a value that fits leaves
-pub from_map : {A : Type 0} (o : Option A) (h : A → Fields) (g : Fields) (P : Fields → Type 0) → option_map h o ≡ Some g → ((a : A) → o ≡ Some a → P (h a)) → P g
-from_map None h g P e all = cc
-from_map (Some a) h g P e all = let same : h a ≡ g = cc in subst P same (all a refl)
+held : (key : Key) (f : Fields) → IsSome (field key f) → Has key f
+held Model f h = h
+held key f h = h
 
-set_model : (k : Key) (f : Fields) (a : List ℕ) → Has k f → Has k (record f { model = Some a })
-set_model Model f a h = refl
-set_model k f a h = h
-
-set_input : (k : Key) (f : Fields) (a : List (List ℕ × Scalar)) → Has k f → Has k (record f { input = Some a })
-set_input Input f a h = refl
-set_input k f a h = h
-
-set_person : (k : Key) (f : Fields) (a : List ℕ) → Has k f → Has k (record f { person = Some a })
-set_person Person f a h = refl
-set_person k f a h = h
-
-set_role : (k : Key) (f : Fields) (a : RoleList) → Has k f → Has k (record f { role = Some a })
-set_role Role f a h = refl
-set_role k f a h = h
-
-set_owners : (k : Key) (f : Fields) (a : List (List ℕ)) → Has k f → Has k (record f { owners = Some a })
-set_owners Owners f a h = refl
-set_owners k f a h = h
-
-set_persons : (k : Key) (f : Fields) (a : List (List ℕ)) → Has k f → Has k (record f { persons = Some a })
-set_persons Persons f a h = refl
-set_persons k f a h = h
-
-set_priority : (k : Key) (f : Fields) (a : ℕ) → Has k f → Has k (record f { priority = Some a })
-set_priority Priority f a h = refl
-set_priority k f a h = h
+holds : (key : Key) (f : Fields) → Has key f → IsSome (field key f)
+holds Model f h = h
+holds key f h = h
 
 kept : (j : Key) (d : Data) (f g : Fields) → with_key j d f ≡ Some g → (k : Key) → Has k f → Has k g
-kept Model d f g e k h = from_map (name_in d) (λ a. record f { model = Some a }) g (Has k) e (λ a is. set_model k f a h)
-kept Input d f g e k h = from_map (parts_in d) (λ a. record f { input = Some a }) g (Has k) e (λ a is. set_input k f a h)
-kept Person d f g e k h = from_map (name_in d) (λ a. record f { person = Some a }) g (Has k) e (λ a is. set_person k f a h)
-kept Role d f g e k h = from_map (role_in d) (λ a. record f { role = Some a }) g (Has k) e (λ a is. set_role k f a h)
-kept Owners d f g e k h = from_map (owners_in d) (λ a. record f { owners = Some a }) g (Has k) e (λ a is. set_owners k f a h)
-kept Persons d f g e k h = from_map (persons_in d) (λ a. record f { persons = Some a }) g (Has k) e (λ a is. set_persons k f a h)
-kept Priority d f g e k h = from_map (priority_in d) (λ a. record f { priority = Some a }) g (Has k) e (λ a is. set_priority k f a h)
+kept j d f g e k h = held k g (key_keeps (λ k o. Has k f → IsSome o) j d f g e (λ a is there. refl) (λ k there. holds k f there) k h)
+
+some_is : {A : Type 0} (o : Option A) (a : A) → o ≡ Some a → IsSome o
+some_is o a e = rw e refl
 
 has : (j : Key) (d : Data) (f g : Fields) → with_key j d f ≡ Some g → Has j g
-has Model d f g e = from_map (name_in d) (λ a. record f { model = Some a }) g (Has Model) e (λ a is. refl)
-has Input d f g e = from_map (parts_in d) (λ a. record f { input = Some a }) g (Has Input) e (λ a is. refl)
-has Person d f g e = from_map (name_in d) (λ a. record f { person = Some a }) g (Has Person) e (λ a is. refl)
-has Role d f g e = from_map (role_in d) (λ a. record f { role = Some a }) g (Has Role) e (λ a is. refl)
-has Owners d f g e = from_map (owners_in d) (λ a. record f { owners = Some a }) g (Has Owners) e (λ a is. refl)
-has Persons d f g e = from_map (persons_in d) (λ a. record f { persons = Some a }) g (Has Persons) e (λ a is. refl)
-has Priority d f g e = from_map (priority_in d) (λ a. record f { priority = Some a }) g (Has Priority) e (λ a is. refl)
+has j d f g e =
+    let m = from_key j d f g e in
+    subst (Has j) m.2 (held j (with_field j f m.0) (some_is (field j (with_field j f m.0)) m.0 (put_there j f m.0)))
 
 missing_has : (required : Bool) (f g : Fields) (k : Key) → without required f ≡ Some g → HasIf required k g
 missing_has true f g k e = cc
@@ -112,6 +78,14 @@ pub known_only : (known : Bool) (body : List ℕ) (r : Result Fields ApiRefusal)
 known_only true body r g e = e
 known_only false body r g e = cc
 
+behind_number : (rows : List (Key × Bool)) (d : Data) (r : Result Fields ApiRefusal) (g : Fields) → then_taken rows d r ≡ Ok g → (f : Fields) × (r ≡ Ok f) × (taken rows d f ≡ Ok g)
+behind_number rows d (Err why) g e = cc
+behind_number rows d (Ok f) g e = (f, refl, e)
+
+-- the fields of a body are taken behind those of its number
+pub from_number : (asked : Asked) (d : Data) (g : Fields) → fields_from asked (Some d) ≡ Ok g → (f : Fields) × (taken (number_keys d) d no_fields ≡ Ok f) × (taken (keys_of asked) d f ≡ Ok g)
+from_number asked d g e = behind_number (keys_of asked) d (taken (number_keys d) d no_fields) g (known_only _ _ _ g e)
+
 pub has_required : (asked : Asked) (o : Option Data) (g : Fields) → fields_from asked o ≡ Ok g → HasAll (keys_of asked) g
 has_required asked None g e = cc
-has_required asked (Some d) g e = taken_has (keys_of asked) d no_fields g (known_only _ _ _ g e)
+has_required asked (Some d) g e = let q = from_number asked d g e in taken_has (keys_of asked) d q.0 g q.2

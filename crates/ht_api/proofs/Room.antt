@@ -18,7 +18,7 @@ use Rattle.ht_base.specs.declared.task_id.TaskId.{TaskId}
 use Rattle.ht_base.specs.Role.{all_roles, contains_role, role_name}
 use Rattle.ht_base.specs.State.{all_states, contains_state, state_name}
 use Rattle.ht_api.specs.Contents.{members, names, row_object}
-use Rattle.ht_api.specs.Replies.{IsShort, answer_data, fault, named_fault, refusal_data}
+use Rattle.ht_api.specs.Replies.{IsShort, answer_data, counted_fault, fault, named_fault, refusal_data}
 use Rattle.ht_api.specs.Writing.{texts_left, tokens_of}
 
 either_le : (b : Bool) (n : ℕ) (xs ys : List ℕ) → length xs ≤ n → length ys ≤ n → length (cond b xs ys) ≤ n
@@ -80,9 +80,9 @@ pub named_fault_room : (name key what : List ℕ) → length name ≤ 16 → len
 unfolding escape_byte
 named_fault_room name key what n k w = omega (arith, length-quoted name, length-quoted key, length-quoted what, length-append (quoted key) (58 ∷ []))
 
-pub task_room : (task : TaskId) → task.0 < 2 ^ 64 → room (tokens_of (refusal_data (refusal.Task task))) ≤ 1024
+pub counted_fault_room : (name key : List ℕ) (number : ℕ) → length name ≤ 16 → length key ≤ 16 → number < 2 ^ 64 → room (tokens_of (counted_fault name key number)) ≤ 1024
 unfolding escape_byte
-task_room task t = omega (arith, id_short task.0 t)
+counted_fault_room name key number n k small = omega (arith, length-quoted name, length-quoted key, id_short number small, length-append (quoted key) (58 ∷ []))
 
 all_roles_room : room (texts_left (map role_name all_roles)) ≤ 200
 unfolding escape_byte

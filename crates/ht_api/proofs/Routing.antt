@@ -1,5 +1,5 @@
 -- The first path of the table that a target is, in words.
-use Rattle.std.proofs.Common.{inl, inr, ◌⊎◌, ◌≡◌, ◌∙◌, sym, ap, refl, subst, ℕ, zero, suc, ◌+◌, ◌-◌, ◌<◌, ◌≤◌, ◌==◌, ◌&&◌, Bool, true, false, cond, List, [], ◌∷◌, ◌++◌, length, take, drop, Option, Some, None, option_and_then, if◌then◌else◌, bytes_eq, codes, nat_eq, nat_lt, append_assoc, length-append, IsAscii, arith}
+use Rattle.std.proofs.Common.{inl, inr, ◌⊎◌, ◌≡◌, ◌∙◌, sym, ap, refl, subst, ℕ, zero, suc, ◌+◌, ◌-◌, ◌<◌, ◌≤◌, ◌==◌, ◌&&◌, Bool, true, false, not, cond, List, [], ◌∷◌, ◌++◌, length, take, drop, Option, Some, None, option_and_then, if◌then◌else◌, bytes_eq, codes, nat_eq, nat_lt, append_assoc, length-append, IsAscii, arith}
 use Rattle.std.specs.Char.{is_ascii}
 use Rattle.std.specs.List.{list_all, starts_with, ends_with}
 use Rattle.std.proofs.Math.Seq.{drop-append_seam, take-append_seam, take-length}
@@ -18,10 +18,12 @@ use Rattle.ht_base.specs.declared.task_id.TaskId.{TaskId}
 use Rattle.ht_api.specs.declared.routes.Path.{Path}
 use Rattle.ht_api.specs.declared.routes.Path.TheVariants as path
 use Rattle.ht_api.specs.declared.routes.Place.{Place}
-use Rattle.ht_api.specs.Asked.{asked_in}
+use Rattle.ht_api.specs.declared.asked.Asked.{Asked}
+use Rattle.ht_api.specs.Asked.{asked_in, named_in, operations}
 use Rattle.ht_api.specs.Numbers.{task_in}
 use Rattle.ht_api.specs.Routes.{cut, place_behind, place_from, place_of, place_with}
 use Rattle.ht_api.proofs.Ascii.{ascii_passes}
+use Rattle.ht_api.proofs.Fitting.{not_true}
 use Rattle.ht_api.specs.Table.{found, parts_of, place_at, table, values_of}
 
 -- ---- rows that begin alike
@@ -286,20 +288,14 @@ not_this name this h n = at (bytes_eq name this) refl
     at false e = refl
     at true e = let is : name ≡ this = (bytes_eq-Decides name this).0 e in let there : has_slash name ≡ has_slash this = ap has_slash is in cc
 
+not_named : (rows : List (List ℕ × Asked)) (name : List ℕ) → has_slash name ≡ true → list_all (λ row. not (has_slash row.0)) rows ≡ true → named_in rows name ≡ None
+not_named [] name h none = refl
+not_named (row ∷ rows) name h none =
+    let p = and_parts (not (has_slash row.0)) (list_all (λ row. not (has_slash row.0)) rows) none in
+    rw (not_this name row.0 h (not_true (has_slash row.0) p.0)) (not_named rows name h p.1)
+
 no_operation : (name : List ℕ) → has_slash name ≡ true → asked_in name ≡ None
-no_operation name h =
-    rw (
-      not_this name (codes "claim") h refl,
-      not_this name (codes "start") h refl,
-      not_this name (codes "stop") h refl,
-      not_this name (codes "release") h refl,
-      not_this name (codes "delegate") h refl,
-      not_this name (codes "forward") h refl,
-      not_this name (codes "nominate") h refl,
-      not_this name (codes "activate") h refl,
-      not_this name (codes "setRole") h refl,
-      not_this name (codes "setPriority") h refl,
-    ) refl
+no_operation name h = not_named operations name h refl
 
 low_byte : (b : ℕ) → is_ascii b ≡ true → (256 == b) ≡ false
 low_byte b h = at (256 == b) refl

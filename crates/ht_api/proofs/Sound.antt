@@ -1,124 +1,138 @@
 -- The values of a body and its command are in their limits.
-use Rattle.std.proofs.Common.{◌≡◌, ◌≤◌, refl, subst, ℕ, List, [], length, Option, Some, None, unwrap_or, Result, Ok, Err}
+use Rattle.std.proofs.Common.{◌≡◌, ◌≤◌, refl, ap, subst, ℕ, List, [], length, Option, Some, None, unwrap_or, Result, Ok, Err}
 use Rattle.std.specs.Prelude.{IfSome}
 use Rattle.serde_json.specs.Data.{Data}
 use Rattle.ht_base.specs.declared.event.Command.{Command}
 use Rattle.ht_base.specs.declared.event.Command.TheVariants as command
 use Rattle.ht_base.specs.declared.scalar.Scalar.{Scalar}
 use Rattle.ht_base.specs.declared.task_id.TaskId.{TaskId}
-use Rattle.ht_base.specs.Events.{AreGiven, AreNames, IsCommand, IsTaskOf}
+use Rattle.ht_base.specs.declared.retry.Retry.{Retry}
+use Rattle.ht_base.specs.Events.{AreGiven, AreNames, IsCommand, IsRetry, IsTaskOf}
 use Rattle.ht_api.specs.declared.asked.Asked.{Asked}
 use Rattle.ht_api.specs.declared.asked.Asked.TheVariants as asked
 use Rattle.ht_api.specs.declared.fields.Fields.{Fields}
 use Rattle.ht_api.specs.declared.keys.Key.{Key}
-use Rattle.ht_api.specs.declared.keys.Key.TheVariants.{Model, Input, Person, Role, Owners, Persons, Priority}
+use Rattle.ht_api.specs.declared.keys.Key.TheVariants.{Device, Number, Model, Person, Role, Owners, Persons, Priority, Text, Input, Output, SomeOutput}
 use Rattle.ht_api.specs.declared.refusal.ApiRefusal.{ApiRefusal}
-use Rattle.ht_api.specs.Commands.{command_from, command_in, command_of, needing}
+use Rattle.ht_api.specs.Commands.{Numbered, command_from, command_in, command_of, needing, numbered, retry_from}
 use Rattle.ht_api.specs.Bodies.{json_in}
-use Rattle.ht_api.specs.Fields.{fields_from, no_fields, with_key}
-use Rattle.ht_api.specs.Fits.{name_in, owners_in, parts_in, persons_in, priority_in, role_in}
+use Rattle.ht_api.specs.Fields.{fields_from, no_fields, number_keys, with_key}
 use Rattle.ht_api.specs.Keys.{keys_of}
-use Rattle.ht_api.proofs.Fitting.{given, if_there, no_parts, owners_fit, persons_fit, priority_fits}
-use Rattle.ht_api.proofs.Required.{from_map, known_only, taken_kept}
+use Rattle.ht_api.proofs.Fitting.{given, if_there, no_parts, owners_fit, persons_fit, some_given, text_fits, whole_fits}
+use Rattle.ht_api.proofs.ByKey.{Value, field, fitting, key_keeps}
+use Rattle.ht_api.proofs.Required.{from_number, taken_kept}
 
--- the values are in their limits
-record AreSound (f : Fields) : Type 0 where
-  input : IfSome f.input AreGiven
-  owners : IfSome f.owners (λ names. AreNames names × (1 ≤ length names))
-  persons : IfSome f.persons AreNames
-  priority : IfSome f.priority (λ n. n ≤ 10)
+-- ---- fields
+
+-- the value of a key is in its limits
+abbrev pub IsSound : (key : Key) → Value key → Type 0
+IsSound Device n = n ≤ 15
+IsSound Number n = 1 ≤ n
+IsSound Owners names = AreNames names × (1 ≤ length names)
+IsSound Persons names = AreNames names
+IsSound Priority n = n ≤ 10
+IsSound Text text = (1 ≤ length text) × (length text ≤ 512)
+IsSound Input parts = AreGiven parts
+IsSound Output parts = AreGiven parts
+IsSound SomeOutput parts = AreGiven parts × (1 ≤ length parts)
+IsSound key a = Unit {0}
+
+fitting_sound : (key : Key) (d : Data) (a : Value key) → fitting key d ≡ Some a → IsSound key a
+fitting_sound Device d a e = (whole_fits 0 15 d a e).1
+fitting_sound Number d a e = (whole_fits 1 4294967295 d a e).0
+fitting_sound Owners d a e = owners_fit d a e
+fitting_sound Persons d a e = persons_fit d a e
+fitting_sound Priority d a e = (whole_fits 0 10 d a e).1
+fitting_sound Text d a e = text_fits d a e
+fitting_sound Input d a e = given d a e
+fitting_sound Output d a e = given d a e
+fitting_sound SomeOutput d a e = some_given d a e
+fitting_sound key d a e = tt
+
+abbrev pub AreSound : Fields → Type 0
+AreSound f = (key : Key) → IfSome (field key f) (IsSound key)
 
 sound_with : (j : Key) (d : Data) (f g : Fields) → with_key j d f ≡ Some g → AreSound f → AreSound g
-sound_with Model d f g e s = from_map (name_in d) (λ a. record f { model = Some a }) g AreSound e (λ a is. record { input = s.input; owners = s.owners; persons = s.persons; priority = s.priority })
-sound_with Input d f g e s = from_map (parts_in d) (λ a. record f { input = Some a }) g AreSound e (λ a is. record { input = given d a is; owners = s.owners; persons = s.persons; priority = s.priority })
-sound_with Person d f g e s = from_map (name_in d) (λ a. record f { person = Some a }) g AreSound e (λ a is. record { input = s.input; owners = s.owners; persons = s.persons; priority = s.priority })
-sound_with Role d f g e s = from_map (role_in d) (λ a. record f { role = Some a }) g AreSound e (λ a is. record { input = s.input; owners = s.owners; persons = s.persons; priority = s.priority })
-sound_with Owners d f g e s = from_map (owners_in d) (λ a. record f { owners = Some a }) g AreSound e (λ a is. record { input = s.input; owners = owners_fit d a is; persons = s.persons; priority = s.priority })
-sound_with Persons d f g e s = from_map (persons_in d) (λ a. record f { persons = Some a }) g AreSound e (λ a is. record { input = s.input; owners = s.owners; persons = persons_fit d a is; priority = s.priority })
-sound_with Priority d f g e s = from_map (priority_in d) (λ a. record f { priority = Some a }) g AreSound e (λ a is. record { input = s.input; owners = s.owners; persons = s.persons; priority = priority_fits d a is })
+sound_with j d f g e s = key_keeps (λ key o. IfSome o (IsSound key)) j d f g e (fitting_sound j d) s
 
 none_sound : AreSound no_fields
-none_sound = record { input = tt; owners = tt; persons = tt; priority = tt }
+none_sound Model = tt
+none_sound key = tt
 
 fields_sound : (asked : Asked) (o : Option Data) (g : Fields) → fields_from asked o ≡ Ok g → AreSound g
 fields_sound asked None g e = cc
-fields_sound asked (Some d) g e = taken_kept AreSound sound_with (keys_of asked) d no_fields g (known_only _ _ _ g e) none_sound
+fields_sound asked (Some d) g e =
+    let q = from_number asked d g e in
+    taken_kept AreSound sound_with (keys_of asked) d q.0 g q.2 (taken_kept AreSound sound_with (number_keys d) d no_fields q.0 q.1 none_sound)
 
 -- ---- commands
 
-need : {A : Type 0} (key : Key) (o : Option A) (make : A → Result Command ApiRefusal) (c : Command) → needing key o make ≡ Ok c → (a : A) × (o ≡ Some a) × (make a ≡ Ok c)
-need key None make c e = cc
-need key (Some a) make c e = (a, refl, e)
+-- a command that may stand in an event of this task
+abbrev pub FitsTask : TaskId → Command → Type 0
+FitsTask task c = IsTaskOf c task × IsCommand c
+
+-- the task that an operation is asked of: none for a create
+abbrev pub IsTask : Asked → TaskId → Type 0
+IsTask asked.Create task = task.0 ≡ 0
+IsTask _ task = 1 ≤ task.0
 
 given_or_none : (o : Option (List (List ℕ × Scalar))) → IfSome o AreGiven → AreGiven (unwrap_or o [])
 given_or_none None h = no_parts
 given_or_none (Some parts) h = h
 
-plain : (made c : Command) → ◌≡◌ {A = Result Command ApiRefusal} (Ok made) (Ok c) → IsCommand made → IsCommand c
-plain made c e h = let same : made ≡ c = cc in subst IsCommand same h
+module _ (task : TaskId) (c : Command) where
+  plain : (made : Command) → ◌≡◌ {A = Result Command ApiRefusal} (Ok made) (Ok c) → FitsTask task made → FitsTask task c
+  plain made e h = let same : made ≡ c = cc in subst (FitsTask task) same h
 
-command_sound : (asked : Asked) (f : Fields) (c : Command) → command_of asked f ≡ Ok c → AreSound f → IsCommand c
-command_sound asked.Create f c e s = plain (command.Create f.model (unwrap_or f.input [])) c e (given_or_none f.input s.input)
-command_sound asked.Claim f c e s = plain command.Claim c e tt
-command_sound asked.Start f c e s = plain command.Start c e tt
-command_sound asked.Stop f c e s = plain command.Stop c e tt
-command_sound asked.Release f c e s = plain command.Release c e tt
-command_sound asked.Delegate f c e s =
-    let p = need Person f.person (λ person. Ok (command.Delegate person)) c e in plain (command.Delegate p.0) c p.2 tt
-command_sound asked.Forward f c e s =
-    let p = need Owners f.owners (λ persons. Ok (command.Forward persons)) c e in plain (command.Forward p.0) c p.2 (if_there f.owners _ p.0 s.owners p.1)
-command_sound asked.Nominate f c e s =
-    let p = need Owners f.owners (λ persons. Ok (command.Nominate persons)) c e in plain (command.Nominate p.0) c p.2 (if_there f.owners _ p.0 s.owners p.1)
-command_sound asked.Activate f c e s = plain command.Activate c e tt
-command_sound asked.SetRole f c e s =
-    let p = need Role f.role (λ role. needing Persons f.persons (λ persons. Ok (command.SetRole role persons))) c e in
-    let q = need Persons f.persons (λ persons. Ok (command.SetRole p.0 persons)) c p.2 in
-    plain (command.SetRole p.0 q.0) c q.2 (if_there f.persons _ q.0 s.persons q.1)
-command_sound asked.SetPriority f c e s =
-    let p = need Priority f.priority (λ priority. Ok (command.SetPriority priority)) c e in plain (command.SetPriority p.0) c p.2 (if_there f.priority _ p.0 s.priority p.1)
+  need : {A : Type 0} (key : Key) (o : Option A) (make : A → Result Command ApiRefusal) → needing key o make ≡ Ok c → ((a : A) → o ≡ Some a → make a ≡ Ok c → FitsTask task c) → FitsTask task c
+  need key None make e all = cc
+  need key (Some a) make e all = all a refl e
 
--- an operation on a task that is there
-abbrev pub IsOnTask : Asked → Type 0
-IsOnTask asked.Create = ⊥
-IsOnTask _ = Unit {0}
+  fits : (what : Asked) (f : Fields) → command_of what f ≡ Ok c → AreSound f → IsTask what task → FitsTask task c
+  fits asked.Create f e s t = plain (command.Create f.model (unwrap_or f.input [])) e (t, given_or_none f.input (s Input))
+  fits asked.Delegate f e s t = need Person f.person (λ person. Ok (command.Delegate person)) e (λ person is made. plain (command.Delegate person) made (t, tt))
+  fits asked.Forward f e s t =
+      need Owners f.owners (λ persons. Ok (command.Forward persons)) e (λ persons is made. plain (command.Forward persons) made (t, if_there f.owners _ persons (s Owners) is))
+  fits asked.Nominate f e s t =
+      need Owners f.owners (λ persons. Ok (command.Nominate persons)) e (λ persons is made. plain (command.Nominate persons) made (t, if_there f.owners _ persons (s Owners) is))
+  fits asked.SetRole f e s t =
+      need Role f.role (λ role. needing Persons f.persons (λ persons. Ok (command.SetRole role persons))) e (λ role there rest.
+      need Persons f.persons (λ persons. Ok (command.SetRole role persons)) rest (λ persons is made. plain (command.SetRole role persons) made (t, if_there f.persons _ persons (s Persons) is)))
+  fits asked.SetPriority f e s t =
+      need Priority f.priority (λ priority. Ok (command.SetPriority priority)) e (λ priority is made. plain (command.SetPriority priority) made (t, if_there f.priority _ priority (s Priority) is))
+  fits asked.SetOutput f e s t =
+      need SomeOutput f.some_output (λ output. Ok (command.SetOutput output)) e (λ output is made. plain (command.SetOutput output) made (t, if_there f.some_output _ output (s SomeOutput) is))
+  fits asked.Complete f e s t = plain (command.Complete (unwrap_or f.output [])) e (t, given_or_none f.output (s Output))
+  fits asked.AddComment f e s t =
+      need Text f.text (λ text. Ok (command.AddComment text)) e (λ text is made. plain (command.AddComment text) made (t, if_there f.text _ text (s Text) is))
+  fits what f e s t = plain _ e (t, tt)
 
-named : (made c : Command) (task : TaskId) → ◌≡◌ {A = Result Command ApiRefusal} (Ok made) (Ok c) → IsTaskOf made task → IsTaskOf c task
-named made c task e h = let same : made ≡ c = cc in subst (λ (m : Command). IsTaskOf m task) same h
+-- ---- numbers
 
-create_task : (f : Fields) (c : Command) (task : TaskId) → command_of asked.Create f ≡ Ok c → task.0 ≡ 0 → IsTaskOf c task
-create_task f c task e h = named (command.Create f.model (unwrap_or f.input [])) c task e h
+retry_sound : (f : Fields) → AreSound f → IfSome (retry_from f.device f.number) IsRetry
+retry_sound f s = at f.device f.number (s Device) (s Number)
+  where
+    at : (device number : Option ℕ) → IfSome device (λ n. n ≤ 15) → IfSome number (λ n. 1 ≤ n) → IfSome (retry_from device number) IsRetry
+    at None number low some = tt
+    at (Some device) None low some = tt
+    at (Some device) (Some number) low some = (low, some)
 
-on_task : (asked : Asked) (f : Fields) (c : Command) (task : TaskId) → command_of asked f ≡ Ok c → IsOnTask asked → 1 ≤ task.0 → IsTaskOf c task
-on_task asked.Create f c task e o h = absurd o
-on_task asked.Claim f c task e o h = named command.Claim c task e h
-on_task asked.Start f c task e o h = named command.Start c task e h
-on_task asked.Stop f c task e o h = named command.Stop c task e h
-on_task asked.Release f c task e o h = named command.Release c task e h
-on_task asked.Delegate f c task e o h =
-    let p = need Person f.person (λ person. Ok (command.Delegate person)) c e in named (command.Delegate p.0) c task p.2 h
-on_task asked.Forward f c task e o h =
-    let p = need Owners f.owners (λ persons. Ok (command.Forward persons)) c e in named (command.Forward p.0) c task p.2 h
-on_task asked.Nominate f c task e o h =
-    let p = need Owners f.owners (λ persons. Ok (command.Nominate persons)) c e in named (command.Nominate p.0) c task p.2 h
-on_task asked.Activate f c task e o h = named command.Activate c task e h
-on_task asked.SetRole f c task e o h =
-    let p = need Role f.role (λ role. needing Persons f.persons (λ persons. Ok (command.SetRole role persons))) c e in
-    let q = need Persons f.persons (λ persons. Ok (command.SetRole p.0 persons)) c p.2 in
-    named (command.SetRole p.0 q.0) c task q.2 h
-on_task asked.SetPriority f c task e o h =
-    let p = need Priority f.priority (λ priority. Ok (command.SetPriority priority)) c e in named (command.SetPriority p.0) c task p.2 h
+-- a numbered command that may stand in an event of this task
+pub record FitsEvent (task : TaskId) (sent : Numbered) : Type 0 where
+  pub retry : IfSome sent.0 IsRetry
+  pub command : FitsTask task sent.1
 
-from_fields : (what : Asked) (o : Option Data) (r : Result Fields ApiRefusal) (c : Command) → fields_from what o ≡ r → command_from what r ≡ Ok c
-    → (f : Fields) × AreSound f × (command_of what f ≡ Ok c)
-from_fields what o (Err why) c is e = cc
-from_fields what o (Ok f) c is e = (f, fields_sound what o f is, e)
+from_numbered : (r : Result Command ApiRefusal) (retry : Option Retry) (sent : Numbered) → numbered retry r ≡ Ok sent → (retry ≡ sent.0) × (r ≡ Ok sent.1)
+from_numbered (Err why) retry sent e = cc
+from_numbered (Ok c) retry sent e = let same : ◌≡◌ {A = Numbered} (retry, c) sent = cc in (ap (λ (s : Numbered). s.0) same, ap (λ (s : Numbered). Ok s.1) same)
 
-pub creates : (body : List ℕ) (c : Command) (task : TaskId) → command_in asked.Create body ≡ Ok c → task.0 ≡ 0 → IsTaskOf c task × IsCommand c
-creates body c task e h =
-    let p = from_fields asked.Create (json_in body) _ c refl e in
-    (create_task p.0 c task p.2 h, command_sound asked.Create p.0 c p.2 p.1)
+module _ (task : TaskId) (sent : Numbered) where
+  from_fields : (what : Asked) (o : Option Data) (r : Result Fields ApiRefusal) → fields_from what o ≡ r → command_from what r ≡ Ok sent → IsTask what task → FitsEvent task sent
+  from_fields what o (Err why) is e t = cc
+  from_fields what o (Ok f) is e t =
+      let sound = fields_sound what o f is in
+      let parts = from_numbered (command_of what f) (retry_from f.device f.number) sent e in
+      record { retry = subst (λ (r : Option Retry). IfSome r IsRetry) parts.0 (retry_sound f sound); command = fits task sent.1 what f parts.1 sound t }
 
-pub changes : (what : Asked) (body : List ℕ) (c : Command) (task : TaskId) → command_in what body ≡ Ok c → IsOnTask what → 1 ≤ task.0 → IsTaskOf c task × IsCommand c
-changes what body c task e o h =
-    let p = from_fields what (json_in body) _ c refl e in
-    (on_task what p.0 c task p.2 o h, command_sound what p.0 c p.2 p.1)
+  pub command_fits : (what : Asked) (body : List ℕ) → command_in what body ≡ Ok sent → IsTask what task → FitsEvent task sent
+  command_fits what body e t = from_fields what (json_in body) _ refl e t

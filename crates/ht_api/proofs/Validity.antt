@@ -5,13 +5,12 @@ use Rattle.std.specs.Char.{is_ascii}
 use Rattle.std.specs.List.{list_all, starts_with}
 use Rattle.std.specs.Str.Parse.{digits_value}
 use Rattle.std.proofs.lemmas.Bool.{and_parts}
-use Rattle.ht_base.specs.declared.event.Command.{Command}
 use Rattle.ht_base.specs.declared.event.Event.{Event}
 use Rattle.ht_base.specs.declared.event.Event.TheVariants.{Ask, Read}
 use Rattle.ht_base.specs.declared.event.Query.TheVariants as query
 use Rattle.ht_base.specs.declared.moment.Moment.{Moment}
 use Rattle.ht_base.specs.declared.task_id.TaskId.{TaskId}
-use Rattle.ht_base.specs.Events.{IsCommand, IsTaskOf, IsValid}
+use Rattle.ht_base.specs.Events.{IsValid}
 use Rattle.ht_base.specs.Moment.{last_moment}
 use Rattle.ht_wire.specs.declared.request.Request.{Request}
 use Rattle.ht_api.specs.declared.asked.Asked.{Asked}
@@ -20,30 +19,37 @@ use Rattle.ht_api.specs.declared.refusal.ApiRefusal.{ApiRefusal}
 use Rattle.ht_api.specs.declared.refusal.ApiRefusal.TheVariants.{Method}
 use Rattle.ht_api.specs.declared.routes.Place.{Place}
 use Rattle.ht_api.specs.declared.routes.Place.TheVariants as place
-use Rattle.ht_api.specs.Asked.{asked_in}
-use Rattle.ht_api.specs.Commands.{command_in}
+use Rattle.ht_api.specs.Asked.{asked_in, named_in, operations}
+use Rattle.ht_api.specs.Commands.{Numbered, command_in}
 use Rattle.ht_api.specs.Events.{asks, event_at, reads}
 use Rattle.ht_api.specs.Numbers.{is_numeral, last_task, task_in}
 use Rattle.ht_api.specs.Refusals.{Gives}
 use Rattle.ht_api.specs.Routes.{cut, method_of, place_behind, place_from, place_of, place_with, routed}
 use Rattle.ht_api.proofs.Fitting.{from_if, from_mapped, from_some}
 use Rattle.ht_api.proofs.Numerals.{some_task}
-use Rattle.ht_api.proofs.Sound.{IsOnTask, changes, creates}
+use Rattle.ht_api.proofs.Sound.{FitsEvent, IsTask, command_fits}
 
 -- ---- places
 
-on_task_if : (t : Bool) (a : Asked) (o : Option Asked) → IsOnTask a → ((b : Asked) → o ≡ Some b → IsOnTask b) → (b : Asked) → (if t then Some a else o) ≡ Some b → IsOnTask b
-on_task_if true a o here rest b e = let same : a ≡ b = cc in subst IsOnTask same here
-on_task_if false a o here rest b e = rest b e
+-- each operation with a name is asked of a task that is there
+abbrev pub is_on_task : Asked → Bool
+is_on_task asked.Create = false
+is_on_task what = true
 
-none_named : (b : Asked) → None ≡ Some b → IsOnTask b
-none_named b e = cc
+on_task : (what : Asked) (task : TaskId) → is_on_task what ≡ true → 1 ≤ task.0 → IsTask what task
+on_task asked.Create task h t = cc
+on_task what task h t = t
 
-asked_on_task : (name : List ℕ) (b : Asked) → asked_in name ≡ Some b → IsOnTask b
-asked_on_task name =
-    on_task_if _ asked.Claim _ tt (on_task_if _ asked.Start _ tt (on_task_if _ asked.Stop _ tt (on_task_if _ asked.Release _ tt (on_task_if _ asked.Delegate _ tt
-    (on_task_if _ asked.Forward _ tt (on_task_if _ asked.Nominate _ tt (on_task_if _ asked.Activate _ tt (on_task_if _ asked.SetRole _ tt
-    (on_task_if _ asked.SetPriority _ tt none_named)))))))))
+on_task_if : (same : Bool) (this what : Asked) (later : Option Asked) → (if same then Some this else later) ≡ Some what → is_on_task this ≡ true → (later ≡ Some what → is_on_task what ≡ true) → is_on_task what ≡ true
+on_task_if true this what later e h rest = let is : this ≡ what = cc in subst (λ (a : Asked). is_on_task a ≡ true) is h
+on_task_if false this what later e h rest = rest e
+
+named_on_task : (rows : List (List ℕ × Asked)) (name : List ℕ) (what : Asked) → list_all (λ row. is_on_task row.1) rows ≡ true → named_in rows name ≡ Some what → is_on_task what ≡ true
+named_on_task [] name what h e = cc
+named_on_task (row ∷ rows) name what h e = on_task_if (bytes_eq name row.0) row.1 what (named_in rows name) e p.0 (named_on_task rows name what p.1)
+  where
+    p : (is_on_task row.1 ≡ true) × (list_all (λ row. is_on_task row.1) rows ≡ true)
+    p = and_parts (is_on_task row.1) (list_all (λ row. is_on_task row.1) rows) h
 
 task_some : (text : List ℕ) (t : TaskId) → task_in text ≡ Some t → 1 ≤ t.0
 task_some text t e =
@@ -54,14 +60,14 @@ task_some text t e =
 abbrev pub IsPlace : Place → Type 0
 IsPlace place.Tasks = Unit {0}
 IsPlace (place.Task task) = 1 ≤ task.0
-IsPlace (place.Operation task what) = 1 ≤ task.0 × IsOnTask what
+IsPlace (place.Operation task what) = IsTask what task
 
 place_with_is : (id : List ℕ) (op : Option (List ℕ)) (p : Place) → place_with id op ≡ Some p → IsPlace p
 place_with_is id None p e = let m = from_mapped place.Task (task_in id) p e in subst IsPlace m.2 (task_some id m.0 m.1)
 place_with_is id (Some op) p e =
     let t = from_some (task_in id) (λ task. option_map (place.Operation task) (asked_in op)) p e in
     let m = from_mapped (place.Operation t.0) (asked_in op) p t.2 in
-    subst IsPlace m.2 (task_some id t.0 t.1, asked_on_task op m.0 m.1)
+    subst IsPlace m.2 (on_task m.0 t.0 (named_on_task operations op m.0 refl m.1) (task_some id t.0 t.1))
 
 place_if : (t : Bool) (o : Option Place) (p : Place) → (if t then o else None) ≡ Some p → o ≡ Some p
 place_if true o p e = e
@@ -86,11 +92,14 @@ routed_is method (Some q) p e = let same = method_fits (bytes_eq method (method_
 
 -- ---- events
 
-asks_valid : (at : Moment) (task : TaskId) (r : Result Command ApiRefusal) (caller : Option (List ℕ)) (e : Event) → asks at task r caller ≡ Ok e → at.0 ≤ last_moment
-    → ((c : Command) → r ≡ Ok c → IsTaskOf c task × IsCommand c) → IsValid e
+asks_valid : (at : Moment) (task : TaskId) (r : Result Numbered ApiRefusal) (caller : Option (List ℕ)) (e : Event) → asks at task r caller ≡ Ok e → at.0 ≤ last_moment
+    → ((sent : Numbered) → r ≡ Ok sent → FitsEvent task sent) → IsValid e
 asks_valid at task (Err why) caller e h l all = cc
-asks_valid at task (Ok c) None e h l all = cc
-asks_valid at task (Ok c) (Some name) e h l all = let same : Ask at name task c ≡ e = cc in let p = all c refl in subst IsValid same (l, p.0, p.1)
+asks_valid at task (Ok sent) None e h l all = cc
+asks_valid at task (Ok (retry, c)) (Some name) e h l all =
+    let same : Ask at name retry task c ≡ e = cc in
+    let p = all (retry, c) refl in
+    subst IsValid same (l, p.retry, p.command.0, p.command.1)
 
 reads_valid : (task : TaskId) (caller : Option (List ℕ)) (e : Event) → reads task caller ≡ Ok e → 1 ≤ task.0 → IsValid e
 reads_valid task None e h l = cc
@@ -99,10 +108,9 @@ reads_valid task (Some name) e h l = let same : Read name (query.Sheet task) ≡
 at_valid : (r : Request) (at : Moment) (p : Result Place ApiRefusal) (e : Event) → event_at r at p ≡ Ok e → at.0 ≤ last_moment → ((q : Place) → p ≡ Ok q → IsPlace q) → IsValid e
 at_valid r at (Err why) e h l is = cc
 at_valid r at (Ok place.Tasks) e h l is =
-    asks_valid at (record { 0 = 0 }) (command_in asked.Create r.body.items) r.person e h l (λ c made. creates r.body.items c (record { 0 = 0 }) made refl)
+    asks_valid at (record { 0 = 0 }) (command_in asked.Create r.body.items) r.person e h l (λ sent made. command_fits (record { 0 = 0 }) sent asked.Create r.body.items made refl)
 at_valid r at (Ok (place.Operation task what)) e h l is =
-    let p = is (place.Operation task what) refl in
-    asks_valid at task (command_in what r.body.items) r.person e h l (λ c made. changes what r.body.items c task made p.1 p.0)
+    asks_valid at task (command_in what r.body.items) r.person e h l (λ sent made. command_fits task sent what r.body.items made (is (place.Operation task what) refl))
 at_valid r at (Ok (place.Task task)) e h l is = reads_valid task r.person e h (is (place.Task task) refl)
 
 given_valid : (due r : Result Event ApiRefusal) → Gives due r → ((e : Event) → due ≡ Ok e → IsValid e) → IfOk r IsValid

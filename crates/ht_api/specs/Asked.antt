@@ -1,18 +1,35 @@
 -- The operations on a task by their names in paths.
-use Rattle.std.specs.Prelude.{ℕ, List, Option, Some, None, bytes_eq, codes, if◌then◌else◌}
+use Rattle.std.specs.Prelude.{ℕ, List, [], ◌∷◌, Option, Some, None, bytes_eq, codes, if◌then◌else◌}
 use Rattle.ht_api.specs.declared.asked.Asked.{Asked}
 use Rattle.ht_api.specs.declared.asked.Asked.TheVariants as asked
 
+abbrev pub operations : List (List ℕ × Asked)
+operations =
+    (codes "claim", asked.Claim)
+    ∷ (codes "start", asked.Start)
+    ∷ (codes "stop", asked.Stop)
+    ∷ (codes "release", asked.Release)
+    ∷ (codes "delegate", asked.Delegate)
+    ∷ (codes "forward", asked.Forward)
+    ∷ (codes "nominate", asked.Nominate)
+    ∷ (codes "activate", asked.Activate)
+    ∷ (codes "setRole", asked.SetRole)
+    ∷ (codes "setPriority", asked.SetPriority)
+    ∷ (codes "suspend", asked.Suspend)
+    ∷ (codes "resume", asked.Resume)
+    ∷ (codes "setOutput", asked.SetOutput)
+    ∷ (codes "complete", asked.Complete)
+    ∷ (codes "fail", asked.Fail)
+    ∷ (codes "skip", asked.Skip)
+    ∷ (codes "exit", asked.Exit)
+    ∷ (codes "error", asked.Error)
+    ∷ (codes "addComment", asked.AddComment)
+    ∷ []
+
+-- the first of this name
+abbrev pub named_in : List (List ℕ × Asked) → List ℕ → Option Asked
+named_in [] name = None
+named_in (row ∷ rows) name = if bytes_eq name row.0 then Some row.1 else named_in rows name
+
 abbrev pub asked_in : List ℕ → Option Asked
-asked_in name =
-    if bytes_eq name (codes "claim") then Some asked.Claim
-    else (if bytes_eq name (codes "start") then Some asked.Start
-    else (if bytes_eq name (codes "stop") then Some asked.Stop
-    else (if bytes_eq name (codes "release") then Some asked.Release
-    else (if bytes_eq name (codes "delegate") then Some asked.Delegate
-    else (if bytes_eq name (codes "forward") then Some asked.Forward
-    else (if bytes_eq name (codes "nominate") then Some asked.Nominate
-    else (if bytes_eq name (codes "activate") then Some asked.Activate
-    else (if bytes_eq name (codes "setRole") then Some asked.SetRole
-    else (if bytes_eq name (codes "setPriority") then Some asked.SetPriority
-    else None)))))))))
+asked_in name = named_in operations name

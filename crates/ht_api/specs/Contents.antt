@@ -1,5 +1,5 @@
 -- The members of a reply as JSON.
-use Rattle.std.specs.Prelude.{ℕ, ℤ, pos, negsuc, List, [], ◌∷◌, map, filter, Option, Some, None}
+use Rattle.std.specs.Prelude.{ℕ, ℤ, pos, negsuc, List, [], ◌∷◌, map, filter, codes, Option, Some, None}
 use Rattle.std.specs.Borrow.{Bor}
 use Rattle.serde_json.specs.Data.{Data, null, boolean, number, string, array, object, unsigned, negative, Items, no_items, item, Members, no_members, member}
 use Rattle.ht_base.specs.declared.moment.Moment.{Moment}
@@ -7,6 +7,7 @@ use Rattle.ht_base.specs.declared.parts.Parts.{Parts}
 use Rattle.ht_base.specs.declared.role.Roles.{Roles}
 use Rattle.ht_base.specs.declared.scalar.Scalar.{Scalar}
 use Rattle.ht_base.specs.declared.scalar.Scalar.TheVariants as scalar
+use Rattle.ht_base.specs.declared.shown_comments.ShownComment.{ShownComment}
 use Rattle.ht_base.specs.declared.state.StateSet.{StateSet}
 use Rattle.ht_base.specs.declared.task_id.TaskId.{TaskId}
 use Rattle.ht_base.specs.Role.{all_roles, contains_role, role_name}
@@ -65,6 +66,17 @@ scalar_data (scalar.Truth b) = boolean b
 abbrev pub part_rows : Parts → List (List ℕ × Data)
 part_rows parts = map (λ p. (p.0, scalar_data p.1)) parts
 
+abbrev pub comment_data : ShownComment → Data
+comment_data c = row_object ((codes "moment", whole c.moment.0) ∷ (codes "person", string c.person) ∷ (codes "text", string c.text) ∷ [])
+
+abbrev pub comment_items : List ShownComment → Items
+comment_items [] = no_items
+comment_items (c ∷ cs) = item (comment_data c) (comment_items cs)
+
+-- the comments in their order
+abbrev pub comments_data : List ShownComment → Data
+comments_data cs = array (comment_items cs)
+
 -- ---- as the code has them
 
 abbrev pub content_data : Content → Data
@@ -78,6 +90,7 @@ content_data (content.State state) = string (state_name state)
 content_data (content.Truth b) = boolean b
 content_data (content.Names ns) = names ns.now
 content_data (content.Parts parts) = row_object (part_rows parts.now)
+content_data (content.Comments cs) = comments_data cs.now
 content_data (content.Roles roles) = roles_data roles
 content_data (content.States states) = states_data states
 content_data content.NoItems = array no_items

@@ -1,6 +1,5 @@
 -- Which event a request is, or why it is none.
 use Rattle.std.specs.Prelude.{ℕ, List, Option, Some, None, Result, Ok, Err}
-use Rattle.ht_base.specs.declared.event.Command.{Command}
 use Rattle.ht_base.specs.declared.event.Event.{Event}
 use Rattle.ht_base.specs.declared.event.Event.TheVariants.{Ask, Read}
 use Rattle.ht_base.specs.declared.event.Query.TheVariants as query
@@ -12,14 +11,14 @@ use Rattle.ht_api.specs.declared.refusal.ApiRefusal.{ApiRefusal}
 use Rattle.ht_api.specs.declared.refusal.ApiRefusal.TheVariants.{Person}
 use Rattle.ht_api.specs.declared.routes.Place.{Place}
 use Rattle.ht_api.specs.declared.routes.Place.TheVariants as place
-use Rattle.ht_api.specs.Commands.{command_in}
+use Rattle.ht_api.specs.Commands.{Numbered, command_in}
 use Rattle.ht_api.specs.Routes.{place_of, routed}
 
 -- a command of a caller
-abbrev pub asks : Moment → TaskId → Result Command ApiRefusal → Option (List ℕ) → Result Event ApiRefusal
+abbrev pub asks : Moment → TaskId → Result Numbered ApiRefusal → Option (List ℕ) → Result Event ApiRefusal
 asks at task (Err why) caller = Err why
-asks at task (Ok command) None = Err Person
-asks at task (Ok command) (Some name) = Ok (Ask at name task command)
+asks at task (Ok sent) None = Err Person
+asks at task (Ok (retry, command)) (Some name) = Ok (Ask at name retry task command)
 
 -- a question of a caller
 abbrev pub reads : TaskId → Option (List ℕ) → Result Event ApiRefusal

@@ -4,6 +4,8 @@ use Rattle.std.specs.Fmt.{digits}
 use Rattle.std.specs.Str.{chars, is_utf8}
 use Rattle.serde_json.proofs.OnLiterals.{serde_json_on_literals}
 use Rattle.serde_json.specs.Data.{Data, Members, member, no_members, object}
+use Rattle.serde_json.specs.Find.{get}
+use Rattle.serde_json.specs.Written.{compact_text}
 use Rattle.ht_base.specs.declared.event.Command.TheVariants as command
 use Rattle.ht_base.specs.declared.event.Event.TheVariants.{Ask, Read}
 use Rattle.ht_base.specs.declared.event.Query.TheVariants as query
@@ -15,6 +17,7 @@ use Rattle.ht_base.specs.declared.reply.Unknown.TheVariants as unknown
 use Rattle.ht_base.specs.declared.role.Role.TheVariants.{ActualOwner, PotentialOwner}
 use Rattle.ht_base.specs.declared.role_list.RoleList.TheVariants.{Stakeholders}
 use Rattle.ht_base.specs.declared.scalar.Scalar.TheVariants.{Int, Text}
+use Rattle.ht_base.specs.declared.sheet.Sheet.{Sheet as TaskSheet}
 use Rattle.ht_base.specs.declared.state.State.TheVariants.{Ready, Reserved}
 use Rattle.ht_base.specs.Role.{no_roles, with_role}
 use Rattle.ht_base.specs.State.{no_states, with_state}
@@ -25,6 +28,7 @@ use Rattle.ht_api.specs.declared.refusal.ApiRefusal.TheVariants.{Route, Method, 
 use Rattle.ht_api.specs.declared.routes.Place.TheVariants as place
 use Rattle.ht_api.specs.Bodies.{json_in}
 use Rattle.ht_api.specs.Commands.{command_in}
+use Rattle.ht_api.specs.Contents.{comments_data}
 use Rattle.ht_api.specs.Events.{event_due}
 use Rattle.ht_api.specs.Numbers.{task_in}
 use Rattle.ht_api.specs.Refusals.{wire_refusal}
@@ -49,6 +53,10 @@ a_task = refl
 an_operation : place_of (codes "/tasks/12/setRole") ≡ Some (place.Operation (record { 0 = 12 }) asked.SetRole)
 unfolding on_literals
 an_operation = refl
+
+a_comment : place_of (codes "/tasks/12/addComment") ≡ Some (place.Operation (record { 0 = 12 }) asked.AddComment)
+unfolding on_literals
+a_comment = refl
 
 a_query : place_of (codes "/tasks/1?a") ≡ None
 unfolding on_literals
@@ -76,11 +84,11 @@ a_blank : json_in (codes " ") ≡ None
 unfolding on_literals
 a_blank = refl
 
-the_last_of_equal_keys : command_in asked.Create (codes "{\"model\":1,\"model\":\"b\"}") ≡ Ok (command.Create (Some (codes "b")) [])
+the_last_of_equal_keys : command_in asked.Create (codes "{\"model\":1,\"model\":\"b\"}") ≡ Ok (None, command.Create (Some (codes "b")) [])
 unfolding on_literals
 the_last_of_equal_keys = refl
 
-parts_by_name : command_in asked.Create (codes "{\"input\":{\"b\":-1,\"a\":\"x\"}}") ≡ Ok (command.Create None ((codes "a", Text (codes "x")) ∷ (codes "b", Int (negsuc 0)) ∷ []))
+parts_by_name : command_in asked.Create (codes "{\"input\":{\"b\":-1,\"a\":\"x\"}}") ≡ Ok (None, command.Create None ((codes "a", Text (codes "x")) ∷ (codes "b", Int (negsuc 0)) ∷ []))
 unfolding on_literals
 parts_by_name = refl
 
@@ -92,7 +100,7 @@ the_first_key_of_the_table : command_in asked.SetRole (codes "{\"persons\":1}") 
 unfolding on_literals
 the_first_key_of_the_table = refl
 
-persons_may_be_none : command_in asked.SetRole (codes "{\"persons\":[],\"role\":\"stakeholders\"}") ≡ Ok (command.SetRole Stakeholders [])
+persons_may_be_none : command_in asked.SetRole (codes "{\"persons\":[],\"role\":\"stakeholders\"}") ≡ Ok (None, command.SetRole Stakeholders [])
 unfolding on_literals
 persons_may_be_none = refl
 
@@ -104,6 +112,26 @@ a_name_twice : command_in asked.Nominate (codes "{\"persons\":[\"a\",\"b\",\"a\"
 unfolding on_literals
 a_name_twice = refl
 
+a_fault_may_be_named : command_in asked.Fail (codes "{\"fault\":\"lost\"}") ≡ Ok (None, command.Fail (Some (codes "lost")))
+unfolding on_literals
+a_fault_may_be_named = refl
+
+nothing_is_set : command_in asked.SetOutput (codes "{\"output\":{}}") ≡ Err (Field (codes "output"))
+unfolding on_literals
+nothing_is_set = refl
+
+a_task_ends_without_output : command_in asked.Complete [] ≡ Ok (None, command.Complete [])
+unfolding on_literals
+a_task_ends_without_output = refl
+
+no_text : command_in asked.AddComment (codes "{\"text\":\"\"}") ≡ Err (Field (codes "text"))
+unfolding on_literals
+no_text = refl
+
+a_text_of_another_operation : command_in asked.Exit (codes "{\"text\":\"x\"}") ≡ Err (Field (codes "body"))
+unfolding on_literals
+a_text_of_another_operation = refl
+
 no_whole_number : command_in asked.SetPriority (codes "{\"priority\":1.0}") ≡ Err (Field (codes "priority"))
 unfolding on_literals
 no_whole_number = refl
@@ -112,9 +140,31 @@ no_lower_priority : command_in asked.SetPriority (codes "{\"priority\":11}") ≡
 unfolding on_literals
 no_lower_priority = refl
 
+-- a device and a number stand together, before the keys of the operation
+a_number : command_in asked.Claim (codes "{\"number\":5,\"device\":1}") ≡ Ok (Some (record { device = 1; number = 5 }), command.Claim)
+unfolding on_literals
+a_number = refl
+
+a_device_alone : command_in asked.Claim (codes "{\"device\":15}") ≡ Err (Field (codes "number"))
+unfolding on_literals
+a_device_alone = refl
+
+-- the device is looked at first
+a_device_alone_that_is_none : command_in asked.Claim (codes "{\"device\":16}") ≡ Err (Field (codes "device"))
+unfolding on_literals
+a_device_alone_that_is_none = refl
+
+a_number_alone : command_in asked.Claim (codes "{\"number\":0}") ≡ Err (Field (codes "device"))
+unfolding on_literals
+a_number_alone = refl
+
+no_number : command_in asked.Delegate (codes "{\"device\":0,\"number\":4294967296}") ≡ Err (Field (codes "number"))
+unfolding on_literals
+no_number = refl
+
 -- ---- events
 
-a_create : event_due (request (codes "POST") (codes "/tasks") (Some (codes "dan")) (codes "{\"model\":\"unit\"}")) 1000 ≡ Ok (Ask (record { 0 = 1000 }) (codes "dan") (record { 0 = 0 }) (command.Create (Some (codes "unit")) []))
+a_create : event_due (request (codes "POST") (codes "/tasks") (Some (codes "dan")) (codes "{\"model\":\"unit\"}")) 1000 ≡ Ok (Ask (record { 0 = 1000 }) (codes "dan") None (record { 0 = 0 }) (command.Create (Some (codes "unit")) []))
 unfolding on_literals
 a_create = refl
 
@@ -160,6 +210,16 @@ a_person_unknown : answer_text (Refused (refusal.Unknown (unknown.Person (codes 
 unfolding on_literals
 a_person_unknown = refl
 
+comments_in_order :
+    compact_text (comments_data (record { moment = record { 0 = 9 }; person = codes "ben"; text = codes "a\"" } ∷ record { moment = record { 0 = 5 }; person = codes "anna"; text = codes "b" } ∷ []))
+    ≡ codes "[{\"moment\":9,\"person\":\"ben\",\"text\":\"a\\\"\"},{\"moment\":5,\"person\":\"anna\",\"text\":\"b\"}]"
+unfolding on_literals
+comments_in_order = refl
+
+a_sheet_has_comments : (s : TaskSheet) → get (codes "comments") (answer_data (Sheet s)) ≡ Some (comments_data s.comments)
+unfolding sheet_data
+a_sheet_has_comments s = refl
+
 a_body_too_long : wire_refusal 413 ≡ refusal.Body
 a_body_too_long = refl
 
@@ -183,6 +243,8 @@ refusals_ascend refusal.Method = refl
 refusals_ascend refusal.Json = refl
 refusals_ascend (refusal.Field key) = refl
 refusals_ascend refusal.Person = refl
+refusals_ascend (refusal.NumberStale last) = refl
+refusals_ascend (refusal.NumberReused last) = refl
 refusals_ascend (refusal.Task task) = refl
 refusals_ascend (refusal.Role needs) = refl
 refusals_ascend (refusal.State allowed state) = refl
@@ -194,6 +256,8 @@ refusals_ascend refusal.ByGroup = refl
 refusals_ascend (refusal.Excluded person) = refl
 refusals_ascend (refusal.NotDelegatee person) = refl
 refusals_ascend refusal.NoOwners = refl
+refusals_ascend (refusal.NoOutput part) = refl
+refusals_ascend refusal.NotSkipable = refl
 refusals_ascend (refusal.Limit limit) = refl
 refusals_ascend refusal.Memory = refl
 

@@ -25,12 +25,32 @@ role_named text =
 abbrev pub role_in : Data → Option RoleList
 role_in d = option_and_then role_named (as_str d)
 
--- a whole number from 0 to 10
-abbrev pub priority_if : ℕ → Option ℕ
-priority_if n = if nat_le n 10 then Some n else None
+-- a whole number that is at least the one and at most the other
+abbrev pub whole_if : ℕ → ℕ → ℕ → Option ℕ
+whole_if least most n = if nat_le least n && nat_le n most then Some n else None
+
+abbrev pub whole_in : ℕ → ℕ → Data → Option ℕ
+whole_in least most d = option_and_then (whole_if least most) (option_and_then as_u64 (as_number d))
+
+abbrev pub device_in : Data → Option ℕ
+device_in d = whole_in 0 15 d
+
+abbrev pub number_in : Data → Option ℕ
+number_in d = whole_in 1 4294967295 d
 
 abbrev pub priority_in : Data → Option ℕ
-priority_in d = option_and_then priority_if (option_and_then as_u64 (as_number d))
+priority_in d = whole_in 0 10 d
+
+-- a text of 1 to 512 bytes
+abbrev pub text_if : List ℕ → Option (List ℕ)
+text_if text = if nat_lt 0 (length text) && nat_le (length text) 512 then Some text else None
+
+abbrev pub text_in : Data → Option (List ℕ)
+text_in d = option_and_then text_if (as_str d)
+
+-- a list that isn't empty
+abbrev pub if_any : {A : Type 0} → List A → Option (List A)
+if_any xs = if nat_lt 0 (length xs) then Some xs else None
 
 -- ---- persons
 
@@ -54,12 +74,9 @@ persons_if names = if nat_le (length names) 1024 && are_distinct names then Some
 abbrev pub persons_in : Data → Option (List (List ℕ))
 persons_in d = option_and_then persons_if (option_and_then names_of (as_array d))
 
-abbrev pub some_names : List (List ℕ) → Option (List (List ℕ))
-some_names names = if nat_lt 0 (length names) then Some names else None
-
 -- at least one
 abbrev pub owners_in : Data → Option (List (List ℕ))
-owners_in d = option_and_then some_names (persons_in d)
+owners_in d = option_and_then if_any (persons_in d)
 
 -- ---- parts
 
@@ -87,3 +104,7 @@ parts_if parts = if nat_le (length parts) 8 then Some parts else None
 -- at most 8 parts
 abbrev pub parts_in : Data → Option (List (List ℕ × Scalar))
 parts_in d = option_and_then parts_if (option_and_then parts_of (as_object d))
+
+-- at least one
+abbrev pub some_parts_in : Data → Option (List (List ℕ × Scalar))
+some_parts_in d = option_and_then if_any (parts_in d)

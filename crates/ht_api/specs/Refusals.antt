@@ -1,5 +1,5 @@
 -- Why a request makes no event, and what its reply tells.
-use Rattle.std.specs.Prelude.{◌≡◌, ℕ, ◌==◌, Result, Err, if◌then◌else◌}
+use Rattle.std.specs.Prelude.{◌≡◌, ℕ, ◌==◌, Result, Ok, Err, if◌then◌else◌}
 use Rattle.ht_base.specs.declared.reply.Refusal.{Refusal}
 use Rattle.ht_base.specs.declared.reply.Refusal.TheVariants as refusal
 use Rattle.ht_api.specs.declared.refusal.ApiRefusal.{ApiRefusal}
@@ -25,3 +25,9 @@ wire_refusal code =
 abbrev pub Gives : {A : Type 0} → Result A ApiRefusal → Result A ApiRefusal → Type 0
 Gives due (Err Memory) = Unit {0}
 Gives due given = given ≡ due
+
+-- a call that fills a value left the one that was due, unless there was no memory
+abbrev pub Fills : {A B : Type 0} → Result A ApiRefusal → A → Result B ApiRefusal → Type 0
+Fills due new (Ok b) = Ok new ≡ due
+Fills due new (Err Memory) = Unit {0}
+Fills due new (Err why) = Err why ≡ due

@@ -5,13 +5,13 @@ use Rattle.serde_json.specs.Written.{compact_text}
 use Rattle.ht_base.specs.declared.reply.Answer.{Answer}
 use Rattle.ht_base.specs.declared.reply.Answer.TheVariants.{Done, Sheet, Refused}
 use Rattle.ht_base.specs.declared.reply.Limit.{Limit}
-use Rattle.ht_base.specs.declared.reply.Limit.TheVariants.{Tasks}
+use Rattle.ht_base.specs.declared.reply.Limit.TheVariants.{Tasks, Comments}
 use Rattle.ht_base.specs.declared.reply.Refusal.{Refusal}
 use Rattle.ht_base.specs.declared.reply.Refusal.TheVariants as refusal
 use Rattle.ht_base.specs.declared.reply.Unknown.TheVariants as unknown
 use Rattle.ht_base.specs.declared.sheet.Sheet.{Sheet as TaskSheet}
 use Rattle.ht_base.specs.State.{state_name}
-use Rattle.ht_api.specs.Contents.{moment_or_null, name_or_null, names, part_rows, roles_data, row_object, states_data, task_or_null, whole}
+use Rattle.ht_api.specs.Contents.{comments_data, moment_or_null, name_or_null, names, part_rows, roles_data, row_object, states_data, task_or_null, whole}
 
 -- ---- refusals
 
@@ -22,8 +22,13 @@ fault name rest = row_object ((codes "fault", string name) ∷ rest)
 abbrev pub named_fault : List ℕ → List ℕ → List ℕ → Data
 named_fault name key what = fault name ((key, string what) ∷ [])
 
+-- which tells a number
+abbrev pub counted_fault : List ℕ → List ℕ → ℕ → Data
+counted_fault name key number = fault name ((key, whole number) ∷ [])
+
 abbrev pub limit_name : Limit → List ℕ
 limit_name Tasks = codes "tasks"
+limit_name Comments = codes "comments"
 
 abbrev pub refusal_data : Refusal → Data
 refusal_data refusal.Head = fault (codes "Head") []
@@ -35,7 +40,9 @@ refusal_data refusal.Method = fault (codes "Method") []
 refusal_data refusal.Json = fault (codes "Json") []
 refusal_data (refusal.Field key) = named_fault (codes "Field") (codes "field") key
 refusal_data refusal.Person = fault (codes "Person") []
-refusal_data (refusal.Task task) = fault (codes "Task") ((codes "task", whole task.0) ∷ [])
+refusal_data (refusal.NumberStale last) = counted_fault (codes "NumberStale") (codes "last") last
+refusal_data (refusal.NumberReused last) = counted_fault (codes "NumberReused") (codes "last") last
+refusal_data (refusal.Task task) = counted_fault (codes "Task") (codes "task") task.0
 refusal_data (refusal.Role needs) = fault (codes "Role") ((codes "needs", roles_data needs) ∷ [])
 refusal_data (refusal.State allowed state) =
     row_object ((codes "allowed", states_data allowed) ∷ (codes "fault", string (codes "State")) ∷ (codes "state", string (state_name state)) ∷ [])
@@ -47,16 +54,18 @@ refusal_data refusal.ByGroup = fault (codes "ByGroup") []
 refusal_data (refusal.Excluded person) = named_fault (codes "Excluded") (codes "person") person
 refusal_data (refusal.NotDelegatee person) = named_fault (codes "NotDelegatee") (codes "person") person
 refusal_data refusal.NoOwners = fault (codes "NoOwners") []
+refusal_data (refusal.NoOutput part) = named_fault (codes "NoOutput") (codes "part") part
+refusal_data refusal.NotSkipable = fault (codes "NotSkipable") []
 refusal_data (refusal.Limit limit) = named_fault (codes "Limit") (codes "limit") (limit_name limit)
 refusal_data refusal.Memory = fault (codes "Memory") []
 
--- ---- the sheet, in three parts, without comments and sub tasks
+-- ---- the sheet, in three parts, without sub tasks
 
 abbrev pub first_rows : TaskSheet → List (List ℕ × Data)
 first_rows s =
     (codes "administrators", names s.administrators)
     ∷ (codes "byGroup", boolean s.by_group)
-    ∷ (codes "comments", array no_items)
+    ∷ (codes "comments", comments_data s.comments)
     ∷ (codes "created", whole s.created.0)
     ∷ (codes "excludedOwners", names s.excluded_owners)
     ∷ (codes "fault", name_or_null s.fault)

@@ -15,6 +15,8 @@ refusal_status refusal.Method = 405
 refusal_status refusal.Json = 400
 refusal_status (refusal.Field key) = 400
 refusal_status refusal.Person = 401
+refusal_status (refusal.NumberStale last) = 409
+refusal_status (refusal.NumberReused last) = 409
 refusal_status (refusal.Task task) = 404
 refusal_status (refusal.Role needs) = 403
 refusal_status (refusal.State allowed state) = 409
@@ -25,6 +27,8 @@ refusal_status refusal.ByGroup = 422
 refusal_status (refusal.Excluded person) = 422
 refusal_status (refusal.NotDelegatee person) = 422
 refusal_status refusal.NoOwners = 422
+refusal_status (refusal.NoOutput part) = 422
+refusal_status refusal.NotSkipable = 422
 refusal_status (refusal.Limit limit) = 507
 refusal_status refusal.Memory = 500
 

@@ -15,6 +15,15 @@ pub(crate) enum Asked {
     Activate,
     SetRole,
     SetPriority,
+    Suspend,
+    Resume,
+    SetOutput,
+    Complete,
+    Fail,
+    Skip,
+    Exit,
+    Error,
+    AddComment,
 }
 
 impl Asked {
@@ -33,6 +42,15 @@ impl Asked {
             "activate" => Some(Asked::Activate),
             "setRole" => Some(Asked::SetRole),
             "setPriority" => Some(Asked::SetPriority),
+            "suspend" => Some(Asked::Suspend),
+            "resume" => Some(Asked::Resume),
+            "setOutput" => Some(Asked::SetOutput),
+            "complete" => Some(Asked::Complete),
+            "fail" => Some(Asked::Fail),
+            "skip" => Some(Asked::Skip),
+            "exit" => Some(Asked::Exit),
+            "error" => Some(Asked::Error),
+            "addComment" => Some(Asked::AddComment),
             _ => None,
         }
     }

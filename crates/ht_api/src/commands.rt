@@ -7,15 +7,29 @@ ghost use Rattle.ht_api.specs.Refusals.{Gives};
 use crate::asked::Asked;
 use crate::fields::{Fields, fields_of};
 use crate::refusal::ApiRefusal;
-use ht_base::{Command, Parts};
+use ht_base::{Command, Parts, Retry};
 use std::alloc::Global;
 
-/// The command that a body gives to what is asked.
-pub(crate) fn command_in(alloc: Global, asked: Asked, body: &[u8]) -> Result<Command, ApiRefusal>
+/// The command that a body gives to what is asked, and its number, if it has one.
+pub(crate) fn command_in(
+    alloc: Global,
+    asked: Asked,
+    body: &[u8],
+) -> Result<(Option<Retry>, Command), ApiRefusal>
     ensures { Gives (spec.command_in asked body.now) result }
 {
     let fields = fields_of(alloc, asked, body)?;
-    Ok(command_of(alloc, asked, fields))
+    let retry = retry_of(fields.device, fields.number);
+    Ok((retry, command_of(alloc, asked, fields)))
+}
+
+fn retry_of(device: Option<u8>, number: Option<u32>) -> Option<Retry>
+    ensures { result ≡ spec.retry_from device number }
+{
+    Some(Retry {
+        device: device?,
+        number: number?,
+    })
 }
 
 fn command_of(alloc: Global, asked: Asked, fields: Fields) -> Command
@@ -47,6 +61,23 @@ fn command_of(alloc: Global, asked: Asked, fields: Fields) -> Command
         },
         Asked::SetPriority => Command::SetPriority {
             priority: fields.priority.unwrap(),
+        },
+        Asked::Suspend => Command::Suspend,
+        Asked::Resume => Command::Resume,
+        Asked::SetOutput => Command::SetOutput {
+            output: fields.some_output.unwrap(),
+        },
+        Asked::Complete => Command::Complete {
+            output: parts_or_none(alloc, fields.output),
+        },
+        Asked::Fail => Command::Fail {
+            fault: fields.fault,
+        },
+        Asked::Skip => Command::Skip,
+        Asked::Exit => Command::Exit,
+        Asked::Error => Command::Error,
+        Asked::AddComment => Command::AddComment {
+            text: fields.text.unwrap(),
         },
     }
 }

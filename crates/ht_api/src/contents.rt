@@ -3,10 +3,13 @@ ghost use Rattle.json.specs.Token.{begin_object, end_object};
 ghost use Rattle.serde_json.specs.Data.{array};
 ghost use Rattle.ht_base.specs.Role.{contains_role, role_name};
 ghost use Rattle.ht_base.specs.State.{contains_state, state_name};
-ghost use Rattle.ht_api.specs.Contents.{content_data, part_rows, row_object, rows_of, scalar_data, texts};
+ghost use Rattle.ht_api.specs.Contents.{comment_data, comments_data, content_data, part_rows, row_object, rows_of, scalar_data, texts};
 ghost use Rattle.ht_api.specs.Writing.{Puts, object_tokens, rows_then, tokens_of};
 
-use ht_base::{Memory, Moment, Name, Names, Parts, Role, Roles, Scalar, State, StateSet, TaskId};
+use ht_base::{
+    Memory, Moment, Name, Names, Parts, Role, Roles, Scalar, ShownComment, ShownComments, State,
+    StateSet, TaskId,
+};
 use json::Writer;
 
 /// The value of a member of a reply.
@@ -22,6 +25,7 @@ pub(crate) enum Content<'a> {
     Truth(bool),
     Names(&'a Names),
     Parts(&'a Parts),
+    Comments(&'a ShownComments),
     Roles(Roles),
     States(StateSet),
     NoItems,
@@ -92,6 +96,7 @@ fn put_content(content: &Content<'_>, writer: &mut Writer) -> Result<(), Memory>
         Content::Truth(truth) => writer.boolean(*truth)?,
         Content::Names(names) => return put_names(names.as_slice(), writer),
         Content::Parts(parts) => return put_parts(parts.as_slice(), writer),
+        Content::Comments(comments) => return put_comments(comments.as_slice(), writer),
         Content::Roles(roles) => return put_roles(&Role::ALL, roles, writer),
         Content::States(states) => return put_states(&State::ALL, states, writer),
         Content::NoItems => {
@@ -139,6 +144,31 @@ fn put_scalar(scalar: &Scalar, writer: &mut Writer) -> Result<(), Memory>
         Scalar::Int(number) => writer.i64(*number)?,
         Scalar::Truth(truth) => writer.boolean(*truth)?,
     }
+    Ok(())
+}
+
+fn put_comments(comments: &[ShownComment], writer: &mut Writer) -> Result<(), Memory>
+    ensures { Puts result writer.old writer.new (tokens_of (comments_data comments.now)) }
+{
+    writer.begin_array()?;
+    for comment in comments {
+        put_comment(comment, writer)?;
+    }
+    writer.end_array()?;
+    Ok(())
+}
+
+fn put_comment(comment: &ShownComment, writer: &mut Writer) -> Result<(), Memory>
+    ensures { Puts result writer.old writer.new (tokens_of (comment_data comment.now)) }
+{
+    writer.begin_object()?;
+    writer.key("moment")?;
+    writer.u64(comment.moment.0)?;
+    writer.key("person")?;
+    writer.string(comment.person.as_str())?;
+    writer.key("text")?;
+    writer.string(comment.text.as_str())?;
+    writer.end_object()?;
     Ok(())
 }
 

@@ -55,11 +55,12 @@ fn ask(
 ) -> Result<Event, ApiRefusal>
     ensures { Gives (asks at task (command_in asked request.now.body.items) request.now.person) result }
 {
-    let command = command_in(alloc, asked, request.body.as_slice())?;
+    let (retry, command) = command_in(alloc, asked, request.body.as_slice())?;
     match request.person {
         Some(caller) => Ok(Event::Ask {
             at,
             caller,
+            retry,
             task,
             command,
         }),

@@ -1,10 +1,10 @@
 ghost use Rattle.std.specs.Prelude.{◌≡◌, ◌≤◌, [], length, codes, IsOk};
 ghost use Rattle.ht_base.specs.declared.reply.Refusal.TheVariants as refusal;
-ghost use Rattle.ht_api.specs.Replies.{fault, named_fault, refusal_data};
+ghost use Rattle.ht_api.specs.Replies.{counted_fault, fault, named_fault, refusal_data};
 ghost use Rattle.ht_api.specs.Writing.{Puts, tokens_of};
 
 use crate::contents::{Content, put_short};
-use ht_base::{Limit, Memory, Name, Refusal, Roles, State, StateSet, TaskId, Unknown};
+use ht_base::{Limit, Memory, Name, Refusal, Roles, State, StateSet, Unknown};
 use json::Writer;
 
 /// Writes the text of a refusal. It takes no memory where there is room for 1,024 bytes.
@@ -22,7 +22,9 @@ pub(crate) fn put_refusal(refusal: &Refusal, writer: &mut Writer) -> Result<(), 
         Refusal::Json => put_fault("Json", writer),
         Refusal::Field(key) => put_named_fault("Field", "field", key, writer),
         Refusal::Person => put_fault("Person", writer),
-        Refusal::Task(task) => put_task_fault(*task, writer),
+        Refusal::NumberStale { last } => put_counted_fault("NumberStale", "last", *last, writer),
+        Refusal::NumberReused { last } => put_counted_fault("NumberReused", "last", *last, writer),
+        Refusal::Task(task) => put_counted_fault("Task", "task", task.0, writer),
         Refusal::Role { needs } => put_role_fault(needs, writer),
         Refusal::State { allowed, state } => put_state_fault(allowed, *state, writer),
         Refusal::Unknown(Unknown::Model(name)) => put_named_fault("Unknown", "model", name, writer),
@@ -35,7 +37,10 @@ pub(crate) fn put_refusal(refusal: &Refusal, writer: &mut Writer) -> Result<(), 
         Refusal::Excluded(person) => put_named_fault("Excluded", "person", person, writer),
         Refusal::NotDelegatee(person) => put_named_fault("NotDelegatee", "person", person, writer),
         Refusal::NoOwners => put_fault("NoOwners", writer),
+        Refusal::NoOutput(part) => put_named_fault("NoOutput", "part", part, writer),
+        Refusal::NotSkipable => put_fault("NotSkipable", writer),
         Refusal::Limit(Limit::Tasks) => put_limit_fault("tasks", writer),
+        Refusal::Limit(Limit::Comments) => put_limit_fault("comments", writer),
         Refusal::Memory => put_fault("Memory", writer),
     }
 }
@@ -76,14 +81,16 @@ fn put_limit_fault(limit: &str, writer: &mut Writer) -> Result<(), Memory>
     )
 }
 
-fn put_task_fault(task: TaskId, writer: &mut Writer) -> Result<(), Memory>
-    ensures puts { Puts result writer.old writer.new (tokens_of (refusal_data (refusal.Task task))) }
+fn put_counted_fault(name: &str, key: &str, number: u32, writer: &mut Writer) -> Result<(), Memory>
+    requires name { length name.now ≤ 16 }
+    requires key { length key.now ≤ 16 }
+    ensures puts { Puts result writer.old writer.new (tokens_of (counted_fault name.now key.now number)) }
     ensures room { 1024 ≤ writer.old.spare → IsOk result }
 {
     put_short(
         &[
-            ("fault", Content::Text("Task")),
-            ("task", Content::Number(u64::from(task.0))),
+            ("fault", Content::Text(name)),
+            (key, Content::Number(u64::from(number))),
         ],
         writer,
     )

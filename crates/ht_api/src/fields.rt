@@ -1,29 +1,49 @@
-ghost use Rattle.std.specs.Prelude.{◌≡◌, ◌==◌, false, length, IfOk, IfErr, IsTrue, Some};
+ghost use Rattle.std.specs.Prelude.{◌≡◌, ◌==◌, false, length, if◌then◌else◌, IfOk, IfErr, IsTrue, None, Some};
 ghost use Rattle.serde_json.specs.Data.{object, no_members};
 ghost use Rattle.serde_json.specs.Find.{as_object};
 ghost use Rattle.serde_json.specs.View.{view, members_view};
 ghost use Rattle.ht_api.specs.Bodies.{HasNoValue, json_in};
+ghost use Rattle.ht_api.specs.Fields as spec;
 ghost use Rattle.ht_api.specs.Fields.{all_known, are_known, fields_from, fields_in, no_fields, taken, with_key};
-ghost use Rattle.ht_api.specs.Refusals.{Gives};
+ghost use Rattle.ht_api.specs.Refusals.{Fills, Gives};
 
 use crate::asked::Asked;
-use crate::fits::{name_in, owners_in, parts_in, persons_in, priority_in, role_in};
+use crate::fits::{
+    device_in, name_in, number_in, owners_in, parts_in, persons_in, priority_in, role_in,
+    some_parts_in, text_in,
+};
 use crate::keys::{Key, keys_of, knows};
 use crate::refusal::ApiRefusal;
-use ht_base::{Memory, Name, Names, Parts, RoleList};
+use ht_base::{Memory, Name, Names, Parts, RoleList, Txt};
 use serde_json::{Map, Value};
 use std::alloc::Global;
+
+// Puts a value that fits into its field.
+macro_rules! put {
+    ($field:expr, $fitting:expr) => {
+        match $fitting {
+            Some(value) => $field = Some(value),
+            None => return Ok(false),
+        }
+    };
+}
 
 /// The values of a body, each in the field of its key.
 #[derive(Drop)]
 pub(crate) struct Fields {
+    pub device: Option<u8>,
+    pub number: Option<u32>,
     pub model: Option<Name>,
-    pub input: Option<Parts>,
     pub person: Option<Name>,
+    pub fault: Option<Name>,
     pub role: Option<RoleList>,
     pub owners: Option<Names>,
     pub persons: Option<Names>,
     pub priority: Option<u8>,
+    pub text: Option<Txt>,
+    pub input: Option<Parts>,
+    pub output: Option<Parts>,
+    pub some_output: Option<Parts>,
 }
 
 impl Fields {
@@ -31,51 +51,42 @@ impl Fields {
         ensures { result ≡ no_fields }
     {
         Fields {
+            device: None,
+            number: None,
             model: None,
-            input: None,
             person: None,
+            fault: None,
             role: None,
             owners: None,
             persons: None,
             priority: None,
+            text: None,
+            input: None,
+            output: None,
+            some_output: None,
         }
     }
 
-    // These fields with the value of a key, if it fits.
-    fn with(mut self, alloc: Global, key: Key, value: &Value) -> Result<Option<Fields>, Memory>
-        ensures { IfOk result (λ f. f ≡ with_key key (view value.now) self) }
+    // Puts the value of a key into its field, and tells whether it fits.
+    fn put(&mut self, alloc: Global, key: Key, value: &Value) -> Result<bool, Memory>
+        ensures { IfOk result (λ fits. with_key key (view value.now) self.old ≡ (if fits then Some self.new else None)) }
     {
         match key {
-            Key::Model => match name_in(value) {
-                Some(name) => self.model = Some(name),
-                None => return Ok(None),
-            },
-            Key::Input => match parts_in(alloc, value)? {
-                Some(parts) => self.input = Some(parts),
-                None => return Ok(None),
-            },
-            Key::Person => match name_in(value) {
-                Some(name) => self.person = Some(name),
-                None => return Ok(None),
-            },
-            Key::Role => match role_in(value) {
-                Some(role) => self.role = Some(role),
-                None => return Ok(None),
-            },
-            Key::Owners => match owners_in(alloc, value)? {
-                Some(names) => self.owners = Some(names),
-                None => return Ok(None),
-            },
-            Key::Persons => match persons_in(alloc, value)? {
-                Some(names) => self.persons = Some(names),
-                None => return Ok(None),
-            },
-            Key::Priority => match priority_in(value) {
-                Some(priority) => self.priority = Some(priority),
-                None => return Ok(None),
-            },
+            Key::Device => put!(self.device, device_in(value)),
+            Key::Number => put!(self.number, number_in(value)),
+            Key::Model => put!(self.model, name_in(value)),
+            Key::Person => put!(self.person, name_in(value)),
+            Key::Fault => put!(self.fault, name_in(value)),
+            Key::Role => put!(self.role, role_in(value)),
+            Key::Owners => put!(self.owners, owners_in(alloc, value)?),
+            Key::Persons => put!(self.persons, persons_in(alloc, value)?),
+            Key::Priority => put!(self.priority, priority_in(value)),
+            Key::Text => put!(self.text, text_in(alloc, value)?),
+            Key::Input => put!(self.input, parts_in(alloc, value)?),
+            Key::Output => put!(self.output, parts_in(alloc, value)?),
+            Key::SomeOutput => put!(self.some_output, some_parts_in(alloc, value)?),
         }
-        Ok(Some(self))
+        Ok(true)
     }
 }
 
@@ -121,7 +132,19 @@ fn fields_of_value(alloc: Global, asked: Asked, body: &Value) -> Result<Fields, 
     if !are_keys(rows, body) {
         return Err(ApiRefusal::of_key("body"));
     }
-    take(alloc, rows, body)
+    let mut fields = Fields::new();
+    take(alloc, &number_keys(body), body, &mut fields)?;
+    take(alloc, rows, body, &mut fields)?;
+    Ok(fields)
+}
+
+// The keys of a command's number, which stand together.
+fn number_keys(body: &Value) -> [(Key, bool); 2]
+    ensures { result ≡ spec.number_keys (view body.now) }
+{
+    let has_device = body.get(Key::Device.name()).is_some();
+    let has_number = body.get(Key::Number.name()).is_some();
+    [(Key::Device, has_number), (Key::Number, has_device)]
 }
 
 fn are_keys(rows: &[(Key, bool)], body: &Value) -> bool
@@ -144,16 +167,22 @@ fn knows_all(rows: &[(Key, bool)], members: &Map<String, Value>) -> bool
     true
 }
 
-fn take(alloc: Global, rows: &[(Key, bool)], body: &Value) -> Result<Fields, ApiRefusal>
-    ensures { Gives (taken rows.now (view body.now) no_fields) result }
+// Takes the values of keys behind those that were taken before.
+fn take(
+    alloc: Global,
+    rows: &[(Key, bool)],
+    body: &Value,
+    fields: &mut Fields,
+) -> Result<(), ApiRefusal>
+    ensures { Fills (taken rows.now (view body.now) fields.old) fields.new result }
 {
-    let mut fields = Fields::new();
     for (key, required) in rows {
         match body.get(key.name()) {
-            Some(value) => match fields.with(alloc, *key, value)? {
-                Some(more) => fields = more,
-                None => return Err(ApiRefusal::of_key(key.name())),
-            },
+            Some(value) => {
+                if !fields.put(alloc, *key, value)? {
+                    return Err(ApiRefusal::of_key(key.name()));
+                }
+            }
             None => {
                 if *required {
                     return Err(ApiRefusal::of_key(key.name()));
@@ -161,5 +190,5 @@ fn take(alloc: Global, rows: &[(Key, bool)], body: &Value) -> Result<Fields, Api
             }
         }
     }
-    Ok(fields)
+    Ok(())
 }

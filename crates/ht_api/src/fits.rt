@@ -1,4 +1,4 @@
-ghost use Rattle.std.specs.Prelude.{◌≡◌, IfOk};
+ghost use Rattle.std.specs.Prelude.{◌≡◌, ◌≤◌, IfOk, IfSome};
 ghost use Rattle.serde_json.specs.View.{view, items_view, members_view};
 ghost use Rattle.ht_api.specs.Fits as spec;
 ghost use Rattle.ht_api.specs.Fits.{holds_name};
@@ -6,6 +6,12 @@ ghost use Rattle.ht_api.specs.Fits.{holds_name};
 use ht_base::{Memory, Name, Names, Parts, RoleList, Scalar, Txt};
 use serde_json::{Map, Value};
 use std::alloc::Global;
+
+/// The last device of a person.
+const LAST_DEVICE: u64 = 15;
+
+/// The last number of a command.
+const LAST_NUMBER: u64 = 4_294_967_295;
 
 /// The last priority.
 const LOWEST_PRIORITY: u64 = 10;
@@ -16,7 +22,7 @@ const MOST_PERSONS: usize = 1024;
 /// The most parts of a body.
 const MOST_PARTS: usize = 8;
 
-/// The most bytes of a part's text.
+/// The most bytes of a text.
 const MOST_TEXT: usize = 512;
 
 pub(crate) fn name_in(value: &Value) -> Option<Name>
@@ -39,14 +45,49 @@ pub(crate) fn role_in(value: &Value) -> Option<RoleList>
     }
 }
 
+pub(crate) fn device_in(value: &Value) -> Option<u8>
+    ensures { result ≡ spec.device_in (view value.now) }
+{
+    let device = whole_in(value, 0, LAST_DEVICE)?;
+    Some(device as u8)
+}
+
+pub(crate) fn number_in(value: &Value) -> Option<u32>
+    ensures { result ≡ spec.number_in (view value.now) }
+{
+    let number = whole_in(value, 1, LAST_NUMBER)?;
+    Some(number as u32)
+}
+
 pub(crate) fn priority_in(value: &Value) -> Option<u8>
     ensures { result ≡ spec.priority_in (view value.now) }
 {
+    let priority = whole_in(value, 0, LOWEST_PRIORITY)?;
+    Some(priority as u8)
+}
+
+// A whole number that is at least the one and at most the other.
+fn whole_in(value: &Value, least: u64, most: u64) -> Option<u64>
+    ensures value { result ≡ spec.whole_in least most (view value.now) }
+    ensures within { IfSome result (λ n. n ≤ most) }
+{
     let number = value.as_u64()?;
-    if number > LOWEST_PRIORITY {
+    if number < least || number > most {
         return None;
     }
-    Some(number as u8)
+    Some(number)
+}
+
+pub(crate) fn text_in(alloc: Global, value: &Value) -> Result<Option<Txt>, Memory>
+    ensures { IfOk result (λ t. t ≡ spec.text_in (view value.now)) }
+{
+    let Some(text) = value.as_str() else {
+        return Ok(None);
+    };
+    if text.is_empty() || text.len() > MOST_TEXT {
+        return Ok(None);
+    }
+    Ok(Some(Txt::of(alloc, text)?))
 }
 
 pub(crate) fn owners_in(alloc: Global, value: &Value) -> Result<Option<Names>, Memory>
@@ -105,6 +146,18 @@ fn holds(names: &[Name], name: &Name) -> bool
     ensures { result ≡ holds_name name.now names.now }
 {
     names.iter().any(|other| *other == *name)
+}
+
+pub(crate) fn some_parts_in(alloc: Global, value: &Value) -> Result<Option<Parts>, Memory>
+    ensures { IfOk result (λ ps. ps ≡ spec.some_parts_in (view value.now)) }
+{
+    let Some(parts) = parts_in(alloc, value)? else {
+        return Ok(None);
+    };
+    if parts.as_slice().is_empty() {
+        return Ok(None);
+    }
+    Ok(Some(parts))
 }
 
 pub(crate) fn parts_in(alloc: Global, value: &Value) -> Result<Option<Parts>, Memory>

@@ -8,7 +8,7 @@ use crate::contents::{Content, put_object};
 use ht_base::{Memory, Sheet};
 use json::Writer;
 
-/// Writes the sheet of a task, without comments and sub tasks.
+/// Writes the sheet of a task, without sub tasks.
 pub(crate) fn put_sheet(sheet: &Sheet, writer: &mut Writer) -> Result<(), Memory>
     ensures { Puts result writer.old writer.new (tokens_of (sheet_data sheet.now)) }
 {
@@ -24,7 +24,7 @@ fn first_rows(sheet: &Sheet) -> [(&'static str, Content<'_>); 7]
     [
         ("administrators", Content::Names(&sheet.administrators)),
         ("byGroup", Content::Truth(sheet.by_group)),
-        ("comments", Content::NoItems),
+        ("comments", Content::Comments(&sheet.comments)),
         ("created", Content::Number(sheet.created.0)),
         ("excludedOwners", Content::Names(&sheet.excluded_owners)),
         ("fault", Content::MaybeName(sheet.fault)),

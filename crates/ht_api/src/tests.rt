@@ -1,7 +1,7 @@
 use crate::{ApiRefusal, Routes, event_of, wire_refusal};
 use ht_base::{
-    Bytes, Command, Event, LAST, Moment, Name, Names, Parts, Query, Refusal, RoleList, Scalar,
-    TaskId,
+    Bytes, Command, Event, LAST, Moment, Name, Names, Parts, Query, Refusal, Retry, RoleList,
+    Scalar, TaskId,
 };
 use ht_wire::Request;
 use http::Method;
@@ -61,6 +61,7 @@ fn put_event(event: &Event, text: &mut String) -> Result<(), Fail> {
         Event::Ask {
             at,
             caller,
+            retry,
             task,
             command,
         } => {
@@ -68,7 +69,8 @@ fn put_event(event: &Event, text: &mut String) -> Result<(), Fail> {
                 text.push_str("early ")?;
             }
             put_caller(caller, *task, text)?;
-            put_command(command, text)
+            put_command(command, text)?;
+            put_retry(retry, text)
         }
         Event::Read {
             caller,
@@ -88,52 +90,90 @@ fn put_caller(caller: &Name, task: TaskId, text: &mut String) -> Result<(), Fail
     Ok(())
 }
 
-fn put_command(command: &Command, text: &mut String) -> Result<(), Fail> {
-    match command {
-        Command::Create { model, input } => {
-            text.push_str(" create ")?;
-            match model {
-                Some(model) => text.push_str(model.as_str())?,
-                None => text.push('-')?,
-            }
-            return put_parts(input, text);
-        }
-        Command::Claim => text.push_str(" claim")?,
-        Command::Start => text.push_str(" start")?,
-        Command::Stop => text.push_str(" stop")?,
-        Command::Release => text.push_str(" release")?,
-        Command::Delegate { person } => {
-            text.push_str(" delegate ")?;
-            text.push_str(person.as_str())?;
-        }
-        Command::Forward { persons } => {
-            text.push_str(" forward")?;
-            return put_names(persons, text);
-        }
-        Command::Nominate { persons } => {
-            text.push_str(" nominate")?;
-            return put_names(persons, text);
-        }
-        Command::Activate => text.push_str(" activate")?,
-        Command::SetRole { role, persons } => {
-            text.push_str(role_text(*role))?;
-            return put_names(persons, text);
-        }
-        Command::SetPriority { priority } => {
-            text.push_str(" setPriority ")?;
-            text.push_str(Buffer::new().format(*priority))?;
-        }
+fn put_retry(retry: &Option<Retry>, text: &mut String) -> Result<(), Fail> {
+    if let Some(Retry { device, number }) = retry {
+        text.push_str(" by ")?;
+        text.push_str(Buffer::new().format(*device))?;
+        text.push('/')?;
+        text.push_str(Buffer::new().format(*number))?;
     }
     Ok(())
 }
 
+fn put_command(command: &Command, text: &mut String) -> Result<(), Fail> {
+    text.push(' ')?;
+    text.push_str(word_of(command))?;
+    match command {
+        Command::Create { model, input } => {
+            put_name_or_none(model, text)?;
+            put_parts(input, text)
+        }
+        Command::Delegate { person } => put_name_or_none(&Some(*person), text),
+        Command::Forward { persons } => put_names(persons, text),
+        Command::Nominate { persons } => put_names(persons, text),
+        Command::SetRole { role, persons } => {
+            text.push_str(role_text(*role))?;
+            put_names(persons, text)
+        }
+        Command::SetPriority { priority } => {
+            text.push(' ')?;
+            text.push_str(Buffer::new().format(*priority))?;
+            Ok(())
+        }
+        Command::SetOutput { output } => put_parts(output, text),
+        Command::Complete { output } => put_parts(output, text),
+        Command::Fail { fault } => put_name_or_none(fault, text),
+        Command::AddComment { text: comment } => {
+            text.push(' ')?;
+            text.push_str(comment.as_str())?;
+            Ok(())
+        }
+        _ => Ok(()),
+    }
+}
+
+fn word_of(command: &Command) -> &'static str {
+    match command {
+        Command::Create { .. } => "create",
+        Command::Claim => "claim",
+        Command::Start => "start",
+        Command::Stop => "stop",
+        Command::Release => "release",
+        Command::Delegate { .. } => "delegate",
+        Command::Forward { .. } => "forward",
+        Command::Nominate { .. } => "nominate",
+        Command::Activate => "activate",
+        Command::SetRole { .. } => "setRole",
+        Command::SetPriority { .. } => "setPriority",
+        Command::Suspend => "suspend",
+        Command::Resume => "resume",
+        Command::SetOutput { .. } => "setOutput",
+        Command::Complete { .. } => "complete",
+        Command::Fail { .. } => "fail",
+        Command::Skip => "skip",
+        Command::Exit => "exit",
+        Command::Error => "error",
+        Command::AddComment { .. } => "addComment",
+    }
+}
+
 fn role_text(role: RoleList) -> &'static str {
     match role {
-        RoleList::PotentialOwners => " setRole potentialOwners",
-        RoleList::ExcludedOwners => " setRole excludedOwners",
-        RoleList::Administrators => " setRole administrators",
-        RoleList::Stakeholders => " setRole stakeholders",
+        RoleList::PotentialOwners => " potentialOwners",
+        RoleList::ExcludedOwners => " excludedOwners",
+        RoleList::Administrators => " administrators",
+        RoleList::Stakeholders => " stakeholders",
     }
+}
+
+// `-` where there is none.
+fn put_name_or_none(name: &Option<Name>, text: &mut String) -> Result<(), Fail> {
+    text.push(' ')?;
+    match name {
+        Some(name) => text.push_str(name.as_str())?,
+        None => text.push('-')?,
+    }
+    Ok(())
 }
 
 fn put_names(names: &Names, text: &mut String) -> Result<(), Fail> {
@@ -217,7 +257,20 @@ POST /tasks/1/stop anna  => anna 1 stop
 POST /tasks/1/release anna  => anna 1 release
 POST /tasks/1/activate anna  => anna 1 activate
 POST /tasks/12/delegate anna {\"person\":\"ben\"} => anna 12 delegate ben
-POST /tasks/12/setPriority anna {\"priority\":3} => anna 12 setPriority 3";
+POST /tasks/12/setPriority anna {\"priority\":3} => anna 12 setPriority 3
+POST /tasks/1/suspend anna  => anna 1 suspend
+POST /tasks/1/resume anna  => anna 1 resume
+POST /tasks/12/setOutput anna {\"output\":{\"a\":true}} => anna 12 setOutput a=true
+POST /tasks/12/setOutput anna  => Field output
+POST /tasks/1/complete anna  => anna 1 complete
+POST /tasks/12/complete anna {\"output\":{\"a\":1}} => anna 12 complete a=int 1
+POST /tasks/1/fail anna  => anna 1 fail -
+POST /tasks/12/fail anna {\"fault\":\"lost\"} => anna 12 fail lost
+POST /tasks/1/skip anna  => anna 1 skip
+POST /tasks/1/exit anna  => anna 1 exit
+POST /tasks/1/error anna  => anna 1 error
+POST /tasks/12/addComment anna {\"text\":\"late\"} => anna 12 addComment late
+POST /tasks/12/addComment anna  => Field text";
 
 const NO_PLACES: &str = "\
 /
@@ -243,7 +296,13 @@ tasks
 /tasks/1/
 /tasks/1/create
 /tasks/1/get
-/tasks/1/suspend
+/tasks/1/suspendUntil
+/tasks/1/instantiateSubTask
+/tasks/1/Suspend
+/tasks/1/setoutput
+/tasks/1/addComments
+/tasks/1/complete/
+/tasks/0/skip
 /tasks/1/Claim
 /tasks/1/claims
 /tasks/1/claim/
@@ -278,6 +337,45 @@ fn requests_give_events_by_their_place(rt: HostRuntime) -> Result<(), Fail> {
     are_requests_told(&rt, rt.alloc(), REQUESTS)
 }
 
+const OPERATIONS: [&str; 19] = [
+    "claim",
+    "start",
+    "stop",
+    "release",
+    "delegate",
+    "forward",
+    "nominate",
+    "activate",
+    "setRole",
+    "setPriority",
+    "suspend",
+    "resume",
+    "setOutput",
+    "complete",
+    "fail",
+    "skip",
+    "exit",
+    "error",
+    "addComment",
+];
+
+#[test]
+fn operations_are_asked_by_post(rt: HostRuntime) -> Result<(), Fail> {
+    let routes = Routes::new(rt.alloc())?;
+    for operation in OPERATIONS {
+        let target = format!(in rt.alloc(); "/tasks/1/{operation}")?;
+        for method in ["GET", "PUT", "HEAD"] {
+            let request = request(rt.alloc(), method, target.as_str(), "anna", b"")?;
+            assert_eq!(rt;
+                told(rt.alloc(), &routes, &request)?.as_str(),
+                "Method",
+                "{method} {target}"
+            );
+        }
+    }
+    Ok(())
+}
+
 #[test]
 fn other_targets_have_no_place(rt: HostRuntime) -> Result<(), Fail> {
     let routes = Routes::new(rt.alloc())?;
@@ -305,6 +403,10 @@ POST /tasks/1/claim - { => Json
 POST /tasks - [] => Field body
 POST /tasks/1/claim - {\"a\":1} => Field body
 POST /tasks/1/delegate -  => Field person
+POST /tasks/1/addComment -  => Field text
+POST /tasks/1/suspendUntil - { => Route
+GET /tasks/1/exit - { => Method
+POST /tasks/1/exit - {} => Person
 POST /tasks -  => Person
 POST /tasks/1/claim - {} => Person
 GET /tasks/1 - { => Person";

@@ -36,9 +36,44 @@ null => Field body
 {"Model":"unit"} => Field body
 {"model":"unit","person":"ben"} => Field body
 {"model":1,"x":1} => Field body
-{"device":0,"number":1} => Field body
+{"device":0,"number":1} => anna 0 create - by 0/1
 {"activateAt":5} => Field body
 {"":1} => Field body"#;
+
+const NUMBERS: &str = r#"{"device":1,"number":5} => anna 7 claim by 1/5
+{"number":5,"device":1} => anna 7 claim by 1/5
+{"device":0,"number":1} => anna 7 claim by 0/1
+{"device":15,"number":4294967295} => anna 7 claim by 15/4294967295
+{"device":1} => Field number
+{"device":16} => Field device
+{"device":null} => Field device
+{"number":5} => Field device
+{"number":0} => Field device
+{"device":16,"number":0} => Field device
+{"device":16,"number":1} => Field device
+{"device":-1,"number":1} => Field device
+{"device":1.0,"number":1} => Field device
+{"device":"1","number":1} => Field device
+{"device":1,"number":0} => Field number
+{"device":1,"number":4294967296} => Field number
+{"device":1,"number":-0} => Field number
+{"device":1,"number":"5"} => Field number
+{"device":1,"number":null} => Field number
+{"device":1,"number":5,"device":2} => anna 7 claim by 2/5
+{"device":1,"number":5,"person":"ben"} => Field body"#;
+
+// The keys of the number are looked at before those of the operation.
+const NUMBERED: &str = r#"{"person":"ben","device":1,"number":5} => anna 7 delegate ben by 1/5
+{"device":1,"number":5} => Field person
+{"device":1,"person":1} => Field number
+{"person":1,"number":5} => Field device
+{"device":1,"number":5,"person":1} => Field person"#;
+
+#[test]
+fn a_command_may_have_a_number(rt: HostRuntime) -> Result<(), Fail> {
+    are_told(&rt, rt.alloc(), "/tasks/7/claim", NUMBERS)?;
+    are_told(&rt, rt.alloc(), "/tasks/7/delegate", NUMBERED)
+}
 
 #[test]
 fn a_create_may_name_a_model(rt: HostRuntime) -> Result<(), Fail> {
@@ -79,42 +114,80 @@ fn a_create_may_give_input(rt: HostRuntime) -> Result<(), Fail> {
     are_told(&rt, rt.alloc(), "/tasks", INPUTS)
 }
 
-// A text that is given for a part, as it is written and as it is meant.
-fn fits(rt: &impl Abort, alloc: Global, written: &str, meant: &str) -> Result<(), Fail> {
-    let body = format!(in alloc; "{{\"input\":{{\"a\":\"{written}\"}}}}")?;
-    let want = format!(in alloc; "anna 0 create - a=text {meant}")?;
-    is_told(rt, alloc, "/tasks", body.as_bytes(), want.as_str())
+// A body that gives a text, up to the text and from there on, where it is asked, what it gives up to
+// the text, and what it gives where the text doesn't fit.
+#[derive(Clone, Copy)]
+struct Given<'a> {
+    target: &'a str,
+    before: &'a str,
+    behind: &'a str,
+    told: &'a str,
+    refused: &'a str,
 }
 
-fn is_too_long(rt: &impl Abort, alloc: Global, written: &str) -> Result<(), Fail> {
-    let body = format!(in alloc; "{{\"input\":{{\"a\":\"{written}\"}}}}")?;
-    is_told(rt, alloc, "/tasks", body.as_bytes(), "Field input")
-}
+const GIVEN_IN_INPUT: Given<'static> = Given {
+    target: "/tasks",
+    before: "{\"input\":{\"a\":\"",
+    behind: "\"}}",
+    told: "anna 0 create - a=text ",
+    refused: "Field input",
+};
+
+const GIVEN_IN_OUTPUT: Given<'static> = Given {
+    target: "/tasks/7/setOutput",
+    before: "{\"output\":{\"a\":\"",
+    behind: "\"}}",
+    told: "anna 7 setOutput a=text ",
+    refused: "Field output",
+};
+
+const GIVEN_AT_THE_END: Given<'static> = Given {
+    target: "/tasks/7/complete",
+    told: "anna 7 complete a=text ",
+    ..GIVEN_IN_OUTPUT
+};
+
+const COMMENTED: Given<'static> = Given {
+    target: "/tasks/7/addComment",
+    before: "{\"text\":\"",
+    behind: "\"}",
+    told: "anna 7 addComment ",
+    refused: "Field text",
+};
 
 // A piece that is written so and meant so fits `count` times, but not with one byte more.
 fn fits_at_most(
     rt: &impl Abort,
     alloc: Global,
+    given: &Given<'_>,
     written: &str,
     meant: &str,
     count: usize,
 ) -> Result<(), Fail> {
     let text = written.repeat(alloc, count)?;
     let most = meant.repeat(alloc, count)?;
-    fits(rt, alloc, text.as_str(), most.as_str())?;
-    let more = format!(in alloc; "{text}x")?;
-    is_too_long(rt, alloc, more.as_str())
+    let body = format!(in alloc; "{}{text}{}", given.before, given.behind)?;
+    let want = format!(in alloc; "{}{most}", given.told)?;
+    is_told(rt, alloc, given.target, body.as_bytes(), want.as_str())?;
+    let body = format!(in alloc; "{}{text}x{}", given.before, given.behind)?;
+    is_told(rt, alloc, given.target, body.as_bytes(), given.refused)
+}
+
+fn fits_512_bytes(rt: &impl Abort, alloc: Global, given: &Given<'_>) -> Result<(), Fail> {
+    fits_at_most(rt, alloc, given, "x", "x", 512)?;
+    fits_at_most(rt, alloc, given, "\\u0041", "A", 512)?;
+    fits_at_most(rt, alloc, given, "\\\"", "\"", 512)?;
+    fits_at_most(rt, alloc, given, "é", "é", 256)?;
+    fits_at_most(rt, alloc, given, "\\u00e9", "é", 256)?;
+    fits_at_most(rt, alloc, given, "\\ud83d\\ude00", "😀", 128)
 }
 
 #[test]
 fn a_text_has_at_most_512_bytes(rt: HostRuntime) -> Result<(), Fail> {
-    fits_at_most(&rt, rt.alloc(), "x", "x", 512)?;
-    fits_at_most(&rt, rt.alloc(), "\\u0041", "A", 512)?;
-    fits_at_most(&rt, rt.alloc(), "\\\"", "\"", 512)?;
-    fits_at_most(&rt, rt.alloc(), "é", "é", 256)?;
-    fits_at_most(&rt, rt.alloc(), "\\u00e9", "é", 256)?;
-    fits_at_most(&rt, rt.alloc(), "\\ud83d\\ude00", "😀", 128)?;
-    Ok(())
+    fits_512_bytes(&rt, rt.alloc(), &GIVEN_IN_INPUT)?;
+    fits_512_bytes(&rt, rt.alloc(), &GIVEN_IN_OUTPUT)?;
+    fits_512_bytes(&rt, rt.alloc(), &GIVEN_AT_THE_END)?;
+    fits_512_bytes(&rt, rt.alloc(), &COMMENTED)
 }
 
 const ALONE: &str = r#"{"input":{"a":"\ud83d"}} => Json
@@ -219,13 +292,103 @@ const PRIORITIES: &str = r#"{"priority":0} => anna 7 setPriority 0
 {"priority":05} => Json
  => Field priority"#;
 
-const NONE: &str = r#" => anna 7 claim
-{} => anna 7 claim
+const OUTPUTS: &str = r#" => Field output
+{} => Field output
+{"output":{}} => Field output
+{"output":{"a":"x"}} => anna 7 setOutput a=text x
+{"output":{"b":-1,"a":"","c":false}} => anna 7 setOutput a=text  b=int -1 c=false
+{"output":{"a":1,"a":2}} => anna 7 setOutput a=int 2
+{"output":{"a":1},"output":{}} => Field output
+{"output":{},"output":{"a":1}} => anna 7 setOutput a=int 1
+{"output":{"a":1,"b":1,"c":1,"d":1,"e":1,"f":1,"g":1,"h":1}} => anna 7 setOutput a=int 1 b=int 1 c=int 1 d=int 1 e=int 1 f=int 1 g=int 1 h=int 1
+{"output":{"a":1,"b":1,"c":1,"d":1,"e":1,"f":1,"g":1,"h":1,"i":1}} => Field output
+{"output":{"a b":1}} => Field output
+{"output":{"":1}} => Field output
+{"output":{"a":{"b":1}}} => Field output
+{"output":{"a":[1]}} => Field output
+{"output":{"a":null}} => Field output
+{"output":{"a":1.0}} => Field output
+{"output":[{"a":1}]} => Field output
+{"output":"a"} => Field output
+{"output":1} => Field output
+{"output":null} => Field output
+{"input":{"a":1}} => Field body
+{"output":{"a":1},"text":"x"} => Field body"#;
+
+const COMPLETES: &str = r#" => anna 7 complete
+{} => anna 7 complete
+{"output":{}} => anna 7 complete
+{"output":{"b":9223372036854775807,"a":"\u00e9"}} => anna 7 complete a=text é b=int 9223372036854775807
+{"output":{"a":1},"output":{}} => anna 7 complete
+{"output":{"a":1,"b":1,"c":1,"d":1,"e":1,"f":1,"g":1,"h":1}} => anna 7 complete a=int 1 b=int 1 c=int 1 d=int 1 e=int 1 f=int 1 g=int 1 h=int 1
+{"output":{"a":1,"b":1,"c":1,"d":1,"e":1,"f":1,"g":1,"h":1,"i":1}} => Field output
+{"output":{"a b":1}} => Field output
+{"output":{"a":{}}} => Field output
+{"output":{"a":9223372036854775808}} => Field output
+{"output":[]} => Field output
+{"output":"a"} => Field output
+{"output":null} => Field output
+{"input":{}} => Field body
+{"fault":"lost"} => Field body"#;
+
+const FAILS: &str = r#" => anna 7 fail -
+{} => anna 7 fail -
+{"fault":"lost"} => anna 7 fail lost
+{"fault":"abcdefghijklmnopqrstuvwxyz012345"} => anna 7 fail abcdefghijklmnopqrstuvwxyz012345
+{"fault":"abcdefghijklmnopqrstuvwxyz0123456"} => Field fault
+{"fault":""} => Field fault
+{"fault":"a b"} => Field fault
+{"fault":null} => Field fault
+{"fault":1} => Field fault
+{"fault":{"lost":1}} => Field fault
+{"fault":"lost","fault":null} => Field fault
+{"fault":null,"fault":"lost"} => anna 7 fail lost
+{"text":"lost"} => Field body
+{"fault":1,"output":{}} => Field body"#;
+
+const COMMENTS: &str = r#"{"text":"x"} => anna 7 addComment x
+{"text":" "} => anna 7 addComment  
+{"text":"\"\\\u00e9/"} => anna 7 addComment "\é/
+{"text":"a","text":"b"} => anna 7 addComment b
+{"text":""} => Field text
+{"text":"a","text":""} => Field text
+{"text":1} => Field text
+{"text":true} => Field text
+{"text":null} => Field text
+{"text":["x"]} => Field text
+{"text":{"x":"y"}} => Field text
+ => Field text
+{} => Field text
+{"comment":"x"} => Field body
+{"text":"x","fault":"y"} => Field body"#;
+
+const NONE: &str = r#" => anna 7 OPERATION
+{} => anna 7 OPERATION
+ { } => anna 7 OPERATION
 {"model":"unit"} => Field body
 {"priority":1} => Field body
-{"device":0,"number":1} => Field body
+{"output":{}} => Field body
+{"fault":"lost"} => Field body
+{"text":"x"} => Field body
+{"device":0,"number":1} => anna 7 OPERATION by 0/1
+{"device":0} => Field number
+{"number":1} => Field device
 [] => Field body
 { => Json"#;
+
+const WITHOUT_KEYS: [&str; 10] = [
+    "claim", "start", "stop", "release", "activate", "suspend", "resume", "skip", "exit", "error",
+];
+
+#[test]
+fn most_operations_have_no_keys(rt: HostRuntime) -> Result<(), Fail> {
+    for operation in WITHOUT_KEYS {
+        let target = format!(in rt.alloc(); "/tasks/7/{operation}")?;
+        let lines = NONE.replace(rt.alloc(), "OPERATION", operation)?;
+        are_told(&rt, rt.alloc(), target.as_str(), lines.as_str())?;
+    }
+    Ok(())
+}
 
 #[test]
 fn each_operation_has_its_keys(rt: HostRuntime) -> Result<(), Fail> {
@@ -234,7 +397,10 @@ fn each_operation_has_its_keys(rt: HostRuntime) -> Result<(), Fail> {
     are_told(&rt, rt.alloc(), "/tasks/7/nominate", NOMINATES)?;
     are_told(&rt, rt.alloc(), "/tasks/7/setRole", ROLES)?;
     are_told(&rt, rt.alloc(), "/tasks/7/setPriority", PRIORITIES)?;
-    are_told(&rt, rt.alloc(), "/tasks/7/claim", NONE)?;
+    are_told(&rt, rt.alloc(), "/tasks/7/setOutput", OUTPUTS)?;
+    are_told(&rt, rt.alloc(), "/tasks/7/complete", COMPLETES)?;
+    are_told(&rt, rt.alloc(), "/tasks/7/fail", FAILS)?;
+    are_told(&rt, rt.alloc(), "/tasks/7/addComment", COMMENTS)?;
     Ok(())
 }
 

@@ -1,8 +1,8 @@
 use crate::fits::parts_in;
 use crate::text_of;
 use ht_base::{
-    Answer, Bytes, Limit, Moment, Name, Names, Parts, Refusal, Reply, Roles, Sheet, State,
-    StateSet, TaskId, Unknown,
+    Answer, Bytes, Limit, Moment, Name, Names, Parts, Refusal, Reply, Roles, Sheet, ShownComment,
+    ShownComments, State, StateSet, TaskId, Txt, Unknown,
 };
 use serde_json::Value;
 use std::alloc::Global;
@@ -102,11 +102,20 @@ fn faults_of_commands_are_told(rt: HostRuntime) -> Result<(), Fail> {
         404,
         "{\"fault\":\"Task\",\"task\":9}",
     )?;
+    let stale = Refusal::NumberStale { last: 5 };
+    let text = "{\"fault\":\"NumberStale\",\"last\":5}";
+    is_refused(&rt, rt.alloc(), stale, 409, text)?;
+    let reused = Refusal::NumberReused { last: u32::MAX };
+    let text = "{\"fault\":\"NumberReused\",\"last\":4294967295}";
+    is_refused(&rt, rt.alloc(), reused, 409, text)?;
     is_fault(&rt, rt.alloc(), Refusal::Ownerless, 422, "Ownerless")?;
     is_fault(&rt, rt.alloc(), Refusal::ByGroup, 422, "ByGroup")?;
     is_fault(&rt, rt.alloc(), Refusal::NoOwners, 422, "NoOwners")?;
+    is_fault(&rt, rt.alloc(), Refusal::NotSkipable, 422, "NotSkipable")?;
     let text = "{\"fault\":\"Limit\",\"limit\":\"tasks\"}";
-    is_refused(&rt, rt.alloc(), Refusal::Limit(Limit::Tasks), 507, text)
+    is_refused(&rt, rt.alloc(), Refusal::Limit(Limit::Tasks), 507, text)?;
+    let text = "{\"fault\":\"Limit\",\"limit\":\"comments\"}";
+    is_refused(&rt, rt.alloc(), Refusal::Limit(Limit::Comments), 507, text)
 }
 
 #[test]
@@ -120,6 +129,8 @@ fn faults_that_name_something_are_told(rt: HostRuntime) -> Result<(), Fail> {
     is_refused(&rt, rt.alloc(), person, 422, text)?;
     let text = "{\"fault\":\"PartRefused\",\"part\":\"ben\"}";
     is_refused(&rt, rt.alloc(), Refusal::PartRefused(ben), 422, text)?;
+    let text = "{\"fault\":\"NoOutput\",\"part\":\"ben\"}";
+    is_refused(&rt, rt.alloc(), Refusal::NoOutput(ben), 422, text)?;
     let text = "{\"fault\":\"Excluded\",\"person\":\"ben\"}";
     is_refused(&rt, rt.alloc(), Refusal::Excluded(ben), 422, text)?;
     let text = "{\"fault\":\"NotDelegatee\",\"person\":\"ben\"}";
@@ -225,11 +236,27 @@ fn parts(alloc: Global, text: &str) -> Result<Parts, Fail> {
     Ok(parts_in(alloc, &value)?.ok_or("parts")?)
 }
 
+fn put_comment(
+    alloc: Global,
+    comments: &mut ShownComments,
+    moment: u64,
+    person: &str,
+    text: &str,
+) -> Result<(), Fail> {
+    comments.push(ShownComment {
+        moment: Moment(moment),
+        person: name(person)?,
+        text: Txt::of(alloc, text)?,
+    })?;
+    Ok(())
+}
+
 #[test]
 fn a_sheet_is_told(rt: HostRuntime) -> Result<(), Fail> {
     let sheet = Sheet {
         administrators: names(rt.alloc(), "cora")?,
         by_group: true,
+        comments: ShownComments::new(rt.alloc()),
         created: Moment(1000),
         excluded_owners: names(rt.alloc(), "")?,
         fault: None,
@@ -257,6 +284,17 @@ fn a_sheet_is_told(rt: HostRuntime) -> Result<(), Fail> {
     is_answered(&rt, rt.alloc(), Answer::Sheet(sheet), 200, text)
 }
 
+const FULL_SHEET: &str = "{\"administrators\":[\"a\",\"b\"],\"byGroup\":false,\
+    \"comments\":[{\"moment\":9,\"person\":\"k\",\"text\":\"\\\"a\\\\b\\\"\\n\\u0001é/\u{7f}\"},\
+    {\"moment\":5,\"person\":\"j\",\"text\":\"x\"}],\"created\":0,\
+    \"excludedOwners\":[\"c\"],\"fault\":\"lost\",\"initiator\":\"d\",\
+    \"input\":{\"a\":\"\\\"é\\\"\",\"b.1\":-9223372036854775808},\
+    \"lastOwner\":\"e\",\"model\":\"m\",\
+    \"output\":{\"a\":0,\"b\":false,\"c\":9223372036854775807},\"owner\":null,\"parent\":2,\
+    \"potentialOwners\":[\"f\",\"g\"],\"priority\":0,\"stakeholders\":[\"h\",\"i\",\"j\"],\
+    \"started\":true,\"state\":\"Failed\",\"subs\":[],\"task\":3,\"until\":4,\
+    \"waits\":253402300799999}";
+
 #[test]
 fn a_sheet_may_have_each_value(rt: HostRuntime) -> Result<(), Fail> {
     let input = parts(
@@ -267,9 +305,13 @@ fn a_sheet_may_have_each_value(rt: HostRuntime) -> Result<(), Fail> {
         rt.alloc(),
         "{\"a\":0,\"b\":false,\"c\":9223372036854775807}",
     )?;
+    let mut comments = ShownComments::new(rt.alloc());
+    put_comment(rt.alloc(), &mut comments, 9, "k", "\"a\\b\"\n\u{1}é/\u{7f}")?;
+    put_comment(rt.alloc(), &mut comments, 5, "j", "x")?;
     let sheet = Sheet {
         administrators: names(rt.alloc(), "a b")?,
         by_group: false,
+        comments,
         created: Moment(0),
         excluded_owners: names(rt.alloc(), "c")?,
         fault: Some(name("lost")?),
@@ -289,13 +331,5 @@ fn a_sheet_may_have_each_value(rt: HostRuntime) -> Result<(), Fail> {
         until: Some(Moment(4)),
         waits: Some(Moment(253_402_300_799_999)),
     };
-    let text = "{\"administrators\":[\"a\",\"b\"],\"byGroup\":false,\"comments\":[],\"created\":0,\
-        \"excludedOwners\":[\"c\"],\"fault\":\"lost\",\"initiator\":\"d\",\
-        \"input\":{\"a\":\"\\\"é\\\"\",\"b.1\":-9223372036854775808},\
-        \"lastOwner\":\"e\",\"model\":\"m\",\
-        \"output\":{\"a\":0,\"b\":false,\"c\":9223372036854775807},\"owner\":null,\"parent\":2,\
-        \"potentialOwners\":[\"f\",\"g\"],\"priority\":0,\"stakeholders\":[\"h\",\"i\",\"j\"],\
-        \"started\":true,\"state\":\"Failed\",\"subs\":[],\"task\":3,\"until\":4,\
-        \"waits\":253402300799999}";
-    is_answered(&rt, rt.alloc(), Answer::Sheet(sheet), 200, text)
+    is_answered(&rt, rt.alloc(), Answer::Sheet(sheet), 200, FULL_SHEET)
 }

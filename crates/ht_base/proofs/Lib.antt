@@ -6,7 +6,9 @@ mod Finding
 mod Indexing
 mod Leasts
 mod Naming
+mod Ordered
 mod PeriodCuts
 mod PeriodTexts
+mod Putting
 pub mod PublicLaws
 mod Spelling

@@ -1,13 +1,14 @@
 -- Commands and events: which operation a command asks for, and which events are valid.
-use Rattle.std.specs.Prelude.{◌≡◌, ◌≤◌, ℕ, nat_lt, ◌+◌, Bool, true, List, length}
+use Rattle.std.specs.Prelude.{◌≡◌, ◌≤◌, ℕ, nat_lt, ◌+◌, Bool, true, List, length, IfSome}
 use Rattle.std.specs.List.{list_all}
 use Rattle.ht_base.specs.declared.event.Command.{Command}
-use Rattle.ht_base.specs.declared.event.Command.TheVariants.{Create, Claim, Start, Stop, Release, Delegate, Forward, Nominate, Activate, SetRole, SetPriority}
+use Rattle.ht_base.specs.declared.event.Command.TheVariants.{Create, Claim, Start, Stop, Release, Delegate, Forward, Nominate, Activate, SetRole, SetPriority, Suspend, Resume, SetOutput, Complete, Fail, Skip, Exit, Error, AddComment}
 use Rattle.ht_base.specs.declared.event.Event.{Event}
 use Rattle.ht_base.specs.declared.event.Event.TheVariants.{Ask, Read}
 use Rattle.ht_base.specs.declared.event.Query.TheVariants as query
 use Rattle.ht_base.specs.declared.operation.Op.{Op}
 use Rattle.ht_base.specs.declared.operation.Op.TheVariants as op
+use Rattle.ht_base.specs.declared.retry.Retry.{Retry}
 use Rattle.ht_base.specs.declared.scalar.Scalar.{Scalar}
 use Rattle.ht_base.specs.declared.scalar.Scalar.TheVariants as scalar
 use Rattle.ht_base.specs.declared.task_id.TaskId.{TaskId}
@@ -26,6 +27,15 @@ op_of (Nominate persons) = op.Nominate
 op_of Activate = op.Activate
 op_of (SetRole role persons) = op.SetRole
 op_of (SetPriority priority) = op.SetPriority
+op_of Suspend = op.Suspend
+op_of Resume = op.Resume
+op_of (SetOutput output) = op.SetOutput
+op_of (Complete output) = op.Complete
+op_of (Fail fault) = op.Fail
+op_of Skip = op.Skip
+op_of Exit = op.Exit
+op_of Error = op.Error
+op_of (AddComment text) = op.AddComment
 
 -- the task is one that the command may name: none, exactly for a create
 abbrev pub IsTaskOf : Command → TaskId → Type 0
@@ -53,11 +63,19 @@ IsCommand (Forward persons) = AreNames persons × 1 ≤ length persons
 IsCommand (Nominate persons) = AreNames persons × 1 ≤ length persons
 IsCommand (SetRole role persons) = AreNames persons
 IsCommand (SetPriority priority) = priority ≤ 10
+IsCommand (SetOutput output) = AreGiven output × 1 ≤ length output
+IsCommand (Complete output) = AreGiven output
+IsCommand (AddComment text) = (1 ≤ length text) × (length text ≤ 512)
 IsCommand _ = Unit {0}
 
 -- ---- events
 
--- its moment is at most the last there is, just a create names no task, and what it gives is in its limits
+-- the devices of a person are numbered from 0 to 15, and the commands of a device from 1 on
+abbrev pub IsRetry : Retry → Type 0
+IsRetry r = (r.device ≤ 15) × (1 ≤ r.number)
+
+-- Its moment is at most the last there is, its number is one of a device, just a create names no task,
+-- and what it gives is in its limits.
 abbrev pub IsValid : Event → Type 0
-IsValid (Ask at caller task command) = (at.0 ≤ last_moment) × IsTaskOf command task × IsCommand command
+IsValid (Ask at caller retry task command) = (at.0 ≤ last_moment) × IfSome retry IsRetry × IsTaskOf command task × IsCommand command
 IsValid (Read caller (query.Sheet task)) = 1 ≤ task.0

@@ -7,7 +7,7 @@ use Rattle.ht_base.specs.Numbers.{is_number}
 use Rattle.ht_base.specs.Periods.{PeriodText, IsPeriod, millis, longest_period, period_of}
 use Rattle.ht_base.specs.Persons.{has}
 use Rattle.ht_base.specs.Places.{place_in}
-use Rattle.ht_base.specs.Values.{is_before}
+use Rattle.ht_base.specs.Values.{is_before, put, updated, value_of}
 
 a_letter : is_name (codes "a") ≡ true
 a_letter = refl
@@ -49,6 +49,31 @@ before_the_longer = refl
 
 not_before_itself : is_before (codes "p1") (codes "p1") ≡ false
 not_before_itself = refl
+
+-- ---- values
+
+abbrev two_values : List (List ℕ × ℕ)
+two_values = (codes "b", 1) ∷ (codes "d", 2) ∷ []
+
+a_value_between : put (codes "c") 5 two_values ≡ (codes "b", 1) ∷ (codes "c", 5) ∷ (codes "d", 2) ∷ []
+a_value_between = refl
+
+a_value_behind : put (codes "e") 5 two_values ≡ (codes "b", 1) ∷ (codes "d", 2) ∷ (codes "e", 5) ∷ []
+a_value_behind = refl
+
+-- it replaces the one of its name
+a_value_again : put (codes "b") 5 two_values ≡ (codes "b", 5) ∷ (codes "d", 2) ∷ []
+a_value_again = refl
+
+-- what isn't given stays
+one_of_two : updated two_values ((codes "a", 7) ∷ (codes "d", 8) ∷ []) ≡ (codes "a", 7) ∷ (codes "b", 1) ∷ (codes "d", 8) ∷ []
+one_of_two = refl
+
+the_value_of_a_name : value_of (codes "d") two_values ≡ Some 2
+the_value_of_a_name = refl
+
+no_value_of_a_name : value_of (codes "c") two_values ≡ None
+no_value_of_a_name = refl
 
 -- ---- numbers
 

@@ -3,10 +3,13 @@ pub mod Events
 pub mod Examples
 pub mod History
 pub mod Indexes
+pub mod Integers
+pub mod Kinds
 pub mod Moment
 pub mod Name
 pub mod NameBytes
 pub mod Numbers
+pub mod Ordered
 pub mod Periods
 pub mod Persons
 pub mod Places

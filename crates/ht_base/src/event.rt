@@ -1,7 +1,7 @@
 ghost use Rattle.std.specs.Prelude.{◌≡◌, IfOk};
 ghost use Rattle.ht_base.specs.Events.{op_of};
 
-use crate::{Memory, Moment, Name, Names, Op, Parts, RoleList, TaskId};
+use crate::{Memory, Moment, Name, Names, Op, Parts, Retry, RoleList, TaskId, Txt};
 use std::alloc::Global;
 
 /// What a command does (WS-HumanTask 1.1, 7.1.1 "Participant operations").
@@ -30,6 +30,24 @@ pub enum Command {
     SetRole { role: RoleList, persons: Names },
     /// 0, the highest, to 10.
     SetPriority { priority: u8 },
+    /// The task can't be worked on until it is resumed.
+    Suspend,
+    /// The task is again as it was before it was suspended.
+    Resume,
+    /// Parts of the output are set, at least one.
+    SetOutput { output: Parts },
+    /// Parts of the output are set, and the task ends well.
+    Complete { output: Parts },
+    /// The task ends with a fault, which may have a name.
+    Fail { fault: Option<Name> },
+    /// The task isn't needed any more.
+    Skip,
+    /// The task ends by an operator.
+    Exit,
+    /// The task ends by an operator, as one that went wrong.
+    Error,
+    /// A text of 1 to 512 bytes is noted on the task.
+    AddComment { text: Txt },
 }
 
 impl Command {
@@ -49,6 +67,15 @@ impl Command {
             Command::Activate => Op::Activate,
             Command::SetRole { .. } => Op::SetRole,
             Command::SetPriority { .. } => Op::SetPriority,
+            Command::Suspend => Op::Suspend,
+            Command::Resume => Op::Resume,
+            Command::SetOutput { .. } => Op::SetOutput,
+            Command::Complete { .. } => Op::Complete,
+            Command::Fail { .. } => Op::Fail,
+            Command::Skip => Op::Skip,
+            Command::Exit => Op::Exit,
+            Command::Error => Op::Error,
+            Command::AddComment { .. } => Op::AddComment,
         }
     }
 
@@ -79,6 +106,21 @@ impl Command {
             Command::SetPriority { priority } => Command::SetPriority {
                 priority: *priority,
             },
+            Command::Suspend => Command::Suspend,
+            Command::Resume => Command::Resume,
+            Command::SetOutput { output } => Command::SetOutput {
+                output: output.copy(alloc)?,
+            },
+            Command::Complete { output } => Command::Complete {
+                output: output.copy(alloc)?,
+            },
+            Command::Fail { fault } => Command::Fail { fault: *fault },
+            Command::Skip => Command::Skip,
+            Command::Exit => Command::Exit,
+            Command::Error => Command::Error,
+            Command::AddComment { text } => Command::AddComment {
+                text: text.copy(alloc)?,
+            },
         })
     }
 }
@@ -93,10 +135,12 @@ pub enum Query {
 /// One thing that happens to the task machine.
 #[derive(Debug, Drop)]
 pub enum Event {
-    /// A caller asks for a change at a moment. `task` is 0 exactly for a create.
+    /// A caller asks for a change at a moment, with a number where it may be sent again. `task` is 0
+    /// exactly for a create.
     Ask {
         at: Moment,
         caller: Name,
+        retry: Option<Retry>,
         task: TaskId,
         command: Command,
     },
@@ -115,11 +159,13 @@ impl Event {
             Event::Ask {
                 at,
                 caller,
+                retry,
                 task,
                 command,
             } => Ok(Event::Ask {
                 at: *at,
                 caller: *caller,
+                retry: *retry,
                 task: *task,
                 command: command.copy(alloc)?,
             }),

@@ -1,6 +1,6 @@
 ghost use Rattle.std.specs.Prelude.{◌≡◌, IfOk};
 
-use crate::{Command, Memory, Moment, Name, TaskId};
+use crate::{Command, Memory, Moment, Name, Retry, TaskId};
 use std::alloc::Global;
 
 /// What is kept of an event that changed the tables.
@@ -10,6 +10,7 @@ pub enum Record {
     Asked {
         at: Moment,
         caller: Name,
+        retry: Option<Retry>,
         task: TaskId,
         command: Command,
     },
@@ -23,11 +24,13 @@ impl Record {
             Record::Asked {
                 at,
                 caller,
+                retry,
                 task,
                 command,
             } => Ok(Record::Asked {
                 at: *at,
                 caller: *caller,
+                retry: *retry,
                 task: *task,
                 command: command.copy(alloc)?,
             }),

@@ -5,6 +5,8 @@ use crate::{Name, Roles, Sheet, State, StateSet, TaskId};
 pub enum Limit {
     /// The number of tasks, 50,000.
     Tasks,
+    /// The number of comments on a task, 32.
+    Comments,
 }
 
 /// What a command names that isn't there.
@@ -36,6 +38,10 @@ pub enum Refusal {
     Field(Name),
     /// The request names no caller, or one who is no person of the directory.
     Person,
+    /// The caller's device has sent a later command than this one, which had this number.
+    NumberStale { last: u32 },
+    /// The caller's device has sent another command under this number.
+    NumberReused { last: u32 },
     /// There is no such task.
     Task(TaskId),
     /// The caller has none of the roles that the operation needs.
@@ -55,6 +61,10 @@ pub enum Refusal {
     NotDelegatee(Name),
     /// There is no potential owner for whom the task could be activated.
     NoOwners,
+    /// This part of the output must be set before the task is completed.
+    NoOutput(Name),
+    /// The task can't be skipped, by its model.
+    NotSkipable,
     Limit(Limit),
     /// There is not enough memory. Nothing was changed.
     Memory,

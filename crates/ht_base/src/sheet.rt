@@ -1,4 +1,4 @@
-use crate::{Moment, Name, Names, Parts, State, TaskId};
+use crate::{Moment, Name, Names, Parts, ShownComments, State, TaskId};
 
 /// What is told of one task (WS-HumanTask 1.1, 7.1.1 "getTaskDetails"): its persons and its model by
 /// name, and its parts as a request gives them.
@@ -7,6 +7,7 @@ pub struct Sheet {
     pub administrators: Names,
     /// Whether the potential owners were assigned by a group, or as everybody.
     pub by_group: bool,
+    pub comments: ShownComments,
     pub created: Moment,
     pub excluded_owners: Names,
     pub fault: Option<Name>,

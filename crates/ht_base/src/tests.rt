@@ -1,7 +1,8 @@
 use crate::{
-    Bytes, Command, Event, How, IndexFault, Kind, LAST, Moment, Name, Names, Op, Parts, Person,
-    Persons, Query, Record, Role, RoleList, Roles, Scalar, State, StateSet, TaskId, Txt, Value,
-    Values, index, name_places, number, period,
+    Bytes, Command, Event, How, IndexFault, Kind, LAST, Memory, Moment, Name, Names, Op, Parts,
+    Person, Persons, Query, Record, Retry, Role, RoleList, Roles, Scalar, ShownComment,
+    ShownComments, State, StateSet, TaskId, Txt, Value, ValueList, Values, index, name_places,
+    number, period,
 };
 use std::alloc::{AllocError, Global};
 use std::test::Fail;
@@ -194,6 +195,25 @@ fn texts_are_copied(rt: HostRuntime) -> Result<(), Fail> {
 }
 
 #[test]
+fn comments_are_shown_in_order(rt: HostRuntime) -> Result<(), Fail> {
+    let person = Name::of(b"anna").ok_or("a name")?;
+    let mut comments = ShownComments::new(rt.alloc());
+    for (at, text) in [(5, "first"), (4, "second")] {
+        comments.push(ShownComment {
+            moment: Moment(at),
+            person,
+            text: Txt::of(rt.alloc(), text)?,
+        })?;
+    }
+    let copy = comments.copy(rt.alloc())?;
+    let last = copy.as_slice().last().ok_or("a comment")?;
+    assert_eq!(rt; last.moment, Moment(4));
+    assert_eq!(rt; last.text.as_str(), "second");
+    assert_eq!(rt; copy.as_slice().len(), 2);
+    Ok(())
+}
+
+#[test]
 fn aggregates_are_copied(rt: HostRuntime) -> Result<(), Fail> {
     assert!(rt; matches!(How::Sum.copy(rt.alloc())?, How::Sum));
     assert!(rt; matches!(How::Vote(50).copy(rt.alloc())?, How::Vote(50)));
@@ -223,6 +243,51 @@ fn values_grow_and_are_copied(rt: HostRuntime) -> Result<(), Fail> {
         assert!(rt; is_same(copied, &value));
     }
     Ok(())
+}
+
+#[test]
+fn values_are_put_under_their_names(rt: HostRuntime) -> Result<(), Fail> {
+    let mut values = Values::new(rt.alloc());
+    for (text, number) in [("d", 2), ("b", 1)] {
+        values.put(
+            Name::of(text.as_bytes()).ok_or("a name")?,
+            Value::Int(number),
+        )?;
+    }
+    let mut given = Values::new(rt.alloc());
+    for (text, number) in [("a", 7), ("d", 8)] {
+        given.put(
+            Name::of(text.as_bytes()).ok_or("a name")?,
+            Value::Int(number),
+        )?;
+    }
+    let values = values.updated(given)?;
+    let numbers = [("a", Some(7)), ("b", Some(1)), ("c", None), ("d", Some(8))];
+    for (text, number) in numbers {
+        let name = Name::of(text.as_bytes()).ok_or("a name")?;
+        assert!(rt; int_of(values.value_of(&name)) == number, "{text}");
+    }
+    assert_eq!(rt; values.as_slice().len(), 3);
+    Ok(())
+}
+
+#[test]
+fn lists_of_values_grow_and_are_copied(rt: HostRuntime) -> Result<(), Fail> {
+    let mut values = ValueList::new(rt.alloc());
+    for number in [-1, 2] {
+        values.push(Value::Int(number))?;
+    }
+    let copy = values.copy(rt.alloc())?;
+    assert!(rt; int_of(copy.as_slice().first()) == Some(-1));
+    assert!(rt; int_of(copy.as_slice().last()) == Some(2));
+    Ok(())
+}
+
+fn int_of(value: Option<&Value>) -> Option<i64> {
+    match value {
+        Some(Value::Int(number)) => Some(*number),
+        _ => None,
+    }
 }
 
 fn is_same(one: &Value, other: &Value) -> bool {
@@ -268,23 +333,45 @@ fn events_and_records_are_copied(rt: HostRuntime) -> Result<(), Fail> {
         Op::Activate,
         Op::SetRole,
         Op::SetPriority,
+        Op::Suspend,
+        Op::Resume,
+        Op::SetOutput,
+        Op::Complete,
+        Op::Fail,
+        Op::Skip,
+        Op::Exit,
+        Op::Error,
+        Op::AddComment,
     ] {
         let command = command_of(rt.alloc(), op, anna)?;
+        let retry = Some(Retry {
+            device: 3,
+            number: 7,
+        });
         let asked = Event::Ask {
             at: Moment(1000),
             caller: anna,
+            retry,
             task: TaskId(1),
             command: command.copy(rt.alloc())?,
         };
         let kept = Record::Asked {
             at: Moment(1000),
             caller: anna,
+            retry,
             task: TaskId(1),
             command,
         };
-        assert_eq!(rt; op_asked(&asked.copy(rt.alloc())?), Some(op));
-        let Record::Asked { command, .. } = kept.copy(rt.alloc())?;
+        assert_eq!(rt; op_asked(&asked.copy(rt.alloc())?), Some((op, retry)));
+        let Record::Asked { retry, command, .. } = kept.copy(rt.alloc())?;
         assert_eq!(rt; command.op(), op);
+        assert_eq!(rt;
+            retry,
+            Some(Retry {
+                device: 3,
+                number: 7
+            })
+        );
     }
     let read = Event::Read {
         caller: anna,
@@ -296,30 +383,70 @@ fn events_and_records_are_copied(rt: HostRuntime) -> Result<(), Fail> {
 
 // A command of this operation, which names this person.
 fn command_of(alloc: Global, op: Op, name: Name) -> Result<Command, Fail> {
-    let mut persons = Names::new(alloc);
-    persons.push(name)?;
-    let mut input = Parts::new(alloc);
-    input.push(name, Scalar::Text(Txt::of(alloc, "soon")?))?;
-    Ok(match op {
-        Op::Create => Command::Create {
-            model: Some(name),
-            input,
-        },
+    match plain_command(op) {
+        Some(command) => Ok(command),
+        None => command_with(alloc, op, name),
+    }
+}
+
+fn plain_command(op: Op) -> Option<Command> {
+    Some(match op {
         Op::Claim => Command::Claim,
         Op::Start => Command::Start,
         Op::Stop => Command::Stop,
         Op::Release => Command::Release,
-        Op::Delegate => Command::Delegate { person: name },
-        Op::Forward => Command::Forward { persons },
-        Op::Nominate => Command::Nominate { persons },
         Op::Activate => Command::Activate,
+        Op::SetPriority => Command::SetPriority { priority: 10 },
+        Op::Suspend => Command::Suspend,
+        Op::Resume => Command::Resume,
+        Op::Skip => Command::Skip,
+        Op::Exit => Command::Exit,
+        Op::Error => Command::Error,
+        _ => return None,
+    })
+}
+
+fn command_with(alloc: Global, op: Op, name: Name) -> Result<Command, Fail> {
+    Ok(match op {
+        Op::Create => Command::Create {
+            model: Some(name),
+            input: one_part(alloc, name)?,
+        },
+        Op::Delegate => Command::Delegate { person: name },
+        Op::Forward => Command::Forward {
+            persons: one_name(alloc, name)?,
+        },
+        Op::Nominate => Command::Nominate {
+            persons: one_name(alloc, name)?,
+        },
         Op::SetRole => Command::SetRole {
             role: RoleList::Stakeholders,
-            persons,
+            persons: one_name(alloc, name)?,
         },
-        Op::SetPriority => Command::SetPriority { priority: 10 },
+        Op::SetOutput => Command::SetOutput {
+            output: one_part(alloc, name)?,
+        },
+        Op::Complete => Command::Complete {
+            output: one_part(alloc, name)?,
+        },
+        Op::Fail => Command::Fail { fault: Some(name) },
+        Op::AddComment => Command::AddComment {
+            text: Txt::of(alloc, "soon")?,
+        },
         _ => return Err(Fail::from("no such command")),
     })
+}
+
+fn one_name(alloc: Global, name: Name) -> Result<Names, Memory> {
+    let mut names = Names::new(alloc);
+    names.push(name)?;
+    Ok(names)
+}
+
+fn one_part(alloc: Global, name: Name) -> Result<Parts, Memory> {
+    let mut parts = Parts::new(alloc);
+    parts.push(name, Scalar::Text(Txt::of(alloc, "soon")?))?;
+    Ok(parts)
 }
 
 #[test]
@@ -346,9 +473,9 @@ fn is_same_scalar(one: &Scalar, other: &Scalar) -> bool {
     }
 }
 
-fn op_asked(event: &Event) -> Option<Op> {
+fn op_asked(event: &Event) -> Option<(Op, Option<Retry>)> {
     match event {
-        Event::Ask { command, .. } => Some(command.op()),
+        Event::Ask { retry, command, .. } => Some((command.op(), *retry)),
         Event::Read { .. } => None,
     }
 }

@@ -40,3 +40,13 @@ impl Txt {
         self.text.as_str()
     }
 }
+
+impl From<String> for Txt {
+    ghost use Rattle.std.specs.Prelude.{◌≡◌, string_bytes};
+
+    ghost from_gives = { λ s t. t ≡ string_bytes s };
+
+    fn from(text: String) -> Txt {
+        Txt { text }
+    }
+}

@@ -16,7 +16,7 @@ use Rattle.ht_tree.specs.Plans.{Goes, IsNext, PlanOf, planned}
 use Rattle.ht_tree.specs.Rows.{row_at}
 use Rattle.ht_tree.specs.Soundness.{KeepsSound}
 use Rattle.ht_tree.specs.Tables.{TablesOf, directory, model_at, model_named, with_row}
-use Rattle.ht_tree.proofs.PublicLaws.{goes_on, row_at-put_in}
+use Rattle.ht_tree.proofs.PublicLaws.{goes_then, row_at-put_in}
 
 -- ---- the model that is found
 
@@ -56,7 +56,7 @@ created t old mid new caller moment place input named m task finds at fine room 
     record {
       after = w;
       comes = at_place t u caller moment place input named (accepted w task.0) refl finds (m, at, unless_none u caller moment place input m (accepted w task.0) fine (room, number, activates));
-      goes = goes_on t old mid new u u1 w first (record { from = first.to; to = (becomes.goes).to; fits = (becomes.goes).fits; marked = (becomes.goes).marked });
+      goes = goes_then t old mid new u u1 w first becomes.goes;
       sound = λ sound. becomes.sound (keeps sound);
       row = activated becomes.row;
       there = becomes.found;

@@ -1,8 +1,10 @@
 mod Activated
-mod Begun
-mod Asking
+mod Asked
 mod Commanded
+mod CommentsShown
 mod Created
+mod Followed
 mod OneOutcome
 mod PartsShown
+mod Remembering
 mod Rows

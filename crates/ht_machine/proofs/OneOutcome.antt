@@ -1,5 +1,5 @@
 -- An event has one outcome on given tables.
-use Rattle.std.proofs.Common.{◌≡◌, ℕ, List, Option, None, Some, ap, sym, subst, ◌∙◌}
+use Rattle.std.proofs.Common.{◌≡◌, ℕ, ◌<◌, List, Option, None, Some, ap, sym, subst, ◌∙◌, inl, inr, arith}
 use Rattle.ht_base.specs.declared.event.Command.{Command}
 use Rattle.ht_base.specs.declared.event.Command.TheVariants as command
 use Rattle.ht_base.specs.declared.event.Event.{Event}
@@ -10,20 +10,29 @@ use Rattle.ht_base.specs.declared.record.Record.TheVariants.{Asked}
 use Rattle.ht_base.specs.declared.reply.Answer.{Answer}
 use Rattle.ht_base.specs.declared.reply.Refusal.{Refusal}
 use Rattle.ht_base.specs.declared.reply.Reply.{Reply}
+use Rattle.ht_base.specs.declared.operation.Op.{Op}
+use Rattle.ht_base.specs.declared.retry.Retry.{Retry}
 use Rattle.ht_base.specs.declared.task_id.TaskId.{TaskId}
 use Rattle.ht_base.specs.Events.{op_of}
 use Rattle.ht_machine.specs.Activating.{Activates, activated}
 use Rattle.ht_machine.specs.Commands.{ActsOn, AfterEffect, BehindGate, Comes, Creates, CreatesAt, CreatesNamed, CreatesOf, CreatesUnless, Outcome, accepted, new_task, refused, why_not_created}
-use Rattle.ht_machine.specs.Deciding.{Attempts, Leads, Settles, Shows, done, effective}
+use Rattle.ht_machine.specs.declared.sending.Sending.{Sending}
+use Rattle.ht_machine.specs.declared.sending.Sending.TheVariants as sending
+use Rattle.ht_machine.specs.declared.sending.Sending.TheVariants.{New, Answered}
+use Rattle.ht_machine.specs.Deciding.{AsksAs, Leads, Settles, Shows, done, effective}
 use Rattle.ht_machine.specs.Gate.{Gate, gate, opens, shuts}
-use Rattle.ht_machine.specs.Starting.{Begins, begun}
+use Rattle.ht_machine.specs.Following.{Follows, followed}
+use Rattle.ht_machine.specs.Sending.{ByCaller, ByLast, BySlot, answer_of, with_reply}
 use Rattle.ht_machine.proofs.Rows.{one}
 use Rattle.ht_models.specs.Model.{ModelOf}
-use Rattle.ht_owner.specs.declared.follow.Follow.TheVariants.{Began, Nothing}
+use Rattle.ht_owner.specs.declared.follow.Follow.{Follow}
+use Rattle.ht_owner.specs.declared.follow.Follow.TheVariants.{Began, Close, Nothing}
 use Rattle.ht_owner.specs.Effects.{Effect, does, effect, refuses}
 use Rattle.ht_people.specs.Directory.{find}
 use Rattle.ht_tree.specs.declared.row.Row.{Row}
-use Rattle.ht_tree.specs.Tables.{TablesOf, directory, model_at, model_named, model_of, task_row, with_row}
+use Rattle.ht_tree.specs.declared.slot.Kept.{Kept}
+use Rattle.ht_tree.specs.declared.slot.Slot.{Slot}
+use Rattle.ht_tree.specs.Tables.{TablesOf, at_moment, device_slot, directory, model_at, model_named, model_of, task_row, with_row}
 
 both : (u v : TablesOf) (m n : ℕ) → u ≡ v → m ≡ n → accepted u m ≡ accepted v n
 both u v m n e f = ap (λ x. accepted x m) e ∙ ap (λ k. accepted v k) f
@@ -62,37 +71,63 @@ same_create u caller moment (Some name) input o p a b = at (model_named u name) 
 
 -- ---- the other commands
 
-same_note : (u : TablesOf) (task : ℕ) (v w : TablesOf) → Begins u task v → Begins u task w → v ≡ w
-same_note u task v w a b = a.2 ∙ ap (λ (r : Row). with_row u (begun r)) (one (task_row u task) a.0 b.0 a.1 b.1) ∙ sym b.2
+same_follow : (f : Follow) (u : TablesOf) (task : ℕ) (v w : TablesOf) → Follows f task u v → Follows f task u w → v ≡ w
+same_follow f u task v w a b = a.2 ∙ ap (λ (r : Row). with_row u (followed f r)) (one (task_row u task) a.0 b.0 a.1 b.1) ∙ sym b.2
 
 same_effect : (u : TablesOf) (task : ℕ) (e : Effect) (o p : Outcome) → AfterEffect u task e o → AfterEffect u task e p → o ≡ p
 same_effect u task (does row Nothing) (accepted v j) (accepted w k) a b = both v w j k (a.0 ∙ sym b.0) (a.1 ∙ sym b.1)
-same_effect u task (does row Began) (accepted v j) (accepted w k) a b = both v w j k (same_note (with_row u row) task v w a.0 b.0) (a.1 ∙ sym b.1)
+same_effect u task (does row Began) (accepted v j) (accepted w k) a b = both v w j k (same_follow Began (with_row u row) task v w a.0 b.0) (a.1 ∙ sym b.1)
+same_effect u task (does row (Close end)) (accepted v j) (accepted w k) a b = both v w j k (same_follow (Close end) (with_row u row) task v w a.0 b.0) (a.1 ∙ sym b.1)
 same_effect u task (does row follow) (accepted v j) (refused why) a b = absurd b
 same_effect u task (does row follow) (refused why) p a b = absurd a
 same_effect u task (refuses why) o p a b = a ∙ sym b
 
-same_act : (u : TablesOf) (caller task : ℕ) (c : Command) (o p : Outcome) → ActsOn u caller task c o → ActsOn u caller task c p → o ≡ p
-same_act u caller task c o p = at (gate u (op_of c) caller task)
+same_act : (u : TablesOf) (caller moment task : ℕ) (c : Command) (o p : Outcome) → ActsOn u caller moment task c o → ActsOn u caller moment task c p → o ≡ p
+same_act u caller moment task c o p = at (gate u (op_of c) caller task)
   where
-    at : (g : Gate) → BehindGate u caller task c g o → BehindGate u caller task c g p → o ≡ p
+    at : (g : Gate) → BehindGate u caller moment task c g o → BehindGate u caller moment task c g p → o ≡ p
     at (opens row) a b =
-        let E : ModelOf → Type 0 = λ m. AfterEffect u task (effect (directory u) m caller c row) o in
-        same_effect u task (effect (directory u) b.0 caller c row) o p (subst E (one (model_of u row) a.0 b.0 a.1 b.1) a.2) b.2
+        let E : ModelOf → Type 0 = λ m. AfterEffect u task (effect (directory u) m caller (record { 0 = moment }) c row) o in
+        same_effect u task (effect (directory u) b.0 caller (record { 0 = moment }) c row) o p (subst E (one (model_of u row) a.0 b.0 a.1 b.1) a.2) b.2
     at (shuts why) a b = a ∙ sym b
 
 same_outcome : (t : TablesOf) (person moment task : ℕ) (c : Command) (o p : Outcome) → Comes t person moment task c o → Comes t person moment task c p → o ≡ p
 same_outcome t person moment task (command.Create model input) o p a b = same_create t person moment model input o p a b
-same_outcome t person moment task c o p a b = same_act t person task c o p a b
+same_outcome t person moment task c o p a b = same_act t person moment task c o p a b
 
-same_attempt : (t : TablesOf) (moment : ℕ) (task : TaskId) (c : Command) (person : Option ℕ) (o p : Outcome) → Attempts t moment task c person o → Attempts t moment task c person p → o ≡ p
-same_attempt t moment task c None o p a b = a ∙ sym b
-same_attempt t moment task c (Some person) o p a b = same_outcome t person moment task.0 c o p a b
+-- ---- what is known of a command
+
+same_last : (person number : ℕ) (op : Op) (task : TaskId) (last : Slot) (a b : Sending) → ByLast person number op task last a → ByLast person number op task last b → a ≡ b
+same_last person number op task last (New p) (New q) s r = ap New (s.1 ∙ sym r.1)
+same_last person number op task last (New p) (Answered k) s r = let up = s.0 in let e = r.0 in absurd (omega arith)
+same_last person number op task last (New p) (sending.Refused why) s (inl r) = let up = s.0 in let down = r.0 in absurd (omega arith)
+same_last person number op task last (New p) (sending.Refused why) s (inr r) = let up = s.0 in let e = r.0 in absurd (omega arith)
+same_last person number op task last (Answered k) (New q) s r = let up = r.0 in let e = s.0 in absurd (omega arith)
+same_last person number op task last (Answered j) (Answered k) s r = ap Answered (s.3 ∙ sym r.3)
+same_last person number op task last (Answered k) (sending.Refused why) s (inl r) = let e = s.0 in let down = r.0 in absurd (omega arith)
+same_last person number op task last (Answered k) (sending.Refused why) s (inr r) = absurd (r.1 (s.1, s.2))
+same_last person number op task last (sending.Refused why) (New q) (inl s) r = let up = r.0 in let down = s.0 in absurd (omega arith)
+same_last person number op task last (sending.Refused why) (New q) (inr s) r = let up = r.0 in let e = s.0 in absurd (omega arith)
+same_last person number op task last (sending.Refused why) (Answered k) (inl s) r = let e = r.0 in let down = s.0 in absurd (omega arith)
+same_last person number op task last (sending.Refused why) (Answered k) (inr s) r = absurd (s.1 (r.1, r.2))
+same_last person number op task last (sending.Refused why) (sending.Refused other) (inl s) (inl r) = ap sending.Refused (s.1 ∙ sym r.1)
+same_last person number op task last (sending.Refused why) (sending.Refused other) (inl s) (inr r) = let down = s.0 in let e = r.0 in absurd (omega arith)
+same_last person number op task last (sending.Refused why) (sending.Refused other) (inr s) (inl r) = let down = r.0 in let e = s.0 in absurd (omega arith)
+same_last person number op task last (sending.Refused why) (sending.Refused other) (inr s) (inr r) = ap sending.Refused (s.2 ∙ sym r.2)
+
+same_sending : (t : TablesOf) (op : Op) (task : TaskId) (retry : Option Retry) (person : Option ℕ) (a b : Sending) → ByCaller t op task retry person a → ByCaller t op task retry person b → a ≡ b
+same_sending t op task retry None a b s r = s ∙ sym r
+same_sending t op task None (Some person) a b s r = s ∙ sym r
+same_sending t op task (Some k) (Some person) a b s r = at (device_slot t person k.device) s r
+  where
+    at : (last : Option Slot) → BySlot person k.number op task last a → BySlot person k.number op task last b → a ≡ b
+    at None s r = s ∙ sym r
+    at (Some last) s r = same_last person k.number op task last a b s r
 
 -- ---- what is left and answered
 
-same_answer : (u : TablesOf) (task : ℕ) (a b : Answer) → Shows u task a → Shows u task b → a ≡ b
-same_answer u task a b s t = s.2 ∙ ap (λ (r : Row). done (directory u) r) (one (task_row u task) s.0 t.0 s.1 t.1) ∙ sym t.2
+same_reply_of : (u : TablesOf) (task : ℕ) (a b : Kept) → Shows u task a → Shows u task b → a ≡ b
+same_reply_of u task a b s t = s.2 ∙ ap (λ (r : Row). done (directory u) r) (one (task_row u task) s.0 t.0 s.1 t.1) ∙ sym t.2
 
 -- the record left, the answer and the tables after are the same
 pub record AreSame (k l : Option Record) (a b : Answer) (u v : TablesOf) : Type 0 where
@@ -100,21 +135,31 @@ pub record AreSame (k l : Option Record) (a b : Answer) (u v : TablesOf) : Type 
   pub answer : a ≡ b
   pub after : u ≡ v
 
-same_settled : (t : TablesOf) (moment : ℕ) (kept : Record) (o : Outcome) (k l : Option Record) (a b : Answer) (u v : TablesOf) → Settles t moment kept o k a u → Settles t moment kept o l b v → AreSame k l a b u v
-same_settled t moment kept (accepted w task) k l a b u v s r =
-    let after : u ≡ v = s.1 ∙ sym r.1 in
-    let P : TablesOf → Type 0 = λ x. Shows x task a in
-    record { left = s.0 ∙ sym r.0; answer = same_answer v task a b (subst P after s.2) r.2; after = after }
-same_settled t moment kept (refused why) k l a b u v s r = record { left = s.0 ∙ sym r.0; answer = s.2 ∙ sym r.2; after = s.1 ∙ sym r.1 }
+same_settled : (t : TablesOf) (moment person : ℕ) (retry : Option Retry) (op : Op) (task : TaskId) (asked : Record) (o : Outcome) (k l : Option Record) (a b : Answer) (u v : TablesOf) → Settles t moment person retry op task asked o k a u → Settles t moment person retry op task asked o l b v → AreSame k l a b u v
+same_settled t moment person retry op task asked (accepted w about) k l a b u v s r =
+    let reply = same_reply_of w about s.0 r.0 s.1 r.1 in
+    record {
+      left = s.2 ∙ sym r.2;
+      answer = s.4 ∙ ap answer_of reply ∙ sym r.4;
+      after = s.3 ∙ ap (λ (x : Kept). at_moment (with_reply w person retry op task x) moment) reply ∙ sym r.3;
+    }
+same_settled t moment person retry op task asked (refused why) k l a b u v s r = record { left = s.0.0 ∙ sym r.0.0; answer = s.1 ∙ sym r.1; after = s.0.1 ∙ sym r.0.1 }
+
+same_asks : (t : TablesOf) (moment : ℕ) (retry : Option Retry) (task : TaskId) (c : Command) (asked : Record) (known : Sending) (k l : Option Record) (a b : Answer) (u v : TablesOf) → AsksAs t moment retry task c asked known k a u → AsksAs t moment retry task c asked known l b v → AreSame k l a b u v
+same_asks t moment retry task c asked (New person) k l a b u v s r =
+    let P : Outcome → Type 0 = λ o. Settles t moment person retry (op_of c) task asked o k a u in
+    same_settled t moment person retry (op_of c) task asked r.0 k l a b u v (subst P (same_outcome t person moment task.0 c s.0 r.0 s.1 r.1) s.2) r.2
+same_asks t moment retry task c asked (Answered reply) k l a b u v s r = record { left = s.0.0 ∙ sym r.0.0; answer = s.1 ∙ sym r.1; after = s.0.1 ∙ sym r.0.1 }
+same_asks t moment retry task c asked (sending.Refused why) k l a b u v s r = record { left = s.0.0 ∙ sym r.0.0; answer = s.1 ∙ sym r.1; after = s.0.1 ∙ sym r.0.1 }
 
 pub same : (t : TablesOf) (e : Event) (k l : Option Record) (a b : Answer) (u v : TablesOf) → Leads t e k a u → Leads t e l b v → AreSame k l a b u v
-same t (Ask at caller task c) k l a b u v s r =
+same t (Ask at caller retry task c) k l a b u v s r =
     let moment = effective t at.0 in
-    let kept = Asked (record { 0 = moment }) caller task c in
-    let P : Outcome → Type 0 = λ o. Settles t moment kept o k a u in
-    let one_only = same_attempt t moment task c (find caller (directory t)) s.outcome r.outcome s.attempts r.attempts in
-    same_settled t moment kept r.outcome k l a b u v (subst P one_only s.settles) r.settles
-same t (Read caller what) k l a b u v s r = record { left = s.0 ∙ sym r.0; answer = s.2 ∙ sym r.2; after = s.1 ∙ sym r.1 }
+    let asked = Asked (record { 0 = moment }) caller retry task c in
+    let P : Sending → Type 0 = λ x. AsksAs t moment retry task c asked x k a u in
+    let one_only = same_sending t (op_of c) task retry (find caller (directory t)) s.sending r.sending s.sent r.sent in
+    same_asks t moment retry task c asked r.sending k l a b u v (subst P one_only s.asks) r.asks
+same t (Read caller what) k l a b u v s r = record { left = s.0.0 ∙ sym r.0.0; answer = s.1 ∙ sym r.1; after = s.0.1 ∙ sym r.0.1 }
 
 -- replies in which as much was taken, and which answer the same
 pub same_reply : (r s : Reply) → r.taken ≡ 0 → s.taken ≡ 0 → r.answer ≡ s.answer → r ≡ s

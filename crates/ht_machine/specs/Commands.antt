@@ -18,7 +18,7 @@ use Rattle.ht_tree.specs.Creating.{IsFull, new_row}
 use Rattle.ht_tree.specs.Giving.{refused_part, values_given}
 use Rattle.ht_tree.specs.Tables.{TablesOf, directory, model_at, model_named, model_of, with_row}
 use Rattle.ht_machine.specs.Activating.{Activates}
-use Rattle.ht_machine.specs.Starting.{Begins}
+use Rattle.ht_machine.specs.Following.{Follows}
 use Rattle.ht_machine.specs.Gate.{Gate, gate, opens, shuts}
 
 -- It is accepted: the tables after it, and the task that it is about. Or it is refused.
@@ -64,25 +64,26 @@ Creates u caller moment (Some name) input o = CreatesNamed u caller moment name 
 
 -- ---- the other commands
 
--- what follows on other tasks, from the tables after the effect on
+-- what follows, from the tables after the effect on
 abbrev pub Spreads : Follow → ℕ → TablesOf → TablesOf → Type 0
 Spreads follow.Nothing task u v = v ≡ u
-Spreads follow.Began task u v = Begins u task v
+Spreads follow.Began task u v = Follows follow.Began task u v
+Spreads (follow.Close end) task u v = Follows (follow.Close end) task u v
 
 abbrev pub AfterEffect : TablesOf → ℕ → Effect → Outcome → Type 0
 AfterEffect u task (does row follow) (accepted v number) = Spreads follow task (with_row u row) v × (number ≡ task)
 AfterEffect u task (does row follow) (refused why) = ⊥
 AfterEffect u task (refuses why) o = o ≡ refused why
 
-abbrev pub BehindGate : TablesOf → ℕ → ℕ → Command → Gate → Outcome → Type 0
-BehindGate u caller task command (opens row) o = (m : ModelOf) × (model_of u row ≡ Some m) × AfterEffect u task (effect (directory u) m caller command row) o
-BehindGate u caller task command (shuts why) o = o ≡ refused why
+abbrev pub BehindGate : TablesOf → ℕ → ℕ → ℕ → Command → Gate → Outcome → Type 0
+BehindGate u caller moment task command (opens row) o = (m : ModelOf) × (model_of u row ≡ Some m) × AfterEffect u task (effect (directory u) m caller (record { 0 = moment }) command row) o
+BehindGate u caller moment task command (shuts why) o = o ≡ refused why
 
-abbrev pub ActsOn : TablesOf → ℕ → ℕ → Command → Outcome → Type 0
-ActsOn u caller task command o = BehindGate u caller task command (gate u (op_of command) caller task) o
+abbrev pub ActsOn : TablesOf → ℕ → ℕ → ℕ → Command → Outcome → Type 0
+ActsOn u caller moment task command o = BehindGate u caller moment task command (gate u (op_of command) caller task) o
 
 -- ---- all commands
 
 abbrev pub Comes : TablesOf → ℕ → ℕ → ℕ → Command → Outcome → Type 0
 Comes u caller moment task (command.Create model input) o = Creates u caller moment model input o
-Comes u caller moment task command o = ActsOn u caller task command o
+Comes u caller moment task command o = ActsOn u caller moment task command o

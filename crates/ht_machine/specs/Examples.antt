@@ -1,9 +1,9 @@
 -- Worked examples of the definitions, by computation and by derivation. A wrong reading of one fails
 -- the check.
 use Rattle.std.specs.Prelude.{◌≡◌, refl, ℕ, pos, Bool, true, false, List, ◌∷◌, [], Option, Some, None, codes}
-use Rattle.std.proofs.Common.{arith}
+use Rattle.std.proofs.Common.{ap, arith, inl, inr}
 use Rattle.ht_base.specs.declared.event.Command.{Command}
-use Rattle.ht_base.specs.declared.event.Command.TheVariants.{Create, Claim}
+use Rattle.ht_base.specs.declared.event.Command.TheVariants.{AddComment, Create, Claim, Exit}
 use Rattle.ht_base.specs.declared.event.Event.{Event}
 use Rattle.ht_base.specs.declared.event.Event.TheVariants.{Ask, Read}
 use Rattle.ht_base.specs.declared.event.Query.TheVariants as query
@@ -12,15 +12,21 @@ use Rattle.ht_base.specs.declared.operation.Op.TheVariants as op
 use Rattle.ht_base.specs.declared.record.Record.{Record}
 use Rattle.ht_base.specs.declared.record.Record.TheVariants.{Asked}
 use Rattle.ht_base.specs.declared.reply.Answer.TheVariants.{Done, Refused}
-use Rattle.ht_base.specs.declared.reply.Refusal.TheVariants.{PartRefused, Person, Task, Role, State, Unknown}
+use Rattle.ht_base.specs.declared.reply.Refusal.TheVariants.{NumberReused, NumberStale, PartRefused, Person, Task, Role, State, Unknown}
 use Rattle.ht_base.specs.declared.reply.Unknown.TheVariants.{Model}
+use Rattle.ht_base.specs.declared.retry.Retry.{Retry}
 use Rattle.ht_base.specs.declared.role.Role.TheVariants.{PotentialOwner}
 use Rattle.ht_base.specs.declared.scalar.Scalar.TheVariants as scalar
-use Rattle.ht_base.specs.declared.state.State.TheVariants.{Ready, Reserved}
+use Rattle.ht_base.specs.declared.task_id.TaskId.{TaskId}
+use Rattle.ht_base.specs.declared.state.State.TheVariants.{Created, Ready, Reserved, InProgress, SuspendedReady, SuspendedReserved, SuspendedInProgress, Exited, Obsolete}
 use Rattle.ht_expr.specs.Assignments.{user}
 use Rattle.ht_machine.specs.Activating.{activated}
 use Rattle.ht_machine.specs.Commands.{accepted, refused, why_not_created}
+use Rattle.ht_machine.specs.declared.sending.Sending.TheVariants as sending
+use Rattle.ht_machine.specs.declared.sending.Sending.TheVariants.{New, Answered}
 use Rattle.ht_machine.specs.Deciding.{Decides, reply_of}
+use Rattle.ht_machine.specs.Sending.{IsSent}
+use Rattle.ht_machine.specs.Following.{closed}
 use Rattle.ht_machine.specs.Gate.{gate, shuts}
 use Rattle.ht_machine.specs.Sheets.{sheet_of}
 use Rattle.ht_models.specs.declared.deadlines.DeadlineKind.TheVariants.{Start}
@@ -30,6 +36,9 @@ use Rattle.ht_models.specs.SubEntries.{sub_entry}
 use Rattle.ht_rules.specs.Judging.{needed}
 use Rattle.ht_rules.specs.Sets.{roles_of, states_of}
 use Rattle.ht_tree.specs.declared.row.Row.{Row}
+use Rattle.ht_tree.specs.declared.slot.Kept.{Kept}
+use Rattle.ht_tree.specs.declared.slot.Kept.TheVariants as reply
+use Rattle.ht_tree.specs.declared.slot.Slot.{Slot}
 use Rattle.ht_tree.specs.Creating.{new_row}
 use Rattle.ht_tree.specs.Examples.{office, shut, unit}
 use Rattle.ht_tree.specs.Tables.{TablesOf, empty_tables}
@@ -43,10 +52,10 @@ abbrev nothing_yet : TablesOf
 nothing_yet = empty_tables (unit ∷ solo ∷ shut ∷ []) office
 
 abbrev asks : List ℕ → ℕ → ℕ → Command → Event
-asks caller moment task command = Ask (record { 0 = moment }) caller (record { 0 = task }) command
+asks caller moment task command = Ask (record { 0 = moment }) caller None (record { 0 = task }) command
 
 abbrev kept : List ℕ → ℕ → ℕ → Command → Option Record
-kept caller moment task command = Some (Asked (record { 0 = moment }) caller (record { 0 = task }) command)
+kept caller moment task command = Some (Asked (record { 0 = moment }) caller None (record { 0 = task }) command)
 
 -- a task of dan's, of a model at its place
 abbrev task_of : ModelOf → ℕ → Row
@@ -113,18 +122,22 @@ a_create : Decides nothing_yet (asks (codes "dan") 1000 0 (Create None [])) (kep
 a_create = (
   refl,
   record {
-    outcome = accepted (record nothing_yet { rows = record (task_of unit 0) { state = Ready } ∷ [] }) 1;
-    attempts = (unit, refl, ((λ full. absurd (omega arith)), refl, (task_of unit 0, refl, refl)));
-    settles = (refl, refl, (record (task_of unit 0) { state = Ready }, refl, refl));
+    sending = New 3;
+    sent = refl;
+    asks = (
+      accepted (record nothing_yet { rows = record (task_of unit 0) { state = Ready } ∷ [] }) 1,
+      (unit, refl, ((λ full. absurd (omega arith)), refl, (task_of unit 0, refl, refl))),
+      (reply.Done (record { 0 = 1 }) Ready None, (record (task_of unit 0) { state = Ready }, refl, refl), refl, refl, refl),
+    );
   },
 )
 
 no_such_model : Decides one_task (asks (codes "dan") 2000 0 (Create (Some (codes "sole")) [])) None (reply_of (Refused (Unknown (Model (codes "sole"))))) one_task
-no_such_model = (refl, record { outcome = refused (Unknown (Model (codes "sole"))); attempts = refl; settles = (refl, refl, refl) })
+no_such_model = (refl, record { sending = New 3; sent = refl; asks = (refused (Unknown (Model (codes "sole"))), refl, ((refl, refl), refl)) })
 
 -- a stranger changes nothing, not even the last moment
 a_stranger : Decides one_task (asks (codes "eve") 5000 0 (Create None [])) None (reply_of (Refused Person)) one_task
-a_stranger = (refl, record { outcome = refused Person; attempts = refl; settles = (refl, refl, refl) })
+a_stranger = (refl, record { sending = sending.Refused Person; sent = refl; asks = ((refl, refl), refl) })
 
 -- ---- a claim
 
@@ -134,12 +147,16 @@ claimed = record (task_of unit 0) { state = Reserved; owner = Some 0 }
 abbrev claimed_at : ℕ → TablesOf
 claimed_at moment = record nothing_yet { rows = claimed ∷ []; last = moment }
 
+-- anna has it
+abbrev annas : Kept
+annas = reply.Done (record { 0 = 1 }) Reserved (Some (codes "anna"))
+
 a_claim : Decides one_task (asks (codes "anna") 2000 1 Claim) (kept (codes "anna") 2000 1 Claim) (reply_of (Done (record { 0 = 1 }) Reserved (Some (codes "anna")))) (claimed_at 2000)
-a_claim = (refl, record { outcome = accepted (claimed_at 1000) 1; attempts = (unit, refl, (refl, refl)); settles = (refl, refl, (claimed, refl, refl)) })
+a_claim = (refl, record { sending = New 0; sent = refl; asks = (accepted (claimed_at 1000) 1, (unit, refl, (refl, refl)), (annas, (claimed, refl, refl), refl, refl, refl)) })
 
 -- an event acts never before the last accepted command, and is kept as of then
 an_earlier_moment : Decides one_task (asks (codes "anna") 10 1 Claim) (kept (codes "anna") 1000 1 Claim) (reply_of (Done (record { 0 = 1 }) Reserved (Some (codes "anna")))) (claimed_at 1000)
-an_earlier_moment = (refl, record { outcome = accepted (claimed_at 1000) 1; attempts = (unit, refl, (refl, refl)); settles = (refl, refl, (claimed, refl, refl)) })
+an_earlier_moment = (refl, record { sending = New 0; sent = refl; asks = (accepted (claimed_at 1000) 1, (unit, refl, (refl, refl)), (annas, (claimed, refl, refl), refl, refl, refl)) })
 
 a_second_claim : gate (claimed_at 2000) op.Claim 1 1 ≡ shuts (State (states_of (Ready ∷ [])) Reserved)
 a_second_claim = refl
@@ -157,7 +174,78 @@ no_such_task = refl
 
 -- and the person before the task
 neither : Decides one_task (asks (codes "eve") 2000 2 Claim) None (reply_of (Refused Person)) one_task
-neither = (refl, record { outcome = refused Person; attempts = refl; settles = (refl, refl, refl) })
+neither = (refl, record { sending = sending.Refused Person; sent = refl; asks = ((refl, refl), refl) })
+
+-- ---- a command that is sent again
+
+-- anna's device 1 has claimed task 1 as its command 5
+abbrev of_device : ℕ → ℕ → Option Retry
+of_device device number = Some (record { device = device; number = number })
+
+abbrev fifth : Slot
+fifth = record { person = 0; device = 1; number = 5; op = op.Claim; task = record { 0 = 1 }; kept = annas }
+
+abbrev claimed_once : TablesOf
+claimed_once = record (claimed_at 2000) { slots = fifth ∷ [] }
+
+abbrev claims : ℕ → ℕ → ℕ → Event
+claims device number task = Ask (record { 0 = 2000 }) (codes "anna") (of_device device number) (record { 0 = task }) Claim
+
+a_numbered_claim : Decides one_task (claims 1 5 1) (Some (Asked (record { 0 = 2000 }) (codes "anna") (of_device 1 5) (record { 0 = 1 }) Claim)) (reply_of (Done (record { 0 = 1 }) Reserved (Some (codes "anna")))) claimed_once
+a_numbered_claim = (refl, record { sending = New 0; sent = refl; asks = (accepted (claimed_at 1000) 1, (unit, refl, (refl, refl)), (annas, (claimed, refl, refl), refl, refl, refl)) })
+
+-- It is answered as before, though the task is reserved now, and leaves nothing.
+sent_again : Decides claimed_once (claims 1 5 1) None (reply_of (Done (record { 0 = 1 }) Reserved (Some (codes "anna")))) claimed_once
+sent_again = (refl, record { sending = Answered annas; sent = (refl, refl, refl, refl); asks = ((refl, refl), refl) })
+
+an_earlier_number : Decides claimed_once (claims 1 4 1) None (reply_of (Refused (NumberStale 5))) claimed_once
+an_earlier_number = (refl, record { sending = sending.Refused (NumberStale 5); sent = inl (omega arith, refl); asks = ((refl, refl), refl) })
+
+-- also of a task that isn't there
+another_task : Decides claimed_once (claims 1 5 2) None (reply_of (Refused (NumberReused 5))) claimed_once
+another_task = (refl, record { sending = sending.Refused (NumberReused 5); sent = inr (refl, (λ same. let e : 1 ≡ 2 = ap (λ (task : TaskId). task.0) same.1 in omega arith), refl); asks = ((refl, refl), refl) })
+
+-- another device, and another person's device of the same number, begin anew
+another_device : IsSent claimed_once (codes "anna") (of_device 2 5) op.Claim (record { 0 = 1 }) (New 0)
+another_device = refl
+
+another_person : IsSent claimed_once (codes "ben") (of_device 1 5) op.Claim (record { 0 = 1 }) (New 1)
+another_person = refl
+
+-- ---- a comment
+
+-- which acts as of the last accepted command, and has that moment
+abbrev commented : Row
+commented = record claimed { comments = record { moment = record { 0 = 2000 }; person = 3; text = codes "why" } ∷ [] }
+
+abbrev commented_at : ℕ → TablesOf
+commented_at moment = record nothing_yet { rows = commented ∷ []; last = moment }
+
+a_comment : Decides (claimed_at 2000) (asks (codes "dan") 10 1 (AddComment (codes "why"))) (kept (codes "dan") 2000 1 (AddComment (codes "why"))) (reply_of (Done (record { 0 = 1 }) Reserved (Some (codes "anna")))) (commented_at 2000)
+a_comment = (refl, record { sending = New 3; sent = refl; asks = (accepted (commented_at 2000) 1, (unit, refl, (refl, refl)), (annas, (commented, refl, refl), refl, refl, refl)) })
+
+its_comments : (sheet_of (commented_at 2000) commented).comments ≡ record { moment = record { 0 = 2000 }; person = codes "dan"; text = codes "why" } ∷ []
+its_comments = refl
+
+-- ---- an end
+
+-- its owner was anna, and nobody owns it any more
+abbrev exited : Row
+exited = record claimed { state = Exited; owner = None; last_owner = Some 0 }
+
+abbrev exited_at : ℕ → TablesOf
+exited_at moment = record nothing_yet { rows = exited ∷ []; last = moment }
+
+an_exit : Decides (claimed_at 2000) (asks (codes "root") 3000 1 Exit) (kept (codes "root") 3000 1 Exit) (reply_of (Done (record { 0 = 1 }) Exited None)) (exited_at 3000)
+an_exit = (refl, record { sending = New 4; sent = refl; asks = (accepted (exited_at 2000) 1, (unit, refl, ((claimed, refl, refl), refl)), (reply.Done (record { 0 = 1 }) Exited None, (exited, refl, refl), refl, refl, refl)) })
+
+-- all states that are not final are told
+a_second_exit : gate (exited_at 3000) op.Exit 4 1 ≡ shuts (State (states_of (Created ∷ Ready ∷ Reserved ∷ InProgress ∷ SuspendedReady ∷ SuspendedReserved ∷ SuspendedInProgress ∷ [])) Exited)
+a_second_exit = refl
+
+-- a task that waits, and one that is suspended up to a moment
+no_moments : closed Obsolete (record claimed { waits = Some (record { 0 = 5 }); until = Some (record { 0 = 6 }) }) ≡ record exited { state = Obsolete }
+no_moments = refl
 
 -- ---- a sheet
 
@@ -168,4 +256,4 @@ its_model : (sheet_of (claimed_at 2000) claimed).model ≡ codes "unit"
 its_model = refl
 
 not_shown : Decides (claimed_at 2000) (Read (codes "root") (query.Sheet (record { 0 = 1 }))) None (reply_of (Refused (Role (needed op.Get)))) (claimed_at 2000)
-not_shown = (refl, (refl, refl, refl))
+not_shown = (refl, ((refl, refl), refl))

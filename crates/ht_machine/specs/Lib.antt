@@ -2,9 +2,11 @@ pub mod Activating
 pub mod Commands
 pub mod Deciding
 pub mod Examples
+pub mod Following
 pub mod Gate
 pub mod History
 pub mod Naming
+pub mod Once
 pub mod Planning
+pub mod Sending
 pub mod Sheets
-pub mod Starting

@@ -1,5 +1,5 @@
 -- That a plan makes what is decided.
-use Rattle.std.specs.Prelude.{◌≡◌, ◌≤◌, ℕ, List, Option, Some, None, Result, Ok, Err}
+use Rattle.std.specs.Prelude.{◌≡◌, ◌≤◌, ℕ, List, Option, Some, None, IfSome, Result, Ok, Err}
 use Rattle.ht_base.specs.declared.event.Command.{Command}
 use Rattle.ht_base.specs.declared.event.Event.{Event}
 use Rattle.ht_base.specs.declared.record.Record.{Record}
@@ -8,7 +8,10 @@ use Rattle.ht_base.specs.declared.reply.Answer.{Answer}
 use Rattle.ht_base.specs.declared.reply.Limit.TheVariants.{Tasks}
 use Rattle.ht_base.specs.declared.reply.Refusal.TheVariants as refusal
 use Rattle.ht_base.specs.declared.reply.Unknown.TheVariants as unknown
+use Rattle.ht_base.specs.declared.retry.Retry.{Retry}
 use Rattle.ht_base.specs.declared.task_id.TaskId.{TaskId}
+use Rattle.ht_base.specs.Events.{IsCommand, IsRetry, IsTaskOf}
+use Rattle.ht_base.specs.Moment.{last_moment}
 use Rattle.ht_owner.specs.declared.refusal.ActRefusal.{ActRefusal}
 use Rattle.ht_owner.specs.declared.refusal.ActRefusal.TheVariants as why
 use Rattle.ht_tree.specs.declared.creating.CreateRefusal.{CreateRefusal}
@@ -17,9 +20,11 @@ use Rattle.ht_tree.specs.declared.row.Row.{Row}
 use Rattle.ht_tree.specs.Plans.{Goes, IsPlanOf, IsPrepared, PlanOf, committed, planned}
 use Rattle.ht_tree.specs.Soundness.{IsSound, KeepsSound}
 use Rattle.ht_tree.specs.Tables.{RoomyTables, TablesOf, model_named, task_row}
+use Rattle.ht_machine.specs.declared.asking.Asked.{Asked as Ask}
 use Rattle.ht_machine.specs.declared.deciding.Decision.{Decision}
 use Rattle.ht_machine.specs.Commands.{Outcome, accepted, refused}
-use Rattle.ht_machine.specs.Deciding.{Asks, Decides, Leads}
+use Rattle.ht_machine.specs.declared.sending.Sending.TheVariants.{New}
+use Rattle.ht_machine.specs.Deciding.{Asks, AsksAs, Decides, Leads}
 
 -- ---- commands
 
@@ -53,9 +58,20 @@ refusal_of create.TaskLimit = why.Refused (refusal.Limit Tasks)
 
 -- ---- decisions
 
+-- a command as it is asked is valid
+pub record IsAsked (a : Ask) : Type 0 where
+  pub within : a.at.0 ≤ last_moment
+  pub retry : IfSome a.retry IsRetry
+  pub task : IsTaskOf a.command.now a.task
+  pub command : IsCommand a.command.now
+
+-- as what it is kept
+abbrev pub record_of : Ask → Record
+record_of a = Asked a.at a.caller a.retry a.task a.command.now
+
 -- the moment of a record
 abbrev pub moment_of : Record → ℕ
-moment_of (Asked at caller task command) = at.0
+moment_of (Asked at caller retry task command) = at.0
 
 -- the last moment rises exactly where a record is kept
 abbrev pub last_after : TablesOf → Option Record → ℕ
@@ -76,9 +92,15 @@ pub record Plans (t : TablesOf) (p : PlanOf) (e : Event) (left : Option Record) 
   pub leaves : Leaves t p left after
 
 -- and of a command at a moment
-pub record PlansAsk (t : TablesOf) (p : PlanOf) (moment : ℕ) (caller : List ℕ) (task : TaskId) (command : Command) (left : Option Record) (answer : Answer) : Type 0 where
+pub record PlansAsk (t : TablesOf) (p : PlanOf) (moment : ℕ) (caller : List ℕ) (retry : Option Retry) (task : TaskId) (command : Command) (left : Option Record) (answer : Answer) : Type 0 where
   pub after : TablesOf
-  pub asks : Asks t moment caller task command left answer after
+  pub asks : Asks t moment caller retry task command left answer after
+  pub leaves : Leaves t p left after
+
+-- a new one of a person, which is kept as this record
+pub record PlansNew (t : TablesOf) (p : PlanOf) (moment person : ℕ) (retry : Option Retry) (task : TaskId) (command : Command) (asked : Record) (left : Option Record) (answer : Answer) : Type 0 where
+  pub after : TablesOf
+  pub asks : AsksAs t moment retry task command asked (New person) left answer after
   pub leaves : Leaves t p left after
 
 -- what is decided of an event, on tables that are prepared for its plan

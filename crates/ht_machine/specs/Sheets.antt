@@ -4,7 +4,7 @@ use Rattle.std.specs.Prelude.{ℕ, List, [], option_map, unwrap_or}
 use Rattle.ht_base.specs.declared.sheet.Sheet.{Sheet}
 use Rattle.ht_tree.specs.declared.row.Row.{Row}
 use Rattle.ht_tree.specs.Tables.{TablesOf, administrators_of, directory, excluded_owners_of, model_of, potential_owners_of, stakeholders_of}
-use Rattle.ht_machine.specs.Naming.{name_of, name_or_none, names_of, parts_of}
+use Rattle.ht_machine.specs.Naming.{comments_of, name_of, name_or_none, names_of, parts_of}
 
 abbrev pub model_name : TablesOf → Row → List ℕ
 model_name t row = unwrap_or (option_map (λ m. m.name) (model_of t row)) []
@@ -13,6 +13,7 @@ abbrev pub sheet_of : TablesOf → Row → Sheet
 sheet_of t row = record {
   administrators = names_of (directory t) (administrators_of t row);
   by_group = row.by_group;
+  comments = comments_of (directory t) row.comments;
   created = row.created;
   excluded_owners = names_of (directory t) (excluded_owners_of t row);
   fault = row.fault;

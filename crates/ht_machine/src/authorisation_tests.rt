@@ -27,12 +27,13 @@ name = \"other\"
 const MODELS: &str = "\
 [[model]]
 name = \"m\"
+skipable = true
 administrators = \"user('administrator')\"
 stakeholders = \"user('stakeholder')\"
 ";
 
 // In each line a state stands before the commands that lead to it.
-const STATES: [(State, &str); 4] = [
+const STATES: [(State, &str); 12] = [
     (
         State::Created,
         "initiator create;administrator potentialOwners potentialOwner other",
@@ -49,6 +50,38 @@ const STATES: [(State, &str); 4] = [
         State::InProgress,
         "initiator create;administrator nominate actualOwner;actualOwner start;administrator potentialOwners potentialOwner",
     ),
+    (
+        State::SuspendedReady,
+        "initiator create;administrator nominate potentialOwner other;administrator suspend",
+    ),
+    (
+        State::SuspendedReserved,
+        "initiator create;administrator nominate actualOwner;administrator potentialOwners potentialOwner;administrator suspend",
+    ),
+    (
+        State::SuspendedInProgress,
+        "initiator create;administrator nominate actualOwner;actualOwner start;administrator potentialOwners potentialOwner;administrator suspend",
+    ),
+    (
+        State::Completed,
+        "initiator create;administrator nominate actualOwner;actualOwner start;administrator potentialOwners potentialOwner;actualOwner complete",
+    ),
+    (
+        State::Failed,
+        "initiator create;administrator nominate actualOwner;actualOwner start;administrator potentialOwners potentialOwner;actualOwner fail",
+    ),
+    (
+        State::Error,
+        "initiator create;administrator potentialOwners potentialOwner other;operator error",
+    ),
+    (
+        State::Exited,
+        "initiator create;administrator potentialOwners potentialOwner other;operator exit",
+    ),
+    (
+        State::Obsolete,
+        "initiator create;administrator potentialOwners potentialOwner other;initiator skip",
+    ),
 ];
 
 // In each line an operation, with what is given to it, stands before who may do it in which states.
@@ -62,9 +95,19 @@ forward other: potentialOwner=Ready actualOwner=Reserved,InProgress stakeholder=
 nominate other: stakeholder=Created administrator=Created
 activate: stakeholder=Created administrator=Created
 potentialOwners other: stakeholder=* administrator=*
-setPriority 3: actualOwner=Reserved,InProgress,SuspendedReserved,SuspendedInProgress stakeholder=* administrator=*";
+setPriority 3: actualOwner=Reserved,InProgress,SuspendedReserved,SuspendedInProgress stakeholder=* administrator=*
+suspend: potentialOwner=Ready actualOwner=Reserved,InProgress stakeholder=Ready,Reserved,InProgress administrator=Ready,Reserved,InProgress
+resume: potentialOwner=SuspendedReady actualOwner=SuspendedReserved,SuspendedInProgress stakeholder=SuspendedReady,SuspendedReserved,SuspendedInProgress administrator=SuspendedReady,SuspendedReserved,SuspendedInProgress
+setOutput vote=yes: actualOwner=InProgress
+complete: actualOwner=InProgress
+fail: actualOwner=InProgress
+skip: initiator=Created,Ready,Reserved,InProgress actualOwner=Created,Ready,Reserved,InProgress stakeholder=Created,Ready,Reserved,InProgress administrator=Created,Ready,Reserved,InProgress
+exit: operator=*
+error: operator=*
+addComment why: initiator=+ stakeholder=+ potentialOwner=+ actualOwner=+ administrator=+
+get: initiator=+ stakeholder=+ potentialOwner=+ actualOwner=+ administrator=+";
 
-// The live states, for which `*` stands.
+// The live states, for which `*` stands. `+` stands for every state.
 const LIVE: &str =
     "Created,Ready,Reserved,InProgress,SuspendedReady,SuspendedReserved,SuspendedInProgress";
 
@@ -88,6 +131,12 @@ fn state_named(name: &str) -> Option<State> {
 
 fn states_of(names: &str) -> Result<StateSet, Fail> {
     let mut states = StateSet::NONE;
+    if names == "+" {
+        for state in State::ALL {
+            states = states.with(state);
+        }
+        return Ok(states);
+    }
     let names = if names == "*" { LIVE } else { names };
     for name in names.split(',') {
         states = states.with(state_named(name).ok_or("a state")?);
@@ -107,9 +156,7 @@ fn refusal_of(allowed: &str, role: Role, state: State) -> Result<Option<Refusal>
             states = states_of(names)?;
         }
     }
-    // A created or a ready task has no actual owner.
-    let is_owned = state == State::Reserved || state == State::InProgress;
-    if !needs.contains(role) || (role == Role::ActualOwner && !is_owned) {
+    if !needs.contains(role) || (role == Role::ActualOwner && !is_owned(state)) {
         return Ok(Some(Refusal::Role { needs }));
     }
     if states.contains(state) {
@@ -119,6 +166,15 @@ fn refusal_of(allowed: &str, role: Role, state: State) -> Result<Option<Refusal>
         allowed: states,
         state,
     }))
+}
+
+// Whether a task has an actual owner in this state.
+fn is_owned(state: State) -> bool {
+    match state {
+        State::Reserved | State::InProgress => true,
+        State::SuspendedReserved | State::SuspendedInProgress => true,
+        _ => false,
+    }
 }
 
 // Tables with a task to which these commands lead.

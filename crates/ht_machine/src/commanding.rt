@@ -7,8 +7,8 @@ ghost use Rattle.ht_tree.specs.Plans.{IsPlanOf, planned};
 ghost use Rattle.ht_tree.specs.Soundness.{IsSound};
 
 use crate::creating::create;
+use crate::following::follow;
 use crate::gating::refusal_at_gate;
-use crate::starting::begin;
 use ht_base::{Command, Moment, Person, TaskId};
 use ht_owner::{ActRefusal, Follow, act};
 use ht_tree::{Plan, Tables};
@@ -39,7 +39,7 @@ pub(crate) fn command(
     }
 }
 
-// Plans a command on a task: what it makes of the task, and what follows on others.
+// Plans a command on a task: what it makes of the task, and what follows.
 fn act_on(
     alloc: Global,
     tables: &Tables,
@@ -54,15 +54,15 @@ fn act_on(
     requires caller { caller < length tables.now.tables.people.persons }
     requires at { at.0 ≤ last_moment }
     requires command { IsCommand command.now }
-    ensures { Tries tables.now.tables plan.old plan.new (ActsOn (planned tables.now.tables plan.old) caller task.0 command.now) result }
+    ensures { Tries tables.now.tables plan.old plan.new (ActsOn (planned tables.now.tables plan.old) caller at.0 task.0 command.now) result }
 {
     if let Some(refusal) = refusal_at_gate(tables, plan, caller, task, command.op()) {
         return Err(ActRefusal::Refused(refusal));
     }
     match act(alloc, tables, plan, task, caller, command, at)? {
         Follow::Nothing => Ok(task),
-        Follow::Began => {
-            begin(alloc, tables, plan, task)?;
+        next => {
+            follow(alloc, tables, plan, task, next)?;
             Ok(task)
         }
     }

@@ -1,7 +1,8 @@
-ghost use Rattle.std.specs.Prelude.{◌≡◌, ℕ, List, true, IfOk};
-ghost use Rattle.ht_base.specs.Events.{IsValid, is_short};
+ghost use Rattle.std.specs.Prelude.{◌≡◌, ◌≤◌, ℕ, List, length, true, IfOk};
+ghost use Rattle.ht_base.specs.Events.{AreGiven, IsValid, is_short};
 
-use crate::operation_tests::{asked, told};
+use crate::answers_in_words::told;
+use crate::operation_tests::{answer, asked};
 use crate::run_one;
 use crate::tests::{create, done_of, refusal_of, sheet_for};
 use ht_base::{Command, Event, Name, Names, Parts, Refusal, Scalar, Txt, Unknown};
@@ -207,15 +208,32 @@ fn scalar_of(alloc: Global, kind: &str, value: &str) -> Result<Scalar, Fail>
     }
 }
 
+// One part.
+pub(crate) fn parts_with(alloc: Global, name: &str, kind: &str, value: &str) -> Result<Parts, Fail>
+    ensures { IfOk result (λ parts. AreGiven parts × (1 ≤ length parts)) }
+{
+    let mut parts = Parts::new(alloc);
+    let name = Name::of(name.as_bytes()).ok_or("a name")?;
+    parts.push(name, scalar_of(alloc, kind, value)?)?;
+    Ok(parts)
+}
+
 // A create of dan's of the first model, to which one part is given.
 fn create_with(alloc: Global, name: &str, kind: &str, value: &str) -> Result<Event, Fail>
     ensures { IfOk result IsValid }
 {
-    let mut input = Parts::new(alloc);
-    let name = Name::of(name.as_bytes()).ok_or("a name")?;
-    input.push(name, scalar_of(alloc, kind, value)?)?;
+    let input = parts_with(alloc, name, kind, value)?;
     let caller = Name::of(b"dan").ok_or("a name")?;
     Ok(asked(caller, Command::Create { model: None, input }))
+}
+
+// An output of anna's, of which one part is given.
+fn output_with(alloc: Global, name: &str, kind: &str, value: &str) -> Result<Event, Fail>
+    ensures { IfOk result IsValid }
+{
+    let output = parts_with(alloc, name, kind, value)?;
+    let caller = Name::of(b"anna").ok_or("a name")?;
+    Ok(asked(caller, Command::SetOutput { output }))
 }
 
 const KINDS: &str = "\
@@ -249,9 +267,10 @@ i text 2027-01-01T00:00:00Z => PartRefused i
 z int 7 => PartRefused z";
 
 // Each part with its value, as a sheet shows it.
-fn shown(alloc: Global, parts: &Parts) -> Result<String, Fail> {
+pub(crate) fn shown_parts(alloc: Global, parts: &Parts) -> Result<String, Fail> {
     let mut text = String::new(alloc);
     for (name, scalar) in parts.as_slice() {
+        text.push_str(" ")?;
         text.push_str(name.as_str())?;
         text.push_str(" ")?;
         match scalar {
@@ -279,11 +298,85 @@ fn inputs_are_of_their_kinds(rt: HostRuntime) -> Result<(), Fail> {
         assert_eq!(rt; found.as_str(), want, "{line}");
         if want == " Created" {
             let sheet = sheet_for(rt.alloc(), &mut tables, "dan")?;
-            let input = shown(rt.alloc(), &sheet.input)?;
-            let given = format!(in rt.alloc(); "{part} {value}.")?;
+            let input = shown_parts(rt.alloc(), &sheet.input)?;
+            let given = format!(in rt.alloc(); " {part} {value}.")?;
             assert_eq!(rt; input.as_str(), given.as_str(), "{line}");
             assert!(rt; sheet.output.as_slice().is_empty(), "{line}");
         }
+    }
+    Ok(())
+}
+
+// A task of anna's with an output part of each kind, and an input part.
+const OUTPUT_KINDS: &str = "\
+[[model]]
+name = \"m\"
+potentialOwners = \"user('anna')\"
+input = [{name = \"z\", kind = \"int\", optional = true}]
+output = [{name = \"t\", kind = \"text\"}, {name = \"n\", kind = \"int\"}, {name = \"b\", kind = \"bool\"}, {name = \"p\", kind = \"person\"}, {name = \"i\", kind = \"instant\"}]
+";
+
+fn is_answered_so(
+    alloc: Global,
+    tables: &mut Tables,
+    event: &Event,
+    want: &str,
+) -> Result<bool, Fail>
+    requires { IsValid event.now }
+{
+    let reply = run_one(alloc, tables, event)?;
+    let found = told(alloc, &reply.answer)?;
+    Ok(found.as_str() == want)
+}
+
+// Tables with a task that anna has started.
+fn started(alloc: Global) -> Result<Tables, Fail> {
+    let mut tables = tables_of(alloc, OUTPUT_KINDS)?;
+    answer(alloc, &mut tables, "dan", "create m")?;
+    answer(alloc, &mut tables, "anna", "start")?;
+    Ok(tables)
+}
+
+// Whether the sheet shows this output, and no input.
+fn is_shown(alloc: Global, tables: &mut Tables, output: &str) -> Result<bool, Fail> {
+    let sheet = sheet_for(alloc, tables, "dan")?;
+    let shown = shown_parts(alloc, &sheet.output)?;
+    Ok(shown.as_str() == output && sheet.input.as_slice().is_empty())
+}
+
+// Whether a part, its kind and its value are answered so twice, and this output is shown then.
+fn is_put_twice(alloc: Global, given: &str, want: &str, output: &str) -> Result<bool, Fail> {
+    let (part, value) = given.split_once(" ").ok_or("a part and a value")?;
+    let (kind, value) = value.split_once(" ").ok_or("a kind and a value")?;
+    let event = output_with(alloc, part, kind, value)?;
+    let mut tables = started(alloc)?;
+    Ok(
+        is_answered_so(alloc, &mut tables, &event, want)?
+            && is_answered_so(alloc, &mut tables, &event, want)?
+            && is_shown(alloc, &mut tables, output)?,
+    )
+}
+
+// A part and its value, as the sheet shows them, of a part, its kind and its value.
+fn part_shown(alloc: Global, given: &str) -> Result<String, Fail> {
+    let (part, value) = given.split_once(" ").ok_or("a part and a value")?;
+    let (_, value) = value.split_once(" ").ok_or("a kind and a value")?;
+    Ok(format!(in alloc; " {part} {value}.")?)
+}
+
+// What stands in each line is given for a part of the output as it was for one of the input, and then
+// once more: it is the only part that the sheet shows.
+#[test]
+fn outputs_are_of_their_kinds(rt: HostRuntime) -> Result<(), Fail> {
+    for line in INPUTS.lines() {
+        let (given, want) = line.split_once(" =>").ok_or("a part, and an answer")?;
+        let is_as_wanted = if want == " Created" {
+            let shown = part_shown(rt.alloc(), given)?;
+            is_put_twice(rt.alloc(), given, " InProgress anna", shown.as_str())?
+        } else {
+            is_put_twice(rt.alloc(), given, want, "")?
+        };
+        assert!(rt; is_as_wanted, "{line}");
     }
     Ok(())
 }

@@ -1,17 +1,14 @@
-ghost use Rattle.std.specs.Prelude.{◌≡◌, ◌≤◌, IfOk, MatchResult, OnErr};
-ghost use Rattle.ht_base.specs.Events.{IsCommand, IsValid};
-ghost use Rattle.ht_base.specs.Moment.{last_moment};
+ghost use Rattle.std.specs.Prelude.{◌≡◌, IfOk, MatchResult, OnErr};
+ghost use Rattle.ht_base.specs.Events.{IsValid};
 ghost use Rattle.ht_machine.specs.History.{IsStep, memory_reply};
+ghost use Rattle.ht_machine.specs.Once.{ActsOnce};
 ghost use Rattle.ht_machine.specs.Planning as spec;
-ghost use Rattle.ht_machine.specs.Planning.{IsDecided, PlansAsk, Plans};
-ghost use Rattle.ht_tree.specs.Plans.{no_plan};
-ghost use Rattle.ht_tree.specs.Soundness.{IsSound};
+ghost use Rattle.ht_machine.specs.Planning.{IsDecided, Plans};
+ghost use Rattle.ht_tree.specs.Plans.{committed, no_plan};
 
-use crate::answering::done;
-use crate::commanding::command;
+use crate::asking::{Asked, ask};
 use crate::reading::read;
-use ht_base::{Answer, Command, Event, Memory, Moment, Name, Record, Refusal, Reply, TaskId};
-use ht_owner::ActRefusal;
+use ht_base::{Answer, Event, Memory, Moment, Record, Reply};
 use ht_tree::{Plan, Tables};
 use std::alloc::Global;
 
@@ -29,6 +26,7 @@ pub fn decide(alloc: Global, tables: &mut Tables, event: &Event) -> Result<Decis
     requires { IsValid event.now }
     ensures tables { tables.new.tables ≡ tables.old.tables }
     ensures decides { IfOk result (IsDecided tables.new event.now) }
+    ensures once { IfOk result (λ d. ActsOnce tables.new.tables event.now d.left d.reply.answer (committed tables.new.tables d.plan (spec.last_after tables.new.tables d.left))) }
 {
     let mut plan = Plan::begin(alloc)?;
     let (left, answer) = plan_event(alloc, tables, &mut plan, event)?;
@@ -75,51 +73,22 @@ fn plan_event(
         Event::Ask {
             at,
             caller,
+            retry,
             task,
             command,
         } => {
-            let moment = last.max(*at);
-            ask(alloc, tables, plan, moment, *caller, *task, command)
+            let asked = Asked {
+                at: last.max(*at),
+                caller: *caller,
+                retry: *retry,
+                task: *task,
+                command,
+            };
+            ask(alloc, tables, plan, &asked)
         }
         Event::Read { caller, query } => {
             let answer = read(alloc, tables, *caller, query)?;
             Ok((None, answer))
         }
-    }
-}
-
-// Plans a command of a caller, who must be a person, at the moment at which it acts.
-fn ask(
-    alloc: Global,
-    tables: &Tables,
-    plan: &mut Plan,
-    at: Moment,
-    caller: Name,
-    task: TaskId,
-    asked: &Command,
-) -> Result<(Option<Record>, Answer), Memory>
-    requires sound { IsSound tables.now.tables }
-    requires within { at.0 ≤ last_moment }
-    requires later { tables.now.tables.last ≤ at.0 }
-    requires plan { plan.old ≡ no_plan }
-    requires asked { IsCommand asked.now }
-    ensures { IfOk result (λ r. PlansAsk tables.now.tables plan.new at.0 caller task asked.now r.0 r.1) }
-{
-    let Some(person) = tables.people().find(caller) else {
-        return Ok((None, Answer::Refused(Refusal::Person)));
-    };
-    match command(alloc, tables, plan, person, at, task, asked) {
-        Ok(about) => {
-            let command = asked.copy(alloc)?;
-            let left = Record::Asked {
-                at,
-                caller,
-                task,
-                command,
-            };
-            Ok((Some(left), done(tables, plan, about)))
-        }
-        Err(ActRefusal::Refused(refusal)) => Ok((None, Answer::Refused(refusal))),
-        Err(ActRefusal::Memory) => Err(Memory),
     }
 }

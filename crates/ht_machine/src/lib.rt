@@ -5,22 +5,30 @@
 mod activating;
 mod answering;
 #[cfg(test)]
+mod answers_in_words;
+mod asking;
+#[cfg(test)]
 mod authorisation_tests;
 mod commanding;
+#[cfg(test)]
+mod comment_tests;
 mod creating;
 #[cfg(test)]
 mod creating_tests;
 mod deciding;
+mod following;
 mod gating;
 mod laws;
 mod naming;
 #[cfg(test)]
 mod operation_tests;
 mod reading;
+mod sending;
+#[cfg(test)]
+mod sending_tests;
 mod sheets;
-mod starting;
 #[cfg(test)]
 mod tests;
 
 pub use deciding::{Decision, decide, run_one};
-pub use laws::one_outcome;
+pub use laws::{a_command_acts_once, one_outcome};

@@ -1,11 +1,17 @@
-ghost use Rattle.std.specs.Prelude.{◌≡◌, ◌<◌, true, IfOk, IfSome, length};
+ghost use Rattle.std.specs.Prelude.{◌≡◌, ◌<◌, true, IfOk, IfSome, IsSome, length};
+ghost use Rattle.std.specs.List.{All};
 ghost use Rattle.ht_base.specs.Persons.{AllBelow};
 ghost use Rattle.ht_machine.specs.Naming as spec;
 ghost use Rattle.ht_machine.specs.Naming.{AreShown};
+ghost use Rattle.ht_people.specs.Directory.{find};
 ghost use Rattle.ht_tree.specs.Soundness.{is_known, is_timely};
 
-use ht_base::{Memory, Name, Names, Parts, Person, Persons, Scalar, Txt, Value, Values};
+use ht_base::{
+    Memory, Name, Names, Parts, Person, Persons, Scalar, ShownComment, ShownComments, Txt, Value,
+    Values,
+};
 use ht_people::Directory;
+use ht_tree::{Comment, Comments};
 use std::alloc::Global;
 
 /// The names of persons.
@@ -27,12 +33,46 @@ pub(crate) fn names_of(
 /// The name of a person, if there is one.
 pub(crate) fn name_or_none(people: &Directory, person: Option<Person>) -> Option<Name>
     requires { IfSome person (λ p. p < length people.now.persons) }
-    ensures { result ≡ spec.name_or_none people.now person }
+    ensures name { result ≡ spec.name_or_none people.now person }
+    ensures known { IfSome result (λ name. IsSome (find name people.now)) }
 {
     match person {
         Some(person) => Some(people.name(person)),
         None => None,
     }
+}
+
+/// The comments on a task, with the names of the persons.
+pub(crate) fn comments_of(
+    alloc: Global,
+    people: &Directory,
+    comments: &Comments,
+) -> Result<ShownComments, Memory>
+    requires { All (λ c. c.person < length people.now.persons) comments.now }
+    ensures { IfOk result (λ shown. shown ≡ spec.comments_of people.now comments.now) }
+{
+    let mut shown = ShownComments::new(alloc);
+    for place in 0..comments.count() {
+        if let Some(comment) = comments.get(place) {
+            shown.push(shown_comment(alloc, people, comment)?)?;
+        }
+    }
+    Ok(shown)
+}
+
+fn shown_comment(
+    alloc: Global,
+    people: &Directory,
+    comment: &Comment,
+) -> Result<ShownComment, Memory>
+    requires { comment.now.person < length people.now.persons }
+    ensures { IfOk result (λ shown. shown ≡ spec.shown_comment people.now comment.now) }
+{
+    Ok(ShownComment {
+        moment: comment.moment,
+        person: people.name(comment.person),
+        text: comment.text.copy(alloc)?,
+    })
 }
 
 /// The values of parts as they are given: persons by name, and instants in milliseconds.

@@ -1,12 +1,11 @@
 ghost use Rattle.std.specs.Prelude.{◌≤◌, IfOk, length};
-ghost use Rattle.ht_base.specs.Events.{AreNames, IsCommand, IsValid};
+ghost use Rattle.ht_base.specs.Events.{AreGiven, AreNames, IsCommand, IsValid};
 
-use crate::creating_tests::text_of;
+use crate::answers_in_words::{shown, told};
+use crate::creating_tests::parts_with;
 use crate::run_one;
-use crate::tests::sheet_for;
 use ht_base::{
-    Answer, Command, Event, Moment, Name, Names, Parts, Refusal, RoleList, TaskId, Unknown,
-    name_places,
+    Answer, Command, Event, Moment, Name, Names, Parts, Query, RoleList, TaskId, Txt, name_places,
 };
 use ht_models::Models;
 use ht_people::Directory;
@@ -36,6 +35,11 @@ name = \"kept\"
 potentialOwners = \"union(user('anna'), user('ben'))\"
 excludedOwners = \"union(user('cora'), user('root'))\"
 administrators = \"user('cora')\"
+[[model]]
+name = \"two\"
+potentialOwners = \"user('anna')\"
+input = [{name = \"c\", kind = \"text\", optional = true}]
+output = [{name = \"b\", kind = \"text\"}, {name = \"a\", kind = \"text\"}]
 ";
 
 fn tables(alloc: Global) -> Result<Tables, Fail> {
@@ -76,6 +80,40 @@ fn all_names(alloc: Global, names: Names) -> Result<Names, Fail>
     }
 }
 
+// A part with a text, as NAME=TEXT.
+fn part_of(alloc: Global, given: &str) -> Result<Parts, Fail>
+    ensures { IfOk result (λ parts. AreGiven parts × (1 ≤ length parts)) }
+{
+    let (name, text) = given.split_once("=").ok_or("a part and its text")?;
+    parts_with(alloc, name, "text", text)
+}
+
+// One, or none.
+fn parts_of(alloc: Global, given: &str) -> Result<Parts, Fail>
+    ensures { IfOk result AreGiven }
+{
+    if given.is_empty() {
+        return no_parts(alloc);
+    }
+    part_of(alloc, given)
+}
+
+fn no_parts(alloc: Global) -> Result<Parts, Fail>
+    ensures { IfOk result AreGiven }
+{
+    Ok(Parts::new(alloc))
+}
+
+fn comment_of(alloc: Global, given: &str) -> Result<Txt, Fail>
+    ensures { IfOk result (λ text. (1 ≤ length text) × (length text ≤ 512)) }
+{
+    let length = given.len();
+    if length == 0 || length > 512 {
+        return Err(Fail::from("no comment, or too long a one"));
+    }
+    Ok(Txt::of(alloc, given)?)
+}
+
 fn priority_of(word: &str) -> Result<u8, Fail>
     ensures { IfOk result (λ priority. priority ≤ 10) }
 {
@@ -97,7 +135,7 @@ fn list_named(name: &str) -> Option<RoleList> {
 }
 
 // The command of an operation and what is given to it.
-fn command_of(alloc: Global, op: &str, given: &str) -> Result<Command, Fail>
+pub(crate) fn command_of(alloc: Global, op: &str, given: &str) -> Result<Command, Fail>
     ensures { IfOk result IsCommand }
 {
     Ok(match op {
@@ -122,92 +160,28 @@ fn command_of(alloc: Global, op: &str, given: &str) -> Result<Command, Fail>
         "setPriority" => Command::SetPriority {
             priority: priority_of(given)?,
         },
+        "suspend" => Command::Suspend,
+        "resume" => Command::Resume,
+        "setOutput" => Command::SetOutput {
+            output: part_of(alloc, given)?,
+        },
+        "complete" => Command::Complete {
+            output: parts_of(alloc, given)?,
+        },
+        "fail" => Command::Fail {
+            fault: Name::of(given.as_bytes()),
+        },
+        "skip" => Command::Skip,
+        "exit" => Command::Exit,
+        "error" => Command::Error,
+        "addComment" => Command::AddComment {
+            text: comment_of(alloc, given)?,
+        },
         list => Command::SetRole {
             role: list_named(list).ok_or("an operation")?,
             persons: names_of(alloc, given)?,
         },
     })
-}
-
-fn push_word(text: &mut String, word: &str) -> Result<(), Fail> {
-    text.push_str(" ")?;
-    text.push_str(word)?;
-    Ok(())
-}
-
-fn push_name(text: &mut String, name: &Name) -> Result<(), Fail> {
-    push_word(text, std::str::from_utf8(name.as_bytes())?)
-}
-
-// What is answered, in words.
-pub(crate) fn told(alloc: Global, answer: &Answer) -> Result<String, Fail> {
-    let mut text = String::new(alloc);
-    match answer {
-        Answer::Done { state, owner, .. } => {
-            push_word(&mut text, state.name())?;
-            if let Some(owner) = owner {
-                push_name(&mut text, owner)?;
-            }
-        }
-        Answer::Sheet(_) => push_word(&mut text, "Sheet")?,
-        Answer::Refused(refusal) => push_refusal(&mut text, refusal)?,
-    }
-    Ok(text)
-}
-
-fn push_refusal(text: &mut String, refusal: &Refusal) -> Result<(), Fail> {
-    match refusal {
-        Refusal::Head | Refusal::Fields | Refusal::Coding | Refusal::Body => {
-            push_word(text, "bytes")
-        }
-        Refusal::Route | Refusal::Method | Refusal::Json | Refusal::Field(_) => {
-            push_word(text, "request")
-        }
-        Refusal::Person => push_word(text, "Person"),
-        Refusal::Task(_) => push_word(text, "Task"),
-        Refusal::Role { .. } => push_word(text, "Role"),
-        Refusal::State { .. } => push_word(text, "State"),
-        Refusal::Unknown(Unknown::Model(name)) => {
-            push_word(text, "Unknown")?;
-            push_name(text, name)
-        }
-        Refusal::Unknown(Unknown::Person(name)) => {
-            push_word(text, "Unknown")?;
-            push_name(text, name)
-        }
-        Refusal::PartRefused(name) => {
-            push_word(text, "PartRefused")?;
-            push_name(text, name)
-        }
-        Refusal::Ownerless => push_word(text, "Ownerless"),
-        Refusal::ByGroup => push_word(text, "ByGroup"),
-        Refusal::Excluded(name) => {
-            push_word(text, "Excluded")?;
-            push_name(text, name)
-        }
-        Refusal::NotDelegatee(name) => {
-            push_word(text, "NotDelegatee")?;
-            push_name(text, name)
-        }
-        Refusal::NoOwners => push_word(text, "NoOwners"),
-        Refusal::Limit(_) => push_word(text, "Limit"),
-        Refusal::Memory => push_word(text, "Memory"),
-    }
-}
-
-// What a key of the sheet of the task shows.
-fn shown(alloc: Global, tables: &mut Tables, key: &str) -> Result<String, Fail> {
-    let sheet = sheet_for(alloc, tables, "dan")?;
-    match key {
-        "potentialOwners" => text_of(alloc, &sheet.potential_owners),
-        "excludedOwners" => text_of(alloc, &sheet.excluded_owners),
-        "administrators" => text_of(alloc, &sheet.administrators),
-        "stakeholders" => text_of(alloc, &sheet.stakeholders),
-        "priority" => Ok(format!(in alloc; " {}", sheet.priority)?),
-        "started" => Ok(format!(in alloc; " {}", sheet.started)?),
-        "byGroup" => Ok(format!(in alloc; " {}", sheet.by_group)?),
-        _ => Err(Fail::from("no such key")),
-    }
 }
 
 // A script of an office: an empty line begins one anew. `show` shows a key of the sheet of task 1; the
@@ -314,7 +288,82 @@ cora setPriority 10 => Ready
 show priority => 10
 anna setPriority 1 => Role
 anna stop => Role
-anna release => Role";
+anna release => Role
+
+dan create unit => Ready
+anna claim => Reserved anna
+anna suspend => SuspendedReserved anna
+anna suspend => State
+anna start => State
+anna resume => Reserved anna
+anna start => InProgress anna
+cora suspend => SuspendedInProgress anna
+ben resume => State
+anna resume => InProgress anna
+show started => true
+
+dan create unit => Ready
+ben suspend => SuspendedReady
+ben claim => State
+cora resume => Ready
+
+dan create ballot => Ready
+dan skip => NotSkipable
+anna start => InProgress anna
+anna complete => NoOutput vote
+anna setOutput vote=no => InProgress anna
+show output => vote no.
+ben setOutput vote=yes => Role
+anna setOutput vote=yes => InProgress anna
+show output => vote yes.
+anna complete => Completed
+show output => vote yes.
+show lastOwner => anna
+show fault =>
+anna complete => Role
+root exit => State
+anna addComment well => Completed
+dan addComment done => Completed
+show comments => anna well dan done
+
+dan create two => Reserved anna
+anna start => InProgress anna
+anna complete => NoOutput b
+anna complete b=yes => NoOutput a
+show output =>
+anna complete c=yes => PartRefused c
+anna setOutput c=yes => PartRefused c
+anna setOutput a=yes => InProgress anna
+anna complete b=no => Completed
+show output => a yes. b no.
+
+dan create unit => Ready
+anna skip => Role
+anna claim => Reserved anna
+dan skip => Obsolete
+show lastOwner => anna
+dan skip => State
+cora setPriority 3 => State
+
+dan create solo => Reserved anna
+anna fail torn => State
+anna start => InProgress anna
+anna fail torn => Failed
+show fault => torn
+show lastOwner => anna
+
+dan create solo => Reserved anna
+anna start => InProgress anna
+anna fail => Failed
+show fault =>
+
+dan create shut => Created
+cora suspend => State
+cora exit => Role
+root error => Error
+show lastOwner =>
+root addComment why => Role
+eve addComment why => Person";
 
 #[test]
 fn the_script_is_answered(rt: HostRuntime) -> Result<(), Fail> {
@@ -336,7 +385,8 @@ fn the_script_is_answered(rt: HostRuntime) -> Result<(), Fail> {
     Ok(())
 }
 
-// What is answered to a command on task 1, or to a create: an operation, and what is given to it.
+// What is answered to a command on task 1, to a create, or to who asks for the sheet: an operation, and
+// what is given to it.
 pub(crate) fn answer(
     alloc: Global,
     tables: &mut Tables,
@@ -345,6 +395,13 @@ pub(crate) fn answer(
 ) -> Result<Answer, Fail> {
     let (op, given) = what.split_once(" ").unwrap_or((what, ""));
     let caller = Name::of(who.as_bytes()).ok_or("a name")?;
+    if op == "get" {
+        let event = Event::Read {
+            caller,
+            query: Query::Sheet(TaskId(1)),
+        };
+        return Ok(run_one(alloc, tables, &event)?.answer);
+    }
     let event = asked(caller, command_of(alloc, op, given)?);
     Ok(run_one(alloc, tables, &event)?.answer)
 }
@@ -361,6 +418,7 @@ pub(crate) fn asked(caller: Name, command: Command) -> Event
     Event::Ask {
         at: Moment(1000),
         caller,
+        retry: None,
         task,
         command,
     }

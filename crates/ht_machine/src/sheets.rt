@@ -2,7 +2,7 @@ ghost use Rattle.std.specs.Prelude.{◌≡◌, IfOk};
 ghost use Rattle.ht_machine.specs.Sheets as spec;
 ghost use Rattle.ht_tree.specs.Soundness.{IsSoundRow};
 
-use crate::naming::{name_or_none, names_of, parts_of};
+use crate::naming::{comments_of, name_or_none, names_of, parts_of};
 use ht_base::{Memory, Sheet};
 use ht_tree::{Row, Tables};
 use std::alloc::Global;
@@ -21,6 +21,7 @@ pub(crate) fn sheet(alloc: Global, tables: &Tables, row: &Row) -> Result<Sheet, 
     Ok(Sheet {
         administrators: names_of(alloc, people, &row.administrators)?,
         by_group: row.by_group,
+        comments: comments_of(alloc, people, &row.comments)?,
         created: row.created,
         excluded_owners: names_of(alloc, people, &row.excluded_owners)?,
         fault: row.fault,

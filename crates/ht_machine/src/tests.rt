@@ -34,6 +34,7 @@ pub(crate) fn create(alloc: Global, caller: &str, at: u64, model: &str) -> Optio
     Some(Event::Ask {
         at: Moment(at),
         caller,
+        retry: None,
         task: TaskId(0),
         command: Command::Create {
             model,
@@ -52,6 +53,7 @@ fn claim(caller: &str, at: u64) -> Option<Event>
     Some(Event::Ask {
         at: Moment(at),
         caller,
+        retry: None,
         task: TaskId(1),
         command: Command::Claim,
     })
@@ -264,23 +266,36 @@ fn a_claimed_task_is_shown_to_its_people(rt: HostRuntime) -> Result<(), Fail> {
     Ok(())
 }
 
+// What a create of this model does: the task, its state and its owner, where it is accepted.
+fn created(
+    alloc: Global,
+    tables: &mut Tables,
+    model: &str,
+) -> Result<Option<(TaskId, State, Option<Name>)>, Fail> {
+    let event = create(alloc, "dan", 1000, model).ok_or("an event")?;
+    Ok(done_of(&run_one(alloc, tables, &event)?.answer))
+}
+
+// Why a create of this model is refused, if it is.
+fn not_created(alloc: Global, tables: &mut Tables, model: &str) -> Result<Option<Refusal>, Fail> {
+    let event = create(alloc, "dan", 1000, model).ok_or("an event")?;
+    Ok(refusal_of(&run_one(alloc, tables, &event)?.answer))
+}
+
 #[test]
 fn tasks_are_created_up_to_the_limit(rt: HostRuntime) -> Result<(), Fail> {
     let mut tables = tables(rt.alloc())?;
     for number in 1..=50_000u32 {
-        let event = create(rt.alloc(), "dan", 1000, "solo").ok_or("an event")?;
-        let reply = run_one(rt.alloc(), &mut tables, &event)?;
         let want = Some((TaskId(number), State::Reserved, Name::of(b"anna")));
-        assert!(rt; done_of(&reply.answer) == want, "at {number}");
+        assert!(rt;
+            created(rt.alloc(), &mut tables, "solo")? == want,
+            "at {number}"
+        );
     }
-    let event = create(rt.alloc(), "dan", 1000, "solo").ok_or("an event")?;
-    let reply = run_one(rt.alloc(), &mut tables, &event)?;
-    let full = Refusal::Limit(Limit::Tasks);
-    assert_eq!(rt; refusal_of(&reply.answer), Some(full));
+    let full = Some(Refusal::Limit(Limit::Tasks));
+    assert!(rt; not_created(rt.alloc(), &mut tables, "solo")? == full);
     // The model is looked at before the limit.
-    let event = create(rt.alloc(), "dan", 1000, "asks").ok_or("an event")?;
-    let reply = run_one(rt.alloc(), &mut tables, &event)?;
-    let part = Refusal::PartRefused(Name::of(b"sum").ok_or("a name")?);
-    assert_eq!(rt; refusal_of(&reply.answer), Some(part));
+    let part = Some(Refusal::PartRefused(Name::of(b"sum").ok_or("a name")?));
+    assert!(rt; not_created(rt.alloc(), &mut tables, "asks")? == part);
     Ok(())
 }

@@ -1,34 +1,52 @@
 -- That the effects of commands keep rows sound.
-use Rattle.std.proofs.Common.{◌≡◌, ℕ, ◌<◌, nat_lt, Bool, true, false, ◌&&◌, ◌||◌, not, List, [], ◌∷◌, filter, Option, Some, None, IfSome, unwrap_or, length, refl, ap, sym, ◌∙◌, subst}
+use Rattle.std.proofs.Common.{◌≡◌, ℕ, ◌<◌, nat_lt, Bool, true, false, ◌&&◌, ◌||◌, not, ◌+◌, ◌≤◌, if◌then◌else◌, List, [], ◌∷◌, ◌++◌, filter, Option, Some, None, IfSome, IsTrue, unwrap_or, length, get_or, zero, suc, refl, ap, sym, ◌∙◌, subst, arith}
+use Rattle.std.proofs.lemmas.Bool.Decides.{nat_tests}
+use Rattle.std.proofs.lemmas.List.{length-append}
+use Rattle.std.proofs.lemmas.List.Elements.{All-append}
 use Rattle.std.specs.List.{range_with_len}
 use Rattle.ht_base.specs.declared.event.Command.{Command}
 use Rattle.ht_base.specs.declared.event.Command.TheVariants as command
+use Rattle.ht_base.specs.declared.moment.Moment.{Moment}
 use Rattle.ht_base.specs.declared.operation.Op.{Op}
 use Rattle.ht_base.specs.declared.operation.Op.TheVariants as op
+use Rattle.ht_base.specs.declared.reply.Limit.TheVariants.{Comments}
 use Rattle.ht_base.specs.declared.reply.Refusal.{Refusal}
+use Rattle.ht_base.specs.declared.reply.Refusal.TheVariants as refusal
 use Rattle.ht_base.specs.declared.role_list.RoleList.{RoleList}
 use Rattle.ht_base.specs.declared.role_list.RoleList.TheVariants as list
+use Rattle.ht_base.specs.declared.scalar.Scalar.{Scalar}
 use Rattle.ht_base.specs.declared.state.State.{State}
 use Rattle.ht_base.specs.declared.state.State.TheVariants as state
-use Rattle.ht_base.specs.Events.{IsCommand, op_of}
+use Rattle.ht_base.specs.Events.{AreGiven, IsCommand, op_of}
+use Rattle.ht_base.specs.Moment.{last_moment}
 use Rattle.ht_base.specs.Persons.{AllBelow, Ascends, has}
+use Rattle.ht_base.specs.Values.{updated}
+use Rattle.ht_expr.specs.declared.kinds.Side.TheVariants.{Output}
+use Rattle.ht_models.specs.Kinded.{parts_of}
 use Rattle.ht_models.specs.Model.{ModelOf}
 use Rattle.ht_owner.specs.declared.follow.Follow.{Follow}
-use Rattle.ht_owner.specs.Effects.{Effect, does, effect, following, is_forwarder, made, named_owner, prepared, refuses, unless, with_role}
-use Rattle.ht_owner.specs.Faults.{excluded, fault, faults, first_fault, owned, role_faults, unknown_person}
+use Rattle.ht_owner.specs.declared.follow.Follow.TheVariants as follow
+use Rattle.ht_owner.specs.Acting.{Ends}
+use Rattle.ht_owner.specs.Effects.{Effect, does, effect, following, is_forwarder, leaves, named_owner, prepared, prepared_leaves, refuses, unless, with_comment, with_output, with_role}
+use Rattle.ht_owner.specs.Faults.{fully_commented, excluded, fault, faults, first_fault, no_output, owned, role_faults, told, unknown_person}
+use Rattle.ht_owner.specs.Moving.{end_of, ending, is_final, moved}
 use Rattle.ht_owner.specs.Naming.{is_named, persons_named}
 use Rattle.ht_owner.proofs.Moved.{MayOwn, moved_sound}
 use Rattle.ht_owner.proofs.Named.{found_person, known_name, named_alone, no_fault, none_excluded, owner_unnamed}
 use Rattle.ht_people.specs.Directory.{DirectoryOf, find}
 use Rattle.ht_rules.specs.declared.judging.Verdict.TheVariants.{Yes}
+use Rattle.ht_rules.specs.declared.changes.After.{After}
+use Rattle.ht_rules.specs.declared.changes.After.TheVariants as after
 use Rattle.ht_rules.specs.Changes.{changing}
 use Rattle.ht_rules.specs.Judging.{verdict}
 use Rattle.ht_rules.proofs.PublicLaws.{IsCaller, IsNamed, caller_is_potential, named_is_delegate}
+use Rattle.ht_tree.specs.declared.comments.Comment.{Comment}
 use Rattle.ht_tree.specs.declared.row.Row.{Row}
+use Rattle.ht_tree.specs.Giving.{values_given}
 use Rattle.ht_tree.specs.Roles.{roles_in}
-use Rattle.ht_tree.specs.Soundness.{AreApart, ArePeople, IsSoundRow}
-use Rattle.ht_tree.specs.Tables.{TablesOf}
-use Rattle.ht_tree.proofs.PublicLaws.{all_selected, filed_of, has_selected, selected_apart, selected_ascends}
+use Rattle.ht_tree.specs.Soundness.{AreApart, ArePeople, IsHeldBy, IsSoundRow}
+use Rattle.ht_tree.specs.Tables.{TablesOf, model_of}
+use Rattle.ht_tree.proofs.PublicLaws.{all_selected, filed_of, given_output_held, has_selected, selected_apart, selected_ascends, updated_held}
 
 both_true : (a b : Bool) → (a && b) ≡ true → b ≡ true
 both_true true b h = h
@@ -45,11 +63,36 @@ apart_of f g n qs first second p h = at (f p) refl (both_true (nat_lt p n) (f p 
 apart_one : (g : ℕ → Bool) (n : ℕ) (qs : List ℕ) → ((p : ℕ) → g p ≡ true → has p qs ≡ false) → AreApart (filter g (range_with_len 0 n)) qs
 apart_one g n qs out p h = out p (both_true (nat_lt p n) (g p) (sym (has_selected g n p) ∙ h))
 
+-- an operation ends a task only in a final state
+ending_final : (s : State) (o : Op) (end : State) → ending s o ≡ Some end → IsTrue (is_final end)
+ending_final s o end e = at (changing s o).after e
+  where
+    test : (t : State) (b : Bool) → is_final t ≡ b → (if b then Some t else None) ≡ Some end → IsTrue (is_final end)
+    test t true is h = let same : t ≡ end = cc in let P : State → Type 0 = λ x. IsTrue (is_final x) in subst P same is
+    test t false is h = cc
+
+    at : (a : After) → end_of a ≡ Some end → IsTrue (is_final end)
+    at (after.To t) h = test t (is_final t) refl h
+    at after.Same h = cc
+    at after.ByPeople h = cc
+
 first_true : (a b : Bool) → (a && b) ≡ true → a ≡ true
 first_true true b h = refl
 first_true false b h = cc
 
-module _ (u : TablesOf) (m : ModelOf) (caller : ℕ) (row : Row) (sound : IsSoundRow u row) (known : caller < length u.people.persons) where
+-- what may be done leaves a sound row of the same task, with its parent and its model, and ends it only
+-- in a final state
+pub record IsMade (u : TablesOf) (row new : Row) (next : Follow) : Type 0 where
+  pub sound : IsSoundRow u new
+  pub same : filed_of new ≡ filed_of row
+  pub ends : Ends next
+
+-- what holds of one comment holds of each of a list of it
+alone : (P : Comment → Type 0) (c : Comment) → P c → (k : ℕ) (d : Comment) → k < 1 → P (get_or (c ∷ []) k d)
+alone P c h zero d low = h
+alone P c h (suc k) d low = absurd (omega arith)
+
+module _ (u : TablesOf) (m : ModelOf) (caller : ℕ) (moment : Moment) (row : Row) (sound : IsSoundRow u row) (of_model : model_of u row ≡ Some m) (known : caller < length u.people.persons) (within : moment.0 ≤ last_moment) where
   abbrev d : DirectoryOf
   d = u.people
 
@@ -122,7 +165,49 @@ module _ (u : TablesOf) (m : ModelOf) (caller : ℕ) (row : Row) (sound : IsSoun
 
   -- ---- what the command itself changes
 
-  prepared_sound : (c : Command) → IsCommand c → fault d m row c ≡ None → IsSoundRow u (prepared d caller row c)
+  -- with other parts of the output
+  output_sound : (output : List (List ℕ × Scalar)) → AreGiven output → IsSoundRow u (with_output d m row output)
+  output_sound output are =
+      let set = updated row.output (values_given d m.output output) in
+      let Old : Option ModelOf → Type 0 = λ o. IfSome o (λ x. IsHeldBy n x row.input row.output row.taken) in
+      let New : Option ModelOf → Type 0 = λ o. IfSome o (λ x. IsHeldBy n x row.input set row.taken) in
+      let old : IsHeldBy n m row.input row.output row.taken = subst Old of_model sound.held in
+      let held : IsHeldBy n m row.input set row.taken = record {
+        input = old.input;
+        output = updated_held (parts_of m.input m.output) n Output row.output (values_given d m.output output) old.output (given_output_held d m.input m.output output are);
+        taken = old.taken;
+        taken_ascend = old.taken_ascend;
+      } in
+      record { filed = sound.filed; held = subst New (sym of_model) held; who = sound.who; whose = sound.whose; when = sound.when; how = sound.how }
+
+  -- with a comment more, of which there are fewer than the most
+  comment_sound : (text : List ℕ) → 1 ≤ length text → length text ≤ 512 → fully_commented row ≡ None → IsSoundRow u (with_comment row moment caller text)
+  comment_sound text some short room =
+      let how = sound.how in
+      let more : List Comment = record { moment = moment; person = caller; text = text } ∷ [] in
+      record {
+        filed = sound.filed;
+        held = sound.held;
+        who = sound.who;
+        whose = sound.whose;
+        when = sound.when;
+        how = record {
+          priority_within = how.priority_within;
+          few = one_more (length row.comments) (length (row.comments ++ more)) (length-append row.comments more) room;
+          known = All-append (λ c. c.person < n) row.comments more how.known (alone (λ c. c.person < n) (record { moment = moment; person = caller; text = text }) known);
+          moments_within = All-append (λ c. c.moment.0 ≤ last_moment) row.comments more how.moments_within (alone (λ c. c.moment.0 ≤ last_moment) (record { moment = moment; person = caller; text = text }) within);
+          texts_within = All-append (λ c. (1 ≤ length c.text) × (length c.text ≤ 512)) row.comments more how.texts_within (alone (λ c. (1 ≤ length c.text) × (length c.text ≤ 512)) (record { moment = moment; person = caller; text = text }) (some, short));
+        };
+      }
+    where
+      one_more : (k l : ℕ) → l ≡ k + 1 → told (not (nat_lt k 32)) (refusal.Limit Comments) ≡ None → l ≤ 32
+      one_more k l is room = few (nat_lt k 32) refl room
+        where
+          few : (b : Bool) → nat_lt k 32 ≡ b → told (not b) (refusal.Limit Comments) ≡ None → l ≤ 32
+          few true low h = grind (arith, nat_tests)
+          few false low h = cc
+
+  prepared_sound : (c : Command) → IsCommand c → fault d m row c ≡ None → IsSoundRow u (prepared d m caller moment c row)
   prepared_sound (command.Delegate name) is none =
       let out = no_fault (faults d m row (command.Delegate name)) none 2 (excluded d row.excluded_owners (name ∷ [])) refl in
       with_owners (λ p. has p row.potential_owners || is_named d (name ∷ []) p) row.by_group (apart_of (λ p. has p row.potential_owners) (is_named d (name ∷ [])) n row.excluded_owners (sound.who).apart (none_excluded d row.excluded_owners (name ∷ []) out))
@@ -143,12 +228,11 @@ module _ (u : TablesOf) (m : ModelOf) (caller : ℕ) (row : Row) (sound : IsSoun
         when = sound.when;
         how = record { priority_within = is; few = how.few; known = how.known; moments_within = how.moments_within; texts_within = how.texts_within };
       }
-  prepared_sound (command.Create model input) is none = sound
-  prepared_sound command.Claim is none = sound
-  prepared_sound command.Start is none = sound
-  prepared_sound command.Stop is none = sound
-  prepared_sound command.Release is none = sound
-  prepared_sound command.Activate is none = sound
+  prepared_sound (command.SetOutput output) is none = output_sound output is.0
+  prepared_sound (command.Complete output) is none = output_sound output is
+  prepared_sound (command.Fail name) is none = record { filed = sound.filed; held = sound.held; who = sound.who; whose = sound.whose; when = sound.when; how = sound.how }
+  prepared_sound (command.AddComment text) is none = comment_sound text is.0 is.1 (no_fault (faults d m row (command.AddComment text)) none 0 (fully_commented row) refl)
+  prepared_sound c is none = sound
 
   -- ---- whose it becomes
 
@@ -175,71 +259,65 @@ module _ (u : TablesOf) (m : ModelOf) (caller : ℕ) (row : Row) (sound : IsSoun
   set_role_keeps state.Created h = h
   set_role_keeps s h = h
 
-  caller_owns : (c : Command) → verdict (op_of c) row.state (roles_in u row caller) ≡ Yes → IsCaller (changing (prepared d caller row c).state (op_of c)).owner → MayOwn n caller (prepared d caller row c).excluded_owners
+  caller_owns : (c : Command) → verdict (op_of c) row.state (roles_in u row caller) ≡ Yes → IsCaller (changing (prepared d m caller moment c row).state (op_of c)).owner → MayOwn n caller (prepared d m caller moment c row).excluded_owners
   caller_owns (command.SetRole list.PotentialOwners names) may h = owns op.SetRole h may
   caller_owns (command.SetRole list.ExcludedOwners names) may h = absurd (set_role_keeps row.state h)
   caller_owns (command.SetRole list.Administrators names) may h = owns op.SetRole h may
   caller_owns (command.SetRole list.Stakeholders names) may h = owns op.SetRole h may
-  caller_owns (command.Create model input) may h = owns op.Create h may
-  caller_owns command.Claim may h = owns op.Claim h may
-  caller_owns command.Start may h = owns op.Start h may
-  caller_owns command.Stop may h = owns op.Stop h may
-  caller_owns command.Release may h = owns op.Release h may
-  caller_owns (command.Delegate name) may h = owns op.Delegate h may
-  caller_owns (command.Forward names) may h = owns op.Forward h may
-  caller_owns (command.Nominate names) may h = owns op.Nominate h may
-  caller_owns command.Activate may h = owns op.Activate h may
-  caller_owns (command.SetPriority priority) may h = owns op.SetPriority h may
+  caller_owns c may h = owns (op_of c) h may
 
   -- a command but a delegation names nobody as the owner
   not_named : (o : Op) (s : State) (persons p : ℕ) (others : List ℕ) → (o ≡ op.Delegate → ⊥) → IsNamed (changing s o).owner → MayOwn persons p others
   not_named o s persons p others other h = absurd (other (named_is_delegate s o h))
 
-  told_owns : (c : Command) → fault d m row c ≡ None → IsNamed (changing (prepared d caller row c).state (op_of c)).owner → MayOwn n (named_owner d caller c) (prepared d caller row c).excluded_owners
+  told_owns : (c : Command) → fault d m row c ≡ None → IsNamed (changing (prepared d m caller moment c row).state (op_of c)).owner → MayOwn n (named_owner d caller c) (prepared d m caller moment c row).excluded_owners
   told_owns (command.Delegate name) none h = named_owns name none
-  told_owns (command.SetRole role names) none h = not_named op.SetRole (prepared d caller row (command.SetRole role names)).state n caller _ (λ e. cc) h
-  told_owns (command.Create model input) none h = not_named op.Create row.state n caller _ (λ e. cc) h
-  told_owns command.Claim none h = not_named op.Claim row.state n caller _ (λ e. cc) h
-  told_owns command.Start none h = not_named op.Start row.state n caller _ (λ e. cc) h
-  told_owns command.Stop none h = not_named op.Stop row.state n caller _ (λ e. cc) h
-  told_owns command.Release none h = not_named op.Release row.state n caller _ (λ e. cc) h
-  told_owns (command.Forward names) none h = not_named op.Forward row.state n caller _ (λ e. cc) h
-  told_owns (command.Nominate names) none h = not_named op.Nominate row.state n caller _ (λ e. cc) h
-  told_owns command.Activate none h = not_named op.Activate row.state n caller _ (λ e. cc) h
-  told_owns (command.SetPriority priority) none h = not_named op.SetPriority row.state n caller _ (λ e. cc) h
+  told_owns (command.SetRole role names) none h = not_named op.SetRole (prepared d m caller moment (command.SetRole role names) row).state n caller _ (λ e. cc) h
+  told_owns c none h = not_named (op_of c) row.state n caller _ (λ e. cc) h
 
   -- ---- the whole effect
 
-  made_sound : (c : Command) → IsCommand c → verdict (op_of c) row.state (roles_in u row caller) ≡ Yes → fault d m row c ≡ None → IsSoundRow u (made d caller row c)
-  made_sound c is may none = moved_sound u n caller (named_owner d caller c) (prepared d caller row c) (prepared_sound c is none) (op_of c) (caller_owns c may) (told_owns c none)
+  moves_sound : (c : Command) → IsCommand c → verdict (op_of c) row.state (roles_in u row caller) ≡ Yes → fault d m row c ≡ None → IsSoundRow u (moved (op_of c) caller (named_owner d caller c) (prepared d m caller moment c row))
+  moves_sound c is may none = moved_sound u n caller (named_owner d caller c) (prepared d m caller moment c row) (prepared_sound c is none) (op_of c) (caller_owns c may) (told_owns c none)
 
-  same_file : (c : Command) → filed_of (made d caller row c) ≡ filed_of row
+  same_file : (c : Command) → filed_of (prepared d m caller moment c row) ≡ filed_of row
   same_file (command.SetRole list.PotentialOwners names) = refl
   same_file (command.SetRole list.ExcludedOwners names) = refl
   same_file (command.SetRole list.Administrators names) = refl
   same_file (command.SetRole list.Stakeholders names) = refl
-  same_file (command.Create model input) = refl
-  same_file command.Claim = refl
-  same_file command.Start = refl
-  same_file command.Stop = refl
-  same_file command.Release = refl
-  same_file (command.Delegate name) = refl
-  same_file (command.Forward names) = refl
-  same_file (command.Nominate names) = refl
-  same_file command.Activate = refl
-  same_file (command.SetPriority priority) = refl
+  same_file c = refl
 
-  -- what may be done leaves a sound row of the same task, with its parent and its model
-  pub effect_makes : (c : Command) (new : Row) (follow : Follow) → IsCommand c → verdict (op_of c) row.state (roles_in u row caller) ≡ Yes → effect d m caller c row ≡ does new follow → IsSoundRow u new × (filed_of new ≡ filed_of row)
-  effect_makes c new follow is may done = at (fault d m row c) refl done
+  quiet : (c : Command) → Ends (following c)
+  quiet command.Start = tt
+  quiet c = tt
+
+  abbrev row_in : Effect → Row
+  row_in (does r f) = r
+  row_in (refuses why) = row
+
+  abbrev follow_in : Effect → Follow
+  follow_in (does r f) = f
+  follow_in (refuses why) = follow.Nothing
+
+  left_by : (c : Command) (new : Row) (next : Follow) → IsCommand c → verdict (op_of c) row.state (roles_in u row caller) ≡ Yes → fault d m row c ≡ None → (o : Option State) → ending (prepared d m caller moment c row).state (op_of c) ≡ o → leaves d caller c (prepared d m caller moment c row) o ≡ does new next → IsMade u row new next
+  left_by c new next is may none None e h =
+      let R : Row → Type 0 = λ r. IsSoundRow u r × (filed_of r ≡ filed_of row) in
+      let made : R new = subst R (ap row_in h) (moves_sound c is may none, same_file c) in
+      let F : Follow → Type 0 = λ f. Ends f in
+      record { sound = made.0; same = made.1; ends = subst F (ap follow_in h) (quiet c) }
+  left_by c new next is may none (Some end) e h =
+      let R : Row → Type 0 = λ r. IsSoundRow u r × (filed_of r ≡ filed_of row) in
+      let made : R new = subst R (ap row_in h) (prepared_sound c is none, same_file c) in
+      let F : Follow → Type 0 = λ f. Ends f in
+      record { sound = made.0; same = made.1; ends = subst F (ap follow_in h) (ending_final (prepared d m caller moment c row).state (op_of c) end e) }
+
+  pub effect_makes : (c : Command) (new : Row) (next : Follow) → IsCommand c → verdict (op_of c) row.state (roles_in u row caller) ≡ Yes → effect d m caller moment c row ≡ does new next → IsMade u row new next
+  effect_makes c new next is may done = first (fault d m row c) refl done
     where
-      row_in : Effect → Row
-      row_in (does r f) = r
-      row_in (refuses why) = row
+      second : (o : Option Refusal) → fault d m row c ≡ None → unless o (leaves d caller c (prepared d m caller moment c row) (ending (prepared d m caller moment c row).state (op_of c))) ≡ does new next → IsMade u row new next
+      second (Some why) none h = cc
+      second None none h = left_by c new next is may none (ending (prepared d m caller moment c row).state (op_of c)) refl h
 
-      at : (o : Option Refusal) → fault d m row c ≡ o → unless o (made d caller row c) (following c) ≡ does new follow → IsSoundRow u new × (filed_of new ≡ filed_of row)
-      at (Some why) e h = cc
-      at None none h =
-          let same : made d caller row c ≡ new = ap row_in h in
-          let P : Row → Type 0 = λ r. IsSoundRow u r × (filed_of r ≡ filed_of row) in
-          subst P same (made_sound c is may none, same_file c)
+      first : (o : Option Refusal) → fault d m row c ≡ o → unless o (prepared_leaves d m caller c (prepared d m caller moment c row)) ≡ does new next → IsMade u row new next
+      first (Some why) e h = cc
+      first None none h = second (no_output m (prepared d m caller moment c row) c) none h

@@ -1,7 +1,9 @@
 -- What comes of each command on a task's row (WS-HumanTask 1.1, 7.1.1 "Participant operations").
-use Rattle.std.specs.Prelude.{◌≡◌, ℕ, ◌==◌, Bool, false, not, ◌&&◌, ◌||◌, List, [], ◌∷◌, filter, Option, Some, None, unwrap_or, Result, Ok, Err}
+use Rattle.std.specs.Prelude.{◌≡◌, ℕ, ◌==◌, Bool, false, not, ◌&&◌, ◌||◌, List, [], ◌∷◌, ◌++◌, filter, Option, Some, None, unwrap_or, Result, Ok, Err}
 use Rattle.ht_base.specs.declared.event.Command.{Command}
 use Rattle.ht_base.specs.declared.event.Command.TheVariants as command
+use Rattle.ht_base.specs.declared.moment.Moment.{Moment}
+use Rattle.ht_base.specs.declared.parts.Parts.{Parts}
 use Rattle.ht_base.specs.declared.reply.Refusal.{Refusal}
 use Rattle.ht_base.specs.declared.role_list.RoleList.{RoleList}
 use Rattle.ht_base.specs.declared.role_list.RoleList.TheVariants as list
@@ -9,17 +11,19 @@ use Rattle.ht_base.specs.declared.state.State.{State}
 use Rattle.ht_base.specs.declared.state.State.TheVariants.{Ready}
 use Rattle.ht_base.specs.Events.{op_of}
 use Rattle.ht_base.specs.Persons.{has}
+use Rattle.ht_base.specs.Values.{updated}
 use Rattle.ht_models.specs.Model.{ModelOf}
 use Rattle.ht_owner.specs.declared.follow.Follow.{Follow}
 use Rattle.ht_owner.specs.declared.follow.Follow.TheVariants as follow
 use Rattle.ht_owner.specs.declared.refusal.ActRefusal.{ActRefusal}
 use Rattle.ht_owner.specs.declared.refusal.ActRefusal.TheVariants as why
-use Rattle.ht_owner.specs.Faults.{fault}
-use Rattle.ht_owner.specs.Moving.{moved}
+use Rattle.ht_owner.specs.Faults.{fault, no_output}
+use Rattle.ht_owner.specs.Moving.{ending, moved}
 use Rattle.ht_owner.specs.Naming.{is_named, is_this, persons_named}
 use Rattle.ht_people.specs.Directory.{DirectoryOf, find}
 use Rattle.ht_people.specs.Membership.{everybody}
 use Rattle.ht_tree.specs.declared.row.Row.{Row}
+use Rattle.ht_tree.specs.Giving.{values_given}
 
 -- the row after it and what follows on others, or why it isn't done
 pub data Effect : Type 0 where
@@ -49,13 +53,25 @@ with_role d row names list.ExcludedOwners = record row { excluded_owners = perso
 with_role d row names list.Administrators = record row { administrators = persons_named d names }
 with_role d row names list.Stakeholders = record row { stakeholders = persons_named d names }
 
-abbrev pub prepared : DirectoryOf → ℕ → Row → Command → Row
-prepared d caller row (command.Delegate name) = record row { potential_owners = with_named d row.potential_owners (name ∷ []) }
-prepared d caller row (command.Forward names) = record row { potential_owners = forwarded d caller row names }
-prepared d caller row (command.Nominate names) = record row { potential_owners = persons_named d names; by_group = false }
-prepared d caller row (command.SetRole role names) = with_role d row names role
-prepared d caller row (command.SetPriority priority) = record row { priority = priority }
-prepared d caller row _ = row
+-- with the parts of the output that are given
+abbrev pub with_output : DirectoryOf → ModelOf → Row → Parts → Row
+with_output d m row output = record row { output = updated row.output (values_given d m.output output) }
+
+abbrev pub with_comment : Row → Moment → ℕ → List ℕ → Row
+with_comment row at person text = record row { comments = row.comments ++ record { moment = at; person = person; text = text } ∷ [] }
+
+-- at this moment
+abbrev pub prepared : DirectoryOf → ModelOf → ℕ → Moment → Command → Row → Row
+prepared d m caller at (command.Delegate name) row = record row { potential_owners = with_named d row.potential_owners (name ∷ []) }
+prepared d m caller at (command.Forward names) row = record row { potential_owners = forwarded d caller row names }
+prepared d m caller at (command.Nominate names) row = record row { potential_owners = persons_named d names; by_group = false }
+prepared d m caller at (command.SetRole role names) row = with_role d row names role
+prepared d m caller at (command.SetPriority priority) row = record row { priority = priority }
+prepared d m caller at (command.SetOutput output) row = with_output d m row output
+prepared d m caller at (command.Complete output) row = with_output d m row output
+prepared d m caller at (command.Fail fault) row = record row { fault = fault }
+prepared d m caller at (command.AddComment text) row = with_comment row at caller text
+prepared d m caller at _ row = row
 
 -- ---- and then
 
@@ -68,17 +84,22 @@ abbrev pub following : Command → Follow
 following command.Start = follow.Began
 following _ = follow.Nothing
 
--- the row that the table of changes leaves
-abbrev pub made : DirectoryOf → ℕ → Row → Command → Row
-made d caller row c = moved (op_of c) caller (named_owner d caller c) (prepared d caller row c)
+-- an end is still to come, and everything else is as the table of changes says
+abbrev pub leaves : DirectoryOf → ℕ → Command → Row → Option State → Effect
+leaves d caller c row (Some end) = does row (follow.Close end)
+leaves d caller c row None = does (moved (op_of c) caller (named_owner d caller c) row) (following c)
 
-abbrev pub unless : Option Refusal → Row → Follow → Effect
-unless None row follow = does row follow
-unless (Some why) row follow = refuses why
+abbrev pub unless : Option Refusal → Effect → Effect
+unless None e = e
+unless (Some why) e = refuses why
 
--- of a caller's command on a task of this model
-abbrev pub effect : DirectoryOf → ModelOf → ℕ → Command → Row → Effect
-effect d m caller c row = unless (fault d m row c) (made d caller row c) (following c)
+-- what comes of a command that was prepared
+abbrev pub prepared_leaves : DirectoryOf → ModelOf → ℕ → Command → Row → Effect
+prepared_leaves d m caller c row = unless (no_output m row c) (leaves d caller c row (ending row.state (op_of c)))
+
+-- of a caller's command at a moment on a task of this model
+abbrev pub effect : DirectoryOf → ModelOf → ℕ → Moment → Command → Row → Effect
+effect d m caller at c row = unless (fault d m row c) (prepared_leaves d m caller c (prepared d m caller at c row))
 
 -- what is answered is what comes of it
 abbrev pub Gives : Effect → Result (Row × Follow) ActRefusal → Type 0

@@ -1,18 +1,25 @@
 -- Worked examples of rows that operations move. A wrong reading of one fails the check.
-use Rattle.std.specs.Prelude.{◌≡◌, refl, ℕ, [], ◌∷◌, Some, None, codes, true, false}
+use Rattle.std.specs.Prelude.{◌≡◌, refl, ℕ, List, replicate, [], ◌∷◌, Some, None, codes, true, false}
 use Rattle.ht_base.specs.declared.event.Command.TheVariants as command
+use Rattle.ht_base.specs.declared.kind.Kind.TheVariants as kind
 use Rattle.ht_base.specs.declared.moment.Moment.{Moment}
-use Rattle.ht_base.specs.declared.operation.Op.TheVariants.{Start, Stop, Release, Delegate, Resume, Complete, Activate}
+use Rattle.ht_base.specs.declared.operation.Op.TheVariants.{Start, Stop, Release, Delegate, Resume, Activate}
+use Rattle.ht_base.specs.declared.reply.Limit.TheVariants.{Comments}
 use Rattle.ht_base.specs.declared.reply.Refusal.TheVariants as refusal
 use Rattle.ht_base.specs.declared.reply.Unknown.TheVariants as unknown
 use Rattle.ht_base.specs.declared.role_list.RoleList.TheVariants as list
+use Rattle.ht_base.specs.declared.scalar.Scalar.{Scalar}
+use Rattle.ht_base.specs.declared.scalar.Scalar.TheVariants as scalar
 use Rattle.ht_base.specs.declared.state.State.TheVariants as state
+use Rattle.ht_base.specs.declared.value.Value.TheVariants as values
 use Rattle.ht_expr.specs.Assignments.{user}
 use Rattle.ht_models.specs.declared.choices.Delegation.TheVariants as delegation
 use Rattle.ht_models.specs.Model.{ModelOf}
-use Rattle.ht_owner.specs.declared.follow.Follow.TheVariants.{Began, Nothing}
+use Rattle.ht_models.specs.Parts.{part}
+use Rattle.ht_owner.specs.declared.follow.Follow.TheVariants.{Began, Close, Nothing}
 use Rattle.ht_owner.specs.Effects.{does, effect, refuses}
 use Rattle.ht_owner.specs.Moving.{moved}
+use Rattle.ht_tree.specs.declared.comments.Comment.{Comment}
 use Rattle.ht_tree.specs.declared.row.Row.{Row}
 use Rattle.ht_tree.specs.Creating.{bare_row}
 use Rattle.ht_tree.specs.Examples.{office, unit}
@@ -38,67 +45,146 @@ held = record reserved { state = state.SuspendedReserved; until = Some (at 9000)
 abbrev started : Row
 started = record reserved { state = state.InProgress }
 
-a_claim : effect office unit 0 command.Claim ready ≡ does reserved Nothing
+a_claim : effect office unit 0 (at 2000) command.Claim ready ≡ does reserved Nothing
 a_claim = refl
 
-a_start : effect office unit 1 command.Start ready ≡ does (record ready { state = state.InProgress; owner = Some 1 }) Began
+a_start : effect office unit 1 (at 2000) command.Start ready ≡ does (record ready { state = state.InProgress; owner = Some 1 }) Began
 a_start = refl
 
-a_stop : effect office unit 0 command.Stop started ≡ does reserved Nothing
+a_stop : effect office unit 0 (at 2000) command.Stop started ≡ does reserved Nothing
 a_stop = refl
 
-without_an_owner : effect office (record unit { owner_required = false }) 0 command.Stop started ≡ refuses refusal.Ownerless
+without_an_owner : effect office (record unit { owner_required = false }) 0 (at 2000) command.Stop started ≡ refuses refusal.Ownerless
 without_an_owner = refl
 
-a_delegation_adds : effect office unit 0 (command.Delegate (codes "cora")) reserved ≡ does (record reserved { owner = Some 2; potential_owners = 0 ∷ 1 ∷ 2 ∷ [] }) Nothing
+a_delegation_adds : effect office unit 0 (at 2000) (command.Delegate (codes "cora")) reserved ≡ does (record reserved { owner = Some 2; potential_owners = 0 ∷ 1 ∷ 2 ∷ [] }) Nothing
 a_delegation_adds = refl
 
-to_a_stranger : effect office unit 0 (command.Delegate (codes "eve")) reserved ≡ refuses (refusal.Unknown (unknown.Person (codes "eve")))
+to_a_stranger : effect office unit 0 (at 2000) (command.Delegate (codes "eve")) reserved ≡ refuses (refusal.Unknown (unknown.Person (codes "eve")))
 to_a_stranger = refl
 
-to_nobody : effect office (record unit { delegation = delegation.Nobody }) 0 (command.Delegate (codes "ben")) reserved ≡ refuses (refusal.NotDelegatee (codes "ben"))
+to_nobody : effect office (record unit { delegation = delegation.Nobody }) 0 (at 2000) (command.Delegate (codes "ben")) reserved ≡ refuses (refusal.NotDelegatee (codes "ben"))
 to_nobody = refl
 
 -- an excluded owner is told before one who is no delegatee
-excluded_first : effect office (record unit { delegation = delegation.Nobody }) 0 (command.Delegate (codes "cora")) (record reserved { excluded_owners = 2 ∷ [] }) ≡ refuses (refusal.Excluded (codes "cora"))
+excluded_first : effect office (record unit { delegation = delegation.Nobody }) 0 (at 2000) (command.Delegate (codes "cora")) (record reserved { excluded_owners = 2 ∷ [] }) ≡ refuses (refusal.Excluded (codes "cora"))
 excluded_first = refl
 
 abbrev to_cora : ModelOf
 to_cora = record unit { delegation = delegation.Other; delegatees = Some (user (codes "cora")) }
 
-to_no_delegatee : effect office to_cora 0 (command.Delegate (codes "ben")) reserved ≡ refuses (refusal.NotDelegatee (codes "ben"))
+to_no_delegatee : effect office to_cora 0 (at 2000) (command.Delegate (codes "ben")) reserved ≡ refuses (refusal.NotDelegatee (codes "ben"))
 to_no_delegatee = refl
 
 -- the owner hands it on, and then has nothing to do with it
-a_forward : effect office unit 0 (command.Forward (codes "cora" ∷ [])) started ≡ does (record ready { potential_owners = 1 ∷ 2 ∷ [] }) Nothing
+a_forward : effect office unit 0 (at 2000) (command.Forward (codes "cora" ∷ [])) started ≡ does (record ready { potential_owners = 1 ∷ 2 ∷ [] }) Nothing
 a_forward = refl
 
 -- of a ready task the caller does
-a_forward_of_a_ready_task : effect office unit 1 (command.Forward (codes "cora" ∷ [])) ready ≡ does (record ready { potential_owners = 0 ∷ 2 ∷ [] }) Nothing
+a_forward_of_a_ready_task : effect office unit 1 (at 2000) (command.Forward (codes "cora" ∷ [])) ready ≡ does (record ready { potential_owners = 0 ∷ 2 ∷ [] }) Nothing
 a_forward_of_a_ready_task = refl
 
-by_group_first : effect office unit 0 (command.Forward (codes "eve" ∷ [])) (record reserved { by_group = true }) ≡ refuses refusal.ByGroup
+by_group_first : effect office unit 0 (at 2000) (command.Forward (codes "eve" ∷ [])) (record reserved { by_group = true }) ≡ refuses refusal.ByGroup
 by_group_first = refl
 
-a_nomination_of_two : effect office unit 4 (command.Nominate (codes "cora" ∷ codes "ben" ∷ [])) (record waiting { by_group = true }) ≡ does (record ready { potential_owners = 1 ∷ 2 ∷ [] }) Nothing
+a_nomination_of_two : effect office unit 4 (at 2000) (command.Nominate (codes "cora" ∷ codes "ben" ∷ [])) (record waiting { by_group = true }) ≡ does (record ready { potential_owners = 1 ∷ 2 ∷ [] }) Nothing
 a_nomination_of_two = refl
 
-nobody_to_activate_for : effect office unit 4 command.Activate (record waiting { potential_owners = [] }) ≡ refuses refusal.NoOwners
+nobody_to_activate_for : effect office unit 4 (at 2000) command.Activate (record waiting { potential_owners = [] }) ≡ refuses refusal.NoOwners
 nobody_to_activate_for = refl
 
 -- whoever is excluded is no potential owner any more
-an_exclusion : effect office unit 2 (command.SetRole list.ExcludedOwners (codes "ben" ∷ [])) reserved ≡ does (record reserved { excluded_owners = 1 ∷ []; potential_owners = 0 ∷ [] }) Nothing
+an_exclusion : effect office unit 2 (at 2000) (command.SetRole list.ExcludedOwners (codes "ben" ∷ [])) reserved ≡ does (record reserved { excluded_owners = 1 ∷ []; potential_owners = 0 ∷ [] }) Nothing
 an_exclusion = refl
 
-the_owner_excluded : effect office unit 2 (command.SetRole list.ExcludedOwners (codes "ben" ∷ codes "anna" ∷ [])) reserved ≡ refuses (refusal.Excluded (codes "anna"))
+the_owner_excluded : effect office unit 2 (at 2000) (command.SetRole list.ExcludedOwners (codes "ben" ∷ codes "anna" ∷ [])) reserved ≡ refuses (refusal.Excluded (codes "anna"))
 the_owner_excluded = refl
 
 -- the state stays, whoever may own it
-others_may_own : effect office unit 2 (command.SetRole list.PotentialOwners (codes "dan" ∷ [])) (record reserved { by_group = true }) ≡ does (record reserved { potential_owners = 3 ∷ [] }) Nothing
+others_may_own : effect office unit 2 (at 2000) (command.SetRole list.PotentialOwners (codes "dan" ∷ [])) (record reserved { by_group = true }) ≡ does (record reserved { potential_owners = 3 ∷ [] }) Nothing
 others_may_own = refl
 
-another_priority : effect office unit 2 (command.SetPriority 0) reserved ≡ does (record reserved { priority = 0 }) Nothing
+another_priority : effect office unit 2 (at 2000) (command.SetPriority 0) reserved ≡ does (record reserved { priority = 0 }) Nothing
 another_priority = refl
+
+-- ---- suspensions
+
+a_suspension : effect office unit 0 (at 2000) command.Suspend started ≡ does (record started { state = state.SuspendedInProgress }) Nothing
+a_suspension = refl
+
+-- it goes on in the state before, and has no end of its suspension
+a_resumption : effect office unit 0 (at 2000) command.Resume held ≡ does reserved Nothing
+a_resumption = refl
+
+-- ---- the output
+
+-- a vote must be given, a witness may
+abbrev ballot : ModelOf
+ballot = record unit {
+  input = part (codes "question") kind.Text false ∷ [];
+  output = part (codes "vote") kind.Text false ∷ part (codes "agreed") kind.Truth false ∷ part (codes "witness") kind.Person true ∷ [];
+  skipable = false;
+}
+
+abbrev yes : List ℕ × Scalar
+yes = (codes "vote", scalar.Text (codes "yes"))
+
+abbrev voted : Row
+voted = record started { output = (codes "vote", values.Text (codes "yes")) ∷ [] }
+
+an_output : effect office ballot 0 (at 2000) (command.SetOutput (yes ∷ [])) started ≡ does voted Nothing
+an_output = refl
+
+-- what isn't given stays, and what is given again is replaced
+an_output_again : effect office ballot 0 (at 2000) (command.SetOutput ((codes "vote", scalar.Text (codes "no")) ∷ (codes "witness", scalar.Text (codes "ben")) ∷ [])) (record started { output = (codes "agreed", values.Truth true) ∷ (codes "vote", values.Text (codes "yes")) ∷ [] }) ≡ does (record started { output = (codes "agreed", values.Truth true) ∷ (codes "vote", values.Text (codes "no")) ∷ (codes "witness", values.Person 1) ∷ [] }) Nothing
+an_output_again = refl
+
+-- a part of the input is none of the output
+an_output_of_the_input : effect office ballot 0 (at 2000) (command.SetOutput ((codes "question", scalar.Text (codes "why")) ∷ yes ∷ [])) started ≡ refuses (refusal.PartRefused (codes "question"))
+an_output_of_the_input = refl
+
+another_kind : effect office ballot 0 (at 2000) (command.SetOutput ((codes "vote", scalar.Truth true) ∷ [])) started ≡ refuses (refusal.PartRefused (codes "vote"))
+another_kind = refl
+
+-- ---- ends
+
+-- the first in the order of the model, which is not that of the bytes
+nothing_set : effect office ballot 0 (at 2000) (command.Complete []) started ≡ refuses (refusal.NoOutput (codes "vote"))
+nothing_set = refl
+
+one_set : effect office ballot 0 (at 2000) (command.Complete (yes ∷ [])) started ≡ refuses (refusal.NoOutput (codes "agreed"))
+one_set = refl
+
+another_kind_first : effect office ballot 0 (at 2000) (command.Complete ((codes "witness", scalar.Text (codes "eve")) ∷ [])) started ≡ refuses (refusal.PartRefused (codes "witness"))
+another_kind_first = refl
+
+-- its output is set, and then it is to end
+a_completion : effect office ballot 0 (at 2000) (command.Complete ((codes "agreed", scalar.Truth false) ∷ [])) voted ≡ does (record voted { output = (codes "agreed", values.Truth false) ∷ (codes "vote", values.Text (codes "yes")) ∷ [] }) (Close state.Completed)
+a_completion = refl
+
+a_failure : effect office ballot 0 (at 2000) (command.Fail (Some (codes "torn"))) started ≡ does (record started { fault = Some (codes "torn") }) (Close state.Failed)
+a_failure = refl
+
+a_skip : effect office (record ballot { skipable = true }) 3 (at 2000) command.Skip waiting ≡ does waiting (Close state.Obsolete)
+a_skip = refl
+
+no_skip : effect office ballot 3 (at 2000) command.Skip waiting ≡ refuses refusal.NotSkipable
+no_skip = refl
+
+an_exit : effect office ballot 4 (at 2000) command.Exit held ≡ does held (Close state.Exited)
+an_exit = refl
+
+-- ---- comments
+
+abbrev well : Comment
+well = record { moment = at 2000; person = 3; text = codes "well" }
+
+-- of an ended task too
+a_comment : effect office unit 3 (at 2000) (command.AddComment (codes "well")) (record ready { state = state.Completed; comments = well ∷ [] }) ≡ does (record ready { state = state.Completed; comments = well ∷ well ∷ [] }) Nothing
+a_comment = refl
+
+thirty_three_comments : effect office unit 3 (at 2000) (command.AddComment (codes "well")) (record ready { comments = replicate 32 well }) ≡ refuses (refusal.Limit Comments)
+thirty_three_comments = refl
 
 -- ---- moves
 
@@ -125,12 +211,9 @@ an_activation_for_one : moved Activate 2 2 (record waiting { potential_owners = 
 an_activation_for_one = refl
 
 -- a resumed task has no end of its suspension
-a_resumption : moved Resume 0 0 held ≡ reserved
-a_resumption = refl
+a_resumed_task : moved Resume 0 0 held ≡ reserved
+a_resumed_task = refl
 
 -- what is not of the table changes nothing
 a_stop_of_a_ready_task : moved Stop 0 0 ready ≡ ready
 a_stop_of_a_ready_task = refl
-
-a_final_task_has_no_owner : (moved Complete 0 0 (record reserved { state = state.InProgress })).owner ≡ None
-a_final_task_has_no_owner = refl

@@ -1,24 +1,30 @@
 -- Why a command isn't done that its caller may do (WS-HumanTask 1.1, 7.1.1): the faults of each
 -- operation, of which the first is told.
-use Rattle.std.specs.Prelude.{ℕ, ◌==◌, Bool, true, false, not, ◌&&◌, List, [], ◌∷◌, find, is_none, length, Option, Some, None, option_map, if◌then◌else◌}
+use Rattle.std.specs.Prelude.{ℕ, ◌==◌, nat_lt, Bool, true, false, not, ◌&&◌, List, [], ◌∷◌, find, is_none, length, Option, Some, None, option_map, if◌then◌else◌}
 use Rattle.std.specs.Option.{option_map_or}
 use Rattle.ht_base.specs.declared.event.Command.{Command}
 use Rattle.ht_base.specs.declared.event.Command.TheVariants as command
+use Rattle.ht_base.specs.declared.parts.Parts.{Parts}
+use Rattle.ht_base.specs.declared.reply.Limit.TheVariants.{Comments}
 use Rattle.ht_base.specs.declared.reply.Refusal.{Refusal}
 use Rattle.ht_base.specs.declared.reply.Refusal.TheVariants as refusal
 use Rattle.ht_base.specs.declared.reply.Unknown.TheVariants as unknown
 use Rattle.ht_base.specs.declared.role_list.RoleList.{RoleList}
 use Rattle.ht_base.specs.declared.role_list.RoleList.TheVariants as list
+use Rattle.ht_base.specs.declared.values.Values.{Values}
 use Rattle.ht_base.specs.Persons.{has}
+use Rattle.ht_base.specs.Values.{value_of}
 use Rattle.ht_models.specs.declared.choices.Delegation.{Delegation}
 use Rattle.ht_models.specs.declared.choices.Delegation.TheVariants as delegation
 use Rattle.ht_models.specs.Model.{ModelOf}
+use Rattle.ht_models.specs.Parts.{Part}
 use Rattle.ht_owner.specs.Naming.{is_this}
 use Rattle.ht_people.specs.Directory as people
 use Rattle.ht_people.specs.Directory.{DirectoryOf}
 use Rattle.ht_tree.specs.declared.row.Row.{Row}
 use Rattle.ht_tree.specs.Assigning.{resolved}
 use Rattle.ht_tree.specs.Creating.{seen}
+use Rattle.ht_tree.specs.Giving.{refused_part}
 
 -- ---- each fault
 
@@ -66,6 +72,18 @@ may_delegate d m row person delegation.Other = option_map_or (λ a. has person (
 abbrev pub not_delegatee : DirectoryOf → ModelOf → Row → List ℕ → Option Refusal
 not_delegatee d m row name = option_map_or (λ p. told (not (may_delegate d m row p m.delegation)) (refusal.NotDelegatee name)) (people.find name d) None
 
+-- the part that the model doesn't declare of the output, or of whose kind the value isn't
+abbrev pub output_refused : DirectoryOf → ModelOf → Parts → Option Refusal
+output_refused d m output = option_map refusal.PartRefused (refused_part d false m.output output)
+
+-- it can't be skipped, by its model
+abbrev pub not_skipable : ModelOf → Option Refusal
+not_skipable m = told (not m.skipable) refusal.NotSkipable
+
+-- it has 32 comments
+abbrev pub fully_commented : Row → Option Refusal
+fully_commented row = told (not (nat_lt (length row.comments) 32)) (refusal.Limit Comments)
+
 -- ---- of each operation, in their order
 
 abbrev pub role_faults : DirectoryOf → ModelOf → Row → List (List ℕ) → RoleList → List (Option Refusal)
@@ -86,6 +104,15 @@ faults d m row (command.Nominate names) = ownerless m ∷ unknown_person d names
 faults d m row command.Activate = no_owners m row ∷ []
 faults d m row (command.SetRole role names) = role_faults d m row names role
 faults d m row (command.SetPriority priority) = []
+faults d m row command.Suspend = []
+faults d m row command.Resume = []
+faults d m row (command.SetOutput output) = output_refused d m output ∷ []
+faults d m row (command.Complete output) = output_refused d m output ∷ []
+faults d m row (command.Fail name) = []
+faults d m row command.Skip = not_skipable m ∷ []
+faults d m row command.Exit = []
+faults d m row command.Error = []
+faults d m row (command.AddComment text) = fully_commented row ∷ []
 
 abbrev pub first_fault : List (Option Refusal) → Option Refusal
 first_fault [] = None
@@ -94,3 +121,16 @@ first_fault (Some why ∷ fs) = Some why
 
 abbrev pub fault : DirectoryOf → ModelOf → Row → Command → Option Refusal
 fault d m row c = first_fault (faults d m row c)
+
+-- ---- behind what a command sets
+
+abbrev pub is_unset : Values → Part → Bool
+is_unset values part = not part.optional && is_none (value_of part.name values)
+
+abbrev pub first_unset : Values → List Part → Option Refusal
+first_unset values parts = option_map (λ p. refusal.NoOutput p.name) (find (is_unset values) parts)
+
+-- the first part of the output that is required and has no value, of a task that is to be completed
+abbrev pub no_output : ModelOf → Row → Command → Option Refusal
+no_output m row (command.Complete output) = first_unset row.output m.output
+no_output m row _ = None

@@ -1,6 +1,7 @@
 -- How an operation moves a task: its state and its owner by the table of changes
 -- (WS-HumanTask 1.1, 4.10).
 use Rattle.std.specs.Prelude.{ℕ, Bool, List, Option, Some, None, if◌then◌else◌}
+use Rattle.ht_base.specs.State.{contains_state}
 use Rattle.ht_base.specs.declared.operation.Op.{Op}
 use Rattle.ht_base.specs.declared.state.State.{State}
 use Rattle.ht_rules.specs.declared.changes.After.{After}
@@ -9,6 +10,7 @@ use Rattle.ht_rules.specs.declared.changes.Change.{Change}
 use Rattle.ht_rules.specs.declared.changes.OwnerAfter.{OwnerAfter}
 use Rattle.ht_rules.specs.declared.changes.OwnerAfter.TheVariants as owner
 use Rattle.ht_rules.specs.Changes.{changing}
+use Rattle.ht_rules.specs.States.{final}
 use Rattle.ht_tree.specs.declared.row.Row.{Row}
 use Rattle.ht_tree.specs.Activation.{owner_by, state_by}
 use Rattle.ht_tree.specs.Soundness.{is_created, is_suspended}
@@ -44,3 +46,16 @@ changed c caller named row = placed (state_after c.after row.potential_owners ro
 -- by the caller, who may name a person
 abbrev pub moved : Op → ℕ → ℕ → Row → Row
 moved op caller named row = changed (changing row.state op) caller named row
+
+-- ---- ends
+
+abbrev pub is_final : State → Bool
+is_final state = contains_state final state
+
+abbrev pub end_of : After → Option State
+end_of (after.To state) = if is_final state then Some state else None
+end_of _ = None
+
+-- the state in which the operation ends a task that is in this one, if it does
+abbrev pub ending : State → Op → Option State
+ending state op = end_of (changing state op).after

@@ -12,7 +12,8 @@ use ht_tree::{Plan, Tables};
 use std::alloc::Global;
 
 /// Plans a caller's command on one task, which the table of who may do what allows, and tells what
-/// follows on others (WS-HumanTask 1.1, 7.1.1 "Participant operations").
+/// follows (WS-HumanTask 1.1, 7.1.1 "Participant operations"). The end of a task follows: until then
+/// its row has its state and its owner.
 ///
 /// `at` is the moment at which it acts, at most the last there is. A refusal leaves the plan as it
 /// was; after want of memory it may hold less or more, and the caller goes back to its mark.
@@ -23,22 +24,22 @@ pub fn act(
     id: TaskId,
     caller: Person,
     command: &Command,
-    _at: Moment,
+    at: Moment,
 ) -> Result<Follow, ActRefusal>
     requires plan { IsPlanOf tables.now.tables plan.old }
     requires sound { IsSound (planned tables.now.tables plan.old) }
     requires caller { caller < length tables.now.tables.people.persons }
     requires allowed { IsAllowed (planned tables.now.tables plan.old) (op_of command.now) caller id.0 }
     requires command { IsCommand command.now }
-    requires at { _at.0 ≤ last_moment }
-    ensures { Acts tables.now.tables plan.old plan.new id.0 caller command.now result }
+    requires at { at.0 ≤ last_moment }
+    ensures { Acts tables.now.tables plan.old plan.new id.0 caller at command.now result }
 {
     let Some(row) = plan.row(tables, id) else {
         unreachable!()
     };
     let model = tables.models().model(row.model);
     let before = row.copy(alloc)?;
-    let (after, follow) = effect(alloc, tables, plan, model, caller, command, before)?;
+    let (after, follow) = effect(alloc, tables, plan, model, caller, at, command, before)?;
     plan.put(tables, after)?;
     Ok(follow)
 }

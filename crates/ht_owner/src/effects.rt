@@ -9,14 +9,14 @@ ghost use Rattle.ht_tree.specs.Soundness.{Fits};
 ghost use Rattle.ht_tree.specs.Tables as tables_of;
 ghost use Rattle.ht_tree.specs.Tables.{directory};
 
-use crate::faults::fault;
-use crate::moving::moved;
+use crate::faults::{fault, no_output};
+use crate::moving::{ending, moved};
 use crate::naming::{forwarded, persons_named, with_named, without_named};
 use crate::{ActRefusal, Follow};
-use ht_base::{Command, Memory, Name, Person, RoleList};
+use ht_base::{Command, Memory, Moment, Name, Parts, Person, RoleList};
 use ht_models::Model;
 use ht_people::Directory;
-use ht_tree::{Plan, Row, Tables};
+use ht_tree::{Comment, Plan, Row, Tables, values_given};
 use std::alloc::Global;
 
 /// What a caller's command makes of the row of a task of this model, and what follows.
@@ -26,6 +26,7 @@ pub(crate) fn effect(
     plan: &Plan,
     model: &Model,
     caller: Person,
+    at: Moment,
     command: &Command,
     row: Row,
 ) -> Result<(Row, Follow), ActRefusal>
@@ -33,15 +34,23 @@ pub(crate) fn effect(
     requires row { Fits tables.now.tables row }
     requires model { tables_of.model_of tables.now.tables row ≡ Some (model_of model.now) }
     requires kinds { IsKinded model.now }
-    ensures { Gives (spec.effect (directory tables.now.tables) (model_of model.now) caller command.now row) result }
+    ensures { Gives (spec.effect (directory tables.now.tables) (model_of model.now) caller at command.now row) result }
 {
     if let Some(refusal) = fault(alloc, tables, plan, model, &row, command)? {
         return Err(ActRefusal::Refused(refusal));
     }
     let people = tables.people();
-    let named = named_owner(people, caller, command);
-    let row = prepared(alloc, people, caller, row, command)?;
-    Ok((moved(row, command.op(), caller, named), following(command)))
+    let row = prepared(alloc, people, model, caller, at, command, row)?;
+    if let Some(refusal) = no_output(model, &row, command) {
+        return Err(ActRefusal::Refused(refusal));
+    }
+    match ending(row.state, command.op()) {
+        Some(end) => Ok((row, Follow::Close(end))),
+        None => {
+            let named = named_owner(people, caller, command);
+            Ok((moved(row, command.op(), caller, named), following(command)))
+        }
+    }
 }
 
 // The person whom a command names as the owner.
@@ -50,16 +59,7 @@ fn named_owner(people: &Directory, caller: Person, command: &Command) -> Person
 {
     match command {
         Command::Delegate { person } => people.find(*person).unwrap_or(caller),
-        Command::Create { .. } => caller,
-        Command::Claim => caller,
-        Command::Start => caller,
-        Command::Stop => caller,
-        Command::Release => caller,
-        Command::Forward { .. } => caller,
-        Command::Nominate { .. } => caller,
-        Command::Activate => caller,
-        Command::SetRole { .. } => caller,
-        Command::SetPriority { .. } => caller,
+        _ => caller,
     }
 }
 
@@ -76,12 +76,14 @@ fn following(command: &Command) -> Follow
 fn prepared(
     alloc: Global,
     people: &Directory,
+    model: &Model,
     caller: Person,
-    row: Row,
+    at: Moment,
     command: &Command,
+    row: Row,
 ) -> Result<Row, Memory>
     requires { AllBelow (length people.now.persons) row.potential_owners }
-    ensures { IfOk result (λ r. r ≡ spec.prepared people.now caller row command.now) }
+    ensures { IfOk result (λ r. r ≡ spec.prepared people.now (model_of model.now) caller at command.now row) }
 {
     let mut row = row;
     match command {
@@ -99,14 +101,36 @@ fn prepared(
             return with_role(alloc, people, row, *role, persons.as_slice());
         }
         Command::SetPriority { priority } => row.priority = *priority,
-        Command::Create { .. } => {}
-        Command::Claim => {}
-        Command::Start => {}
-        Command::Stop => {}
-        Command::Release => {}
-        Command::Activate => {}
+        Command::SetOutput { output } => return with_output(alloc, people, model, row, output),
+        Command::Complete { output } => return with_output(alloc, people, model, row, output),
+        Command::Fail { fault } => row.fault = *fault,
+        Command::AddComment { text } => {
+            let text = text.copy(alloc)?;
+            let comment = Comment {
+                moment: at,
+                person: caller,
+                text,
+            };
+            row.comments.push(alloc, comment)?;
+        }
+        _ => {}
     }
     Ok(row)
+}
+
+// The row with these parts of its output.
+fn with_output(
+    alloc: Global,
+    people: &Directory,
+    model: &Model,
+    row: Row,
+    output: &Parts,
+) -> Result<Row, Memory>
+    ensures { IfOk result (λ r. r ≡ spec.with_output people.now (model_of model.now) row output.now) }
+{
+    let given = values_given(alloc, people, &model.output, output)?;
+    let output = row.output.updated(given)?;
+    Ok(Row { output, ..row })
 }
 
 // The row with other persons in a role.

@@ -7,11 +7,16 @@ ghost use Rattle.ht_tree.specs.Soundness.{Fits};
 ghost use Rattle.ht_tree.specs.Tables as tables_of;
 ghost use Rattle.ht_tree.specs.Tables.{directory};
 
-use ht_base::{Command, Memory, Name, Person, Persons, Refusal, RoleList, Unknown};
-use ht_models::{Delegation, Model};
+use ht_base::{
+    Command, Limit, Memory, Name, Parts, Person, Persons, Refusal, RoleList, Unknown, Values,
+};
+use ht_models::{Delegation, Model, Part};
 use ht_people::Directory;
-use ht_tree::{Plan, Row, Tables, resolve};
+use ht_tree::{Plan, Row, Tables, refused_part, resolve};
 use std::alloc::Global;
+
+/// The most comments on a task.
+const MOST_COMMENTS: usize = 32;
 
 /// Why a command on a task of this model isn't done, if it isn't.
 pub(crate) fn fault(
@@ -58,6 +63,15 @@ pub(crate) fn fault(
             Ok(role_fault(people, model, row, *role, persons.as_slice()))
         }
         Command::SetPriority { .. } => Ok(None),
+        Command::Suspend => Ok(None),
+        Command::Resume => Ok(None),
+        Command::SetOutput { output } => Ok(first(&[output_refused(people, model, output)])),
+        Command::Complete { output } => Ok(first(&[output_refused(people, model, output)])),
+        Command::Fail { .. } => Ok(None),
+        Command::Skip => Ok(first(&[not_skipable(model)])),
+        Command::Exit => Ok(None),
+        Command::Error => Ok(None),
+        Command::AddComment { .. } => Ok(first(&[fully_commented(row)])),
     }
 }
 
@@ -122,6 +136,57 @@ fn by_group(row: &Row) -> Option<Refusal>
     } else {
         None
     }
+}
+
+fn output_refused(people: &Directory, model: &Model, output: &Parts) -> Option<Refusal>
+    ensures { result ≡ spec.output_refused people.now (model_of model.now) output.now }
+{
+    match refused_part(people, false, &model.output, output) {
+        Some(part) => Some(Refusal::PartRefused(part)),
+        None => None,
+    }
+}
+
+fn not_skipable(model: &Model) -> Option<Refusal>
+    ensures { result ≡ spec.not_skipable (model_of model.now) }
+{
+    if model.skipable {
+        None
+    } else {
+        Some(Refusal::NotSkipable)
+    }
+}
+
+fn fully_commented(row: &Row) -> Option<Refusal>
+    ensures { result ≡ spec.fully_commented row.now }
+{
+    if row.comments.count() < MOST_COMMENTS {
+        None
+    } else {
+        Some(Refusal::Limit(Limit::Comments))
+    }
+}
+
+/// The first part of the output without a value that it must have, of a task that is to be completed
+/// and whose output was set.
+pub(crate) fn no_output(model: &Model, row: &Row, command: &Command) -> Option<Refusal>
+    ensures { result ≡ spec.no_output (model_of model.now) row.now command.now }
+{
+    match command {
+        Command::Complete { .. } => unset_output(&model.output, &row.output),
+        _ => None,
+    }
+}
+
+fn unset_output(parts: &[Part], output: &Values) -> Option<Refusal>
+    ensures { result ≡ spec.first_unset output.now parts.now }
+{
+    for part in parts {
+        if !part.optional && output.value_of(&part.name).is_none() {
+            return Some(Refusal::NoOutput(part.name));
+        }
+    }
+    None
 }
 
 // The first of the names that is no person's.

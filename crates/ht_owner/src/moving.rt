@@ -2,7 +2,7 @@ ghost use Rattle.std.specs.Prelude.{◌≡◌};
 ghost use Rattle.ht_owner.specs.Moving as spec;
 
 use ht_base::{Op, Person, Persons, State};
-use ht_rules::{After, Change, OwnerAfter, SUSPENDED, next};
+use ht_rules::{After, Change, FINAL, OwnerAfter, SUSPENDED, next};
 use ht_tree::{Row, owner_by, state_by};
 
 const UNCHANGED: Change = Change {
@@ -29,6 +29,17 @@ pub(crate) fn moved(row: Row, op: Op, caller: Person, named: Person) -> Row
         row.until = None;
     }
     row
+}
+
+/// The state in which an operation ends a task that is in this one, if it does.
+pub(crate) fn ending(state: State, op: Op) -> Option<State>
+    ensures { result ≡ spec.ending state op }
+{
+    let change = next(state, op).unwrap_or(UNCHANGED);
+    match change.after {
+        After::To(end) if FINAL.contains(end) => Some(end),
+        _ => None,
+    }
 }
 
 fn state_after(after: After, owners: &Persons, state: State) -> State

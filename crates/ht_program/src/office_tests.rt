@@ -92,7 +92,67 @@ dan GET /tasks/1 => 200 OK => {\"administrators\":[],\"byGroup\":false,\"comment
     \"created\":1000,\"excludedOwners\":[],\"fault\":null,\"initiator\":\"dan\",\"input\":{},\
     \"lastOwner\":null,\"model\":\"pair\",\"output\":{},\"owner\":null,\"parent\":null,\
     \"potentialOwners\":[\"ben\",\"cora\"],\"priority\":5,\"stakeholders\":[],\"started\":true,\
-    \"state\":\"Ready\",\"subs\":[],\"task\":1,\"until\":null,\"waits\":null}";
+    \"state\":\"Ready\",\"subs\":[],\"task\":1,\"until\":null,\"waits\":null}
+
+dan POST /tasks {\"model\":\"ballot\"} => 201 Created => {\"owner\":null,\"state\":\"Ready\",\
+    \"task\":1}
+anna POST /tasks/1/start => 200 OK => {\"owner\":\"anna\",\"state\":\"InProgress\",\"task\":1}
+anna POST /tasks/1/complete => 422 Unprocessable Entity => {\"fault\":\"NoOutput\",\
+    \"part\":\"vote\"}
+anna POST /tasks/1/suspend => 200 OK => {\"owner\":\"anna\",\"state\":\"SuspendedInProgress\",\
+    \"task\":1}
+anna POST /tasks/1/resume {} => 200 OK => {\"owner\":\"anna\",\"state\":\"InProgress\",\"task\":1}
+anna POST /tasks/1/setOutput {\"output\":{}} => 400 Bad Request => {\"fault\":\"Field\",\
+    \"field\":\"output\"}
+anna POST /tasks/1/setOutput {\"output\":{\"vote\":\"no\"}} => 200 OK => {\"owner\":\"anna\",\
+    \"state\":\"InProgress\",\"task\":1}
+anna POST /tasks/1/complete {\"output\":{\"vote\":\"yes\"}} => 200 OK => {\"owner\":null,\
+    \"state\":\"Completed\",\"task\":1}
+root POST /tasks/1/exit => 409 Conflict => {\"allowed\":[\"Created\",\"Ready\",\"Reserved\",\
+    \"InProgress\",\"SuspendedReady\",\"SuspendedReserved\",\"SuspendedInProgress\"],\
+    \"fault\":\"State\",\"state\":\"Completed\"}
+dan POST /tasks/1/addComment {\"text\":\"\\\"done\\\"\"} => 200 OK => {\"owner\":null,\
+    \"state\":\"Completed\",\"task\":1}
+dan GET /tasks/1 => 200 OK => {\"administrators\":[],\"byGroup\":true,\
+    \"comments\":[{\"moment\":10000,\"person\":\"dan\",\"text\":\"\\\"done\\\"\"}],\
+    \"created\":1000,\"excludedOwners\":[],\"fault\":null,\"initiator\":\"dan\",\"input\":{},\
+    \"lastOwner\":\"anna\",\"model\":\"ballot\",\"output\":{\"vote\":\"yes\"},\"owner\":null,\
+    \"parent\":null,\"potentialOwners\":[\"anna\",\"ben\"],\"priority\":5,\"stakeholders\":[],\
+    \"started\":true,\"state\":\"Completed\",\"subs\":[],\"task\":1,\"until\":null,\"waits\":null}
+
+dan POST /tasks {\"model\":\"solo\"} => 201 Created => {\"owner\":\"anna\",\
+    \"state\":\"Reserved\",\"task\":1}
+dan POST /tasks/1/skip => 422 Unprocessable Entity => {\"fault\":\"NotSkipable\"}
+anna POST /tasks/1/start => 200 OK => {\"owner\":\"anna\",\"state\":\"InProgress\",\"task\":1}
+anna POST /tasks/1/fail {\"fault\":\"torn\"} => 200 OK => {\"owner\":null,\"state\":\"Failed\",\
+    \"task\":1}
+root POST /tasks/1/error => 409 Conflict => {\"allowed\":[\"Created\",\"Ready\",\"Reserved\",\
+    \"InProgress\",\"SuspendedReady\",\"SuspendedReserved\",\"SuspendedInProgress\"],\
+    \"fault\":\"State\",\"state\":\"Failed\"}
+anna GET /tasks/1 => 200 OK => {\"administrators\":[],\"byGroup\":false,\"comments\":[],\
+    \"created\":1000,\"excludedOwners\":[],\"fault\":\"torn\",\"initiator\":\"dan\",\"input\":{},\
+    \"lastOwner\":\"anna\",\"model\":\"solo\",\"output\":{},\"owner\":null,\"parent\":null,\
+    \"potentialOwners\":[\"anna\"],\"priority\":5,\"stakeholders\":[],\"started\":true,\
+    \"state\":\"Failed\",\"subs\":[],\"task\":1,\"until\":null,\"waits\":null}
+
+dan POST /tasks {\"model\":\"unit\"} => 201 Created => {\"owner\":null,\"state\":\"Ready\",\
+    \"task\":1}
+dan POST /tasks {\"model\":\"unit\"} => 201 Created => {\"owner\":null,\"state\":\"Ready\",\
+    \"task\":2}
+anna POST /tasks/1/claim {\"device\":1,\"number\":5} => 200 OK => {\"owner\":\"anna\",\
+    \"state\":\"Reserved\",\"task\":1}
+anna POST /tasks/1/claim {\"device\":1,\"number\":5} => 200 OK => {\"owner\":\"anna\",\
+    \"state\":\"Reserved\",\"task\":1}
+anna POST /tasks/1/claim {\"device\":1,\"number\":4} => 409 Conflict => {\"fault\":\
+    \"NumberStale\",\"last\":5}
+anna POST /tasks/2/claim {\"device\":1,\"number\":5} => 409 Conflict => {\"fault\":\
+    \"NumberReused\",\"last\":5}
+dan GET /tasks/2 => 200 OK => {\"administrators\":[\"cora\"],\"byGroup\":true,\"comments\":[],\
+    \"created\":2000,\"excludedOwners\":[],\"fault\":null,\"initiator\":\"dan\",\"input\":{},\
+    \"lastOwner\":null,\"model\":\"unit\",\"output\":{},\"owner\":null,\"parent\":null,\
+    \"potentialOwners\":[\"anna\",\"ben\"],\"priority\":5,\"stakeholders\":[],\
+    \"started\":false,\"state\":\"Ready\",\"subs\":[],\"task\":2,\"until\":null,\
+    \"waits\":null}";
 
 // The bytes of a request: who sends it, its method, its path, and its body behind a blank.
 fn request(alloc: Global, line: &str) -> Result<String, Fail> {

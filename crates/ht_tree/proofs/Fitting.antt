@@ -14,7 +14,8 @@ use Rattle.ht_tree.specs.Assigning.{Sight, is_found, potential_owners, resolved}
 use Rattle.ht_tree.specs.declared.comments.Comment.{Comment}
 use Rattle.std.specs.List.{All}
 use Rattle.ht_tree.specs.Creating.{IsInput, bare_row, level_of, new_row, parent_row, role_or, seen, with_priority}
-use Rattle.ht_tree.specs.Plans.{Follow, IsPlanOf, PlanOf, last_of, later_or, planned}
+use Rattle.ht_tree.specs.Plans.{Follow, IsPlanOf, PlanOf, planned}
+use Rattle.ht_tree.specs.Places.{emptied, last_of, later_or}
 use Rattle.ht_tree.specs.Rows.{put_in, row_at}
 use Rattle.ht_base.specs.Persons.{AllBelow, Ascends}
 use Rattle.ht_base.specs.Moment.{last_moment}
@@ -175,3 +176,28 @@ put_fits t rows (p ∷ puts) task row f at = here (last_of task puts) (p.task.0 
     here (Some r) b e rest = let same : r ≡ row = cc in let P : Row → Type 0 = λ x. Fits t x in subst P same (rest r refl)
     here None true e rest = let same : p ≡ row = cc in let P : Row → Type 0 = λ x. Fits t x in subst P same f.1
     here None false e rest = cc
+
+-- ---- an emptied row
+
+emptied_held : (models : List ModelOf) (persons place : ℕ) → IfSome (slice_get models place) (λ m. IsHeldBy persons m [] [] [])
+emptied_held models persons place = at (slice_get models place)
+  where
+    at : (o : Option ModelOf) → IfSome o (λ m. IsHeldBy persons m [] [] [])
+    at None = tt
+    at (Some m) = record {
+      input = record { declared = refl; known = refl; texts_within = refl; moments_within = refl };
+      output = record { declared = refl; known = refl; texts_within = refl; moments_within = refl };
+      taken = tt;
+      taken_ascend = tt;
+    }
+
+pub emptied_fits : (t : TablesOf) (row : Row) → Fits t row → Fits t (emptied row)
+emptied_fits t row fits = record {
+  filed = fits.filed;
+  held = emptied_held t.models (length t.people.persons) row.model;
+  who = record { initiator = (fits.who).initiator; last_owner = tt; potential_owners = tt; excluded_owners = tt; administrators = tt; stakeholders = tt };
+  owner = tt;
+  commenters = no_comment _;
+  waits = λ h. absurd cc;
+  until = λ h. absurd cc;
+}

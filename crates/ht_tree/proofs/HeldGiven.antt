@@ -1,9 +1,9 @@
 -- What is given for parts may be held: its values are of declared parts and of their kinds.
-use Rattle.std.proofs.Common.{◌≡◌, ℕ, ◌+◌, nat_lt, Bool, true, false, cond, if◌then◌else◌, List, [], ◌∷◌, ◌++◌, length, map, bytes_eq, Option, Some, None, option_map, refl, ap, subst, arith}
+use Rattle.std.proofs.Common.{◌≡◌, ℕ, ◌+◌, nat_lt, Bool, true, false, ◌&&◌, cond, if◌then◌else◌, List, [], ◌∷◌, ◌++◌, length, map, bytes_eq, Option, Some, None, option_map, refl, ap, subst, arith}
 use Rattle.std.specs.Prelude.{pos, negsuc}
 use Rattle.std.specs.List.{list_all}
 use Rattle.std.specs.Option.{option_and_then}
-use Rattle.std.proofs.lemmas.List.{length-map}
+use Rattle.std.proofs.lemmas.List.{append-nil, length-map}
 use Rattle.std.proofs.lemmas.Bool.{and_parts}
 use Rattle.std.proofs.lemmas.Bool.Decides.{nat_tests}
 use Rattle.ht_base.specs.declared.kind.Kind.{Kind}
@@ -17,10 +17,12 @@ use Rattle.ht_base.specs.Moment.{last_moment}
 use Rattle.ht_base.specs.Events as events
 use Rattle.ht_base.specs.Events.{AreGiven}
 use Rattle.ht_base.specs.Name.{name_of}
+use Rattle.ht_base.specs.Values.{is_before, put, updated}
 use Rattle.ht_base.proofs.PublicLaws.{found_within}
+use Rattle.ht_expr.specs.declared.kinds.Side.{Side}
 use Rattle.ht_expr.specs.declared.kinds.Side.TheVariants.{Input, Output}
 use Rattle.ht_expr.specs.Environment.{may_be}
-use Rattle.ht_expr.specs.Kinds.{Declared, declared_kind}
+use Rattle.ht_expr.specs.Kinds.{Declared, declared_kind, same_side}
 use Rattle.ht_models.specs.Kinded.{parts_of}
 use Rattle.ht_models.specs.Parts.{Part}
 use Rattle.ht_people.specs.declared.entries.PersonEntry.{PersonEntry}
@@ -30,14 +32,23 @@ use Rattle.ht_tree.specs.Giving.{moment_given, part_named, value_of, values_give
 use Rattle.ht_tree.specs.Soundness.{AreHeld, is_declared, is_known, is_short, is_timely}
 use Rattle.ht_tree.proofs.Selecting.{below_is}
 
+-- the kind of each part is the one that is declared for it
+abbrev DeclaresOf : Declared → Side → List Part → Type 0
+DeclaresOf kinds side parts = (name : List ℕ) (p : Part) → part_named name parts ≡ Some p → declared_kind kinds side name ≡ Some p.kind
+
 -- the first part of a name is the one that is declared first
-kind_named : (name : List ℕ) (parts : List Part) (rest : Declared) (p : Part) → part_named name parts ≡ Some p → declared_kind (map (λ q. (Input, q.name, q.kind)) parts ++ rest) Input name ≡ Some p.kind
-kind_named name [] rest p is = cc
-kind_named name (q ∷ parts) rest p is = at (bytes_eq q.name name) refl is (kind_named name parts rest p)
+declares : (side : Side) (parts : List Part) (rest : Declared) → same_side side side ≡ true → DeclaresOf (map (λ q. (side, q.name, q.kind)) parts ++ rest) side parts
+declares side [] rest own name p is = cc
+declares side (q ∷ parts) rest own name p is = at (bytes_eq q.name name) refl is (declares side parts rest own name p)
   where
-    at : (b : Bool) → bytes_eq q.name name ≡ b → cond b (Some q) (part_named name parts) ≡ Some p → (part_named name parts ≡ Some p → declared_kind (map (λ x. (Input, x.name, x.kind)) parts ++ rest) Input name ≡ Some p.kind) → (if b then Some q.kind else declared_kind (map (λ x. (Input, x.name, x.kind)) parts ++ rest) Input name) ≡ Some p.kind
-    at true e h later = let same : q ≡ p = cc in ap (λ (x : Part). Some x.kind) same
-    at false e h later = later h
+    at : (b : Bool) → bytes_eq q.name name ≡ b → cond b (Some q) (part_named name parts) ≡ Some p → (part_named name parts ≡ Some p → declared_kind (map (λ x. (side, x.name, x.kind)) parts ++ rest) side name ≡ Some p.kind) → (if same_side side side && b then Some q.kind else declared_kind (map (λ x. (side, x.name, x.kind)) parts ++ rest) side name) ≡ Some p.kind
+    at true e h later = let same : q ≡ p = cc in rw own (ap (λ (x : Part). Some x.kind) same)
+    at false e h later = rw own (later h)
+
+-- parts of the other side in front of them declare nothing of them
+behind_other : (side other : Side) (front : List Part) (rest : Declared) (parts : List Part) → same_side other side ≡ false → DeclaresOf rest side parts → DeclaresOf (map (λ q. (other, q.name, q.kind)) front ++ rest) side parts
+behind_other side other [] rest parts apart all = all
+behind_other side other (q ∷ front) rest parts apart all = λ name p is. let later = behind_other side other front rest parts apart all name p is in rw apart later
 
 -- ---- one value
 
@@ -113,15 +124,14 @@ given_fine d kind.Instant name s v short is = fine_instant d name (moment_given 
 
 -- ---- all values
 
-record AreFine (d : DirectoryOf) (kinds : Declared) (vs : List (List ℕ × Value)) : Type 0 where
-  declared : list_all (is_declared kinds Input) vs ≡ true
+record AreFine (d : DirectoryOf) (kinds : Declared) (side : Side) (vs : List (List ℕ × Value)) : Type 0 where
+  declared : list_all (is_declared kinds side) vs ≡ true
   known : list_all (is_known (length d.persons)) vs ≡ true
   short : list_all (is_short 512) vs ≡ true
   timely : list_all is_timely vs ≡ true
 
-one_more : (d : DirectoryOf) (parts : List Part) (rest : Declared) (p : Part) (name : List ℕ) (v : Value) (vs : List (List ℕ × Value)) → part_named name parts ≡ Some p → IsFine d p.kind name v → AreFine d (map (λ q. (Input, q.name, q.kind)) parts ++ rest) vs → AreFine d (map (λ q. (Input, q.name, q.kind)) parts ++ rest) ((name, v) ∷ vs)
-one_more d parts rest p name v vs is fine all =
-    let kind = kind_named name parts rest p is in
+one_more : (d : DirectoryOf) (kinds : Declared) (side : Side) (k : Kind) (name : List ℕ) (v : Value) (vs : List (List ℕ × Value)) → declared_kind kinds side name ≡ Some k → IsFine d k name v → AreFine d kinds side vs → AreFine d kinds side ((name, v) ∷ vs)
+one_more d kinds side k name v vs kind fine all =
     record {
       declared = rw (kind, fine.of_kind) all.declared;
       known = rw fine.known all.known;
@@ -129,21 +139,57 @@ one_more d parts rest p name v vs is fine all =
       timely = rw fine.timely all.timely;
     }
 
-all_fine : (d : DirectoryOf) (parts : List Part) (rest : Declared) (given : List (List ℕ × Scalar)) → list_all (events.is_short 512) given ≡ true → AreFine d (map (λ q. (Input, q.name, q.kind)) parts ++ rest) (values_given d parts given)
-all_fine d parts rest [] short = record { declared = refl; known = refl; short = refl; timely = refl }
-all_fine d parts rest (g ∷ given) short =
+all_fine : (d : DirectoryOf) (kinds : Declared) (side : Side) (parts : List Part) (given : List (List ℕ × Scalar)) → DeclaresOf kinds side parts → list_all (events.is_short 512) given ≡ true → AreFine d kinds side (values_given d parts given)
+all_fine d kinds side parts [] of short = record { declared = refl; known = refl; short = refl; timely = refl }
+all_fine d kinds side parts (g ∷ given) of short =
     let both = and_parts (events.is_short 512 g) (list_all (events.is_short 512) given) short in
-    at (part_named g.0 parts) refl both.0 (all_fine d parts rest given both.1)
+    at (part_named g.0 parts) refl both.0 (all_fine d kinds side parts given of both.1)
   where
-    by_value : (p : Part) (o : Option Value) → part_named g.0 parts ≡ Some p → value_of d p.kind g.1 ≡ o → events.is_short 512 g ≡ true → AreFine d (map (λ q. (Input, q.name, q.kind)) parts ++ rest) (values_given d parts given) → AreFine d (map (λ q. (Input, q.name, q.kind)) parts ++ rest) (values_given d parts (g ∷ given))
+    by_value : (p : Part) (o : Option Value) → part_named g.0 parts ≡ Some p → value_of d p.kind g.1 ≡ o → events.is_short 512 g ≡ true → AreFine d kinds side (values_given d parts given) → AreFine d kinds side (values_given d parts (g ∷ given))
     by_value p None named is low all = rw (named, is) all
-    by_value p (Some v) named is low all = rw (named, is) (one_more d parts rest p g.0 v (values_given d parts given) named (given_fine d p.kind g.0 g.1 v low is) all)
+    by_value p (Some v) named is low all = rw (named, is) (one_more d kinds side p.kind g.0 v (values_given d parts given) (of g.0 p named) (given_fine d p.kind g.0 g.1 v low is) all)
 
-    at : (o : Option Part) → part_named g.0 parts ≡ o → events.is_short 512 g ≡ true → AreFine d (map (λ q. (Input, q.name, q.kind)) parts ++ rest) (values_given d parts given) → AreFine d (map (λ q. (Input, q.name, q.kind)) parts ++ rest) (values_given d parts (g ∷ given))
+    at : (o : Option Part) → part_named g.0 parts ≡ o → events.is_short 512 g ≡ true → AreFine d kinds side (values_given d parts given) → AreFine d kinds side (values_given d parts (g ∷ given))
     at None named low all = rw named all
     at (Some p) named low all = by_value p (value_of d p.kind g.1) named refl low all
 
 pub given_held : (d : DirectoryOf) (input output : List Part) (given : List (List ℕ × Scalar)) → AreGiven given → AreHeld (parts_of input output) (length d.persons) Input (values_given d input given)
 given_held d input output given are =
-    let all = all_fine d input (map (λ q. (Output, q.name, q.kind)) output) given are.short in
+    let rest = map (λ q. (Output, q.name, q.kind)) output in
+    let all = all_fine d (parts_of input output) Input input given (declares Input input rest refl) are.short in
     record { declared = all.declared; known = all.known; texts_within = all.short; moments_within = all.timely }
+
+pub given_output_held : (d : DirectoryOf) (input output : List Part) (given : List (List ℕ × Scalar)) → AreGiven given → AreHeld (parts_of input output) (length d.persons) Output (values_given d output given)
+given_output_held d input output given are =
+    let outputs : Declared = map (λ q. (Output, q.name, q.kind)) output in
+    let P : Declared → Type 0 = λ kinds. DeclaresOf kinds Output output in
+    let own : P outputs = subst P (append-nil outputs) (declares Output output [] refl) in
+    let all = all_fine d (parts_of input output) Output output given (behind_other Output Input input outputs output refl own) are.short in
+    record { declared = all.declared; known = all.known; texts_within = all.short; moments_within = all.timely }
+
+-- ---- values that are set again
+
+all_put : (test : List ℕ × Value → Bool) (name : List ℕ) (v : Value) (vs : List (List ℕ × Value)) → test (name, v) ≡ true → list_all test vs ≡ true → list_all test (put name v vs) ≡ true
+all_put test name v [] one all = rw one refl
+all_put test name v (w ∷ ws) one all =
+    let both = and_parts (test w) (list_all test ws) all in
+    at (is_before w.0 name) refl (bytes_eq w.0 name) refl both.0 both.1 (all_put test name v ws one both.1)
+  where
+    at : (b : Bool) → is_before w.0 name ≡ b → (e : Bool) → bytes_eq w.0 name ≡ e → test w ≡ true → list_all test ws ≡ true → list_all test (put name v ws) ≡ true → list_all test (put name v (w ∷ ws)) ≡ true
+    at true is e same first rest later = rw (is, first) later
+    at false is true same first rest later = rw (is, same, one) rest
+    at false is false same first rest later = rw (is, same, one, first) rest
+
+all_updated : (test : List ℕ × Value → Bool) (vs given : List (List ℕ × Value)) → list_all test vs ≡ true → list_all test given ≡ true → list_all test (updated vs given) ≡ true
+all_updated test vs [] old new = old
+all_updated test vs (g ∷ given) old new =
+    let both = and_parts (test g) (list_all test given) new in
+    all_updated test (put g.0 g.1 vs) given (all_put test g.0 g.1 vs both.0 old) both.1
+
+pub updated_held : (kinds : Declared) (persons : ℕ) (side : Side) (vs given : List (List ℕ × Value)) → AreHeld kinds persons side vs → AreHeld kinds persons side given → AreHeld kinds persons side (updated vs given)
+updated_held kinds persons side vs given old new = record {
+  declared = all_updated (is_declared kinds side) vs given old.declared new.declared;
+  known = all_updated (is_known persons) vs given old.known new.known;
+  texts_within = all_updated (is_short 512) vs given old.texts_within new.texts_within;
+  moments_within = all_updated is_timely vs given old.moments_within new.moments_within;
+}

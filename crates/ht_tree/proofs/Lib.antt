@@ -1,15 +1,20 @@
 mod Activation
 mod Again
+mod Cloning
 mod Counting
 mod Fitting
 mod HeldGiven
+mod Indexing
 mod PartsGiven
+mod Places
 mod Plain
 mod Planning
 pub mod PublicLaws
 mod Putting
+mod Replacing
 mod Rows
 mod Seeing
 mod Selecting
+mod Slots
 mod Sounding
 mod Steps

@@ -12,9 +12,12 @@ use Rattle.ht_tree.specs.Puts.{HaveModels, IsResized}
 use Rattle.ht_tree.specs.Rows.{put_in, row_at}
 use Rattle.ht_tree.specs.Sizes.{most_tasks, size_of, size_under, top_size, total_size}
 use Rattle.ht_tree.specs.Soundness.{IsOfEntry, IsSound, IsSoundRow, model_of_entry}
-use Rattle.ht_tree.specs.Tables.{TablesOf, at_moment, empty_tables, with_row}
+use Rattle.ht_tree.specs.declared.slot.Slot.{Slot}
+use Rattle.ht_tree.specs.Slots.{IsSoundSlot}
+use Rattle.ht_tree.specs.Tables.{TablesOf, at_moment, empty_tables, with_row, with_slot}
 use Rattle.ht_tree.proofs.Counting.{resized_put, total_push}
 use Rattle.ht_tree.proofs.Putting.{length-put_in, row_at-put_in}
+use Rattle.ht_tree.proofs.Slots.{slots_of_more, slots_with_ascend, slots_with_sound}
 
 no_row : (task : ℕ) (row : Row) → row_at task [] ≡ Some row → ⊥
 no_row zero row at = cc
@@ -25,6 +28,8 @@ empty_sound models people = record {
   numbered = λ task row at. absurd (no_row task row at);
   rows_sound = λ task row at. absurd (no_row task row at);
   entries = λ task row at. absurd (no_row task row at);
+  slots_ascend = tt;
+  slots_sound = tt;
   last_within = omega arith;
   tasks_counted = omega arith;
   tasks_within = omega arith;
@@ -57,6 +62,8 @@ push_sound t row sound next top fine some room = record {
   numbered = λ task r at. number task r (behind_is t.rows row r task at);
   rows_sound = λ task r at. sound_row task r (behind_is t.rows row r task at);
   entries = λ task r at. entry task r (behind_is t.rows row r task at);
+  slots_ascend = sound.slots_ascend;
+  slots_sound = let long = length-append t.rows (row ∷ []) in slots_of_more t.people (length t.rows) (length (t.rows ++ row ∷ [])) t.slots (omega arith) sound.slots_sound;
   last_within = sound.last_within;
   tasks_counted =
       let long = length-append t.rows (row ∷ []) in
@@ -106,6 +113,10 @@ put_sound t row sound fine place = record {
   numbered = λ task r at. (in_place task r (row.task.0 == task) refl (sym (row_at-put_in t.rows row task next) ∙ at)).0;
   rows_sound = λ task r at. (in_place task r (row.task.0 == task) refl (sym (row_at-put_in t.rows row task next) ∙ at)).1;
   entries = λ task r at. entry task r (row.task.0 == task) refl (sym (row_at-put_in t.rows row task next) ∙ at);
+  slots_ascend = sound.slots_ascend;
+  slots_sound =
+      let long = length-put_in t.rows row next in
+      slots_of_more t.people (length t.rows) (length (put_in t.rows row)) t.slots (omega arith) sound.slots_sound;
   last_within = sound.last_within;
   tasks_counted =
       let long = length-put_in t.rows row next in
@@ -168,7 +179,23 @@ sound_at t at sound early = record {
   numbered = sound.numbered;
   rows_sound = sound.rows_sound;
   entries = sound.entries;
+  slots_ascend = sound.slots_ascend;
+  slots_sound = sound.slots_sound;
   last_within = early;
+  tasks_counted = sound.tasks_counted;
+  tasks_within = sound.tasks_within;
+}
+
+-- ---- with a reply that is kept
+
+pub slot_sound : (t : TablesOf) (slot : Slot) → IsSound t → IsSoundSlot t.people (length t.rows) slot → IsSound (with_slot t slot)
+slot_sound t slot sound fine = record {
+  numbered = sound.numbered;
+  rows_sound = sound.rows_sound;
+  entries = sound.entries;
+  slots_ascend = slots_with_ascend slot t.slots sound.slots_ascend;
+  slots_sound = slots_with_sound t.people (length t.rows) slot t.slots fine sound.slots_sound;
+  last_within = sound.last_within;
   tasks_counted = sound.tasks_counted;
   tasks_within = sound.tasks_within;
 }

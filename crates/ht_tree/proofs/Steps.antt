@@ -1,17 +1,19 @@
 -- How plans go on, step by step.
-use Rattle.std.proofs.Common.{◌≡◌, ◌≤◌, ℕ, List, refl, sym, ap, subst, ◌∙◌}
+use Rattle.std.proofs.Common.{◌≡◌, ◌≤◌, ℕ, List, Option, None, refl, sym, ap, subst, ◌∙◌}
 use Rattle.std.proofs.lemmas.List.{append-nil}
 use Rattle.ht_base.specs.Moment.{last_moment}
 use Rattle.ht_tree.specs.declared.notice.Notice.{Notice}
 use Rattle.ht_tree.specs.declared.row.Row.{Row}
-use Rattle.ht_tree.specs.Plans.{Goes, IsNext, IsPlanOf, Lends, PlanOf, committed, no_plan, planned}
+use Rattle.ht_tree.specs.declared.slot.Slot.{Slot}
+use Rattle.ht_tree.specs.Plans.{Goes, IsNext, IsPlanOf, Lends, PlanOf, committed, keeping, no_plan, planned, slots_after}
+use Rattle.ht_tree.specs.Slots.{slots_with}
 use Rattle.ht_tree.specs.Soundness.{IsSound, KeepsSound}
-use Rattle.ht_tree.specs.Tables.{TablesOf, with_row}
+use Rattle.ht_tree.specs.Tables.{TablesOf, with_row, with_slot}
 use Rattle.ht_tree.proofs.Sounding.{sound_at}
 
 -- a plan that is left as it is
 pub stays : (t : TablesOf) (p : PlanOf) → IsPlanOf t p → Goes t p p (planned t p) (planned t p)
-stays t p fit = record { from = refl; to = refl; fits = fit; marked = refl }
+stays t p fit = record { from = refl; to = refl; fits = fit; slot = refl; marked = refl }
 
 -- one step and another behind it are one
 pub goes_on : (t : TablesOf) (p q r : PlanOf) (u v w : TablesOf) → Goes t p q u v → Goes t q r v w → Goes t p r u w
@@ -19,6 +21,17 @@ goes_on t p q r u v w first second = record {
   from = first.from;
   to = second.to;
   fits = second.fits;
+  slot = second.slot ∙ first.slot;
+  marked = second.marked ∙ first.marked;
+}
+
+-- a step from where another came
+pub goes_then : (t : TablesOf) (p q r : PlanOf) (u v w : TablesOf) → Goes t p q u v → Goes t q r (planned t q) w → Goes t p r u w
+goes_then t p q r u v w first second = record {
+  from = first.from;
+  to = second.to;
+  fits = second.fits;
+  slot = second.slot ∙ first.slot;
   marked = second.marked ∙ first.marked;
 }
 
@@ -28,7 +41,7 @@ pub planned_nothing : (t : TablesOf) (p : PlanOf) → p ≡ no_plan → planned 
 planned_nothing t p none = ap (λ (q : PlanOf). planned t q) none ∙ ap (λ (l : List Notice). record t { notices = l }) (append-nil t.notices)
 
 pub no_plan_fits : (t : TablesOf) (p : PlanOf) → p ≡ no_plan → IsPlanOf t p
-no_plan_fits t p none = let P : PlanOf → Type 0 = λ q. IsPlanOf t q in subst P (sym none) (record { changes_fit = tt; marked_fit = tt })
+no_plan_fits t p none = let P : PlanOf → Type 0 = λ q. IsPlanOf t q in subst P (sym none) (record { changes_fit = tt; changes_counted = refl; marked_fit = tt; marked_counted = refl })
 
 -- a plan that keeps sound what nothing was planned for yet
 pub committed_sound : (t : TablesOf) (p q : PlanOf) (at : ℕ) → p ≡ no_plan → IsSound t → at ≤ last_moment → KeepsSound (planned t p) (planned t q) → IsSound (committed t q at)
@@ -40,5 +53,15 @@ put_again t old taken new row lends next goes = record {
   from = refl;
   to = goes.to ∙ lends.again row refl next;
   fits = goes.fits;
+  slot = goes.slot ∙ lends.slot;
   marked = goes.marked ∙ lends.marked;
 }
+
+-- ---- a reply that is kept
+
+-- where none is kept yet
+pub keeping_planned : (t : TablesOf) (p : PlanOf) (slot : Slot) → (p.changes).slot ≡ None → planned t (keeping p slot) ≡ with_slot (planned t p) slot
+keeping_planned t p slot none = ap (λ (o : Option Slot). record (planned t p) { slots = slots_with (slots_after t.slots o) slot }) (sym none)
+
+pub keeping_fits : (t : TablesOf) (p : PlanOf) (slot : Slot) → IsPlanOf t p → IsPlanOf t (keeping p slot)
+keeping_fits t p slot fit = record { changes_fit = fit.changes_fit; changes_counted = fit.changes_counted; marked_fit = fit.marked_fit; marked_counted = fit.marked_counted }

@@ -197,7 +197,7 @@ abbrev changed : Row
 changed = record first { state = Ready }
 
 abbrev puts : List Row → ChangesOf
-puts rows = record { rows = rows; notices = []; slot = None }
+puts rows = record { rows = rows; notices = []; totals = None; slot = None }
 
 -- the last row that is put of a task counts
 a_plan : (planned (record nothing_yet { rows = first ∷ [] }) (record { changes = puts (second ∷ changed ∷ []); marked = puts [] })).rows ≡ changed ∷ second ∷ []

@@ -11,6 +11,7 @@ use Rattle.ht_base.specs.declared.value.Value.{Value}
 use Rattle.ht_base.specs.declared.value.Value.TheVariants as values
 use Rattle.ht_base.specs.declared.values.Values.{Values}
 use Rattle.ht_base.specs.Moment.{last_moment}
+use Rattle.ht_base.specs.Values as base
 use Rattle.ht_models.specs.Parts.{Part}
 use Rattle.ht_people.specs.Directory.{DirectoryOf}
 use Rattle.ht_tree.specs.Assigning.{find_user}
@@ -50,7 +51,7 @@ part_named name parts = find (λ p. bytes_eq p.name name) parts
 
 -- what is given for the part of this name
 abbrev pub scalar_at : List ℕ → Parts → Option Scalar
-scalar_at name given = option_map (λ g. g.1) (find (λ g. bytes_eq g.0 name) given)
+scalar_at name given = base.value_of name given
 
 -- the first name of which there is no part
 abbrev pub undeclared : List Part → Parts → Option (List ℕ)

@@ -4,10 +4,13 @@ pub mod Creating
 pub mod Examples
 pub mod Giving
 pub mod Kept
+pub mod KeptIndex
+pub mod Places
 pub mod Plans
 pub mod Puts
 pub mod Roles
 pub mod Rows
 pub mod Sizes
+pub mod Slots
 pub mod Soundness
 pub mod Tables

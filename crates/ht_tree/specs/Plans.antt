@@ -1,18 +1,21 @@
 -- A planned change of the tables: the rows that are put, in order, of which the last of a task counts,
 -- the notifications that are added, and the reply that is kept.
-use Rattle.std.specs.Prelude.{◌≡◌, ℕ, ◌+◌, ◌-◌, ◌≤◌, ◌==◌, List, [], ◌∷◌, ◌++◌, length, fold, Option, Some, None, filter, if◌then◌else◌}
-use Rattle.std.specs.Ordering.{is_gt, is_lt, nat_cmp, ordering_then}
-use Rattle.std.specs.declared.cmp.Ordering.{Ordering}
+use Rattle.std.specs.Prelude.{◌≡◌, ℕ, ◌+◌, ◌-◌, ◌≤◌, ◌<◌, ◌^◌, List, [], ◌∷◌, ◌++◌, length, fold, Option, Some, None, IsTrue, is_some}
 use Rattle.ht_tree.specs.declared.notice.Notice.{Notice}
+use Rattle.ht_tree.specs.declared.plan.Totals.{Totals}
 use Rattle.ht_tree.specs.declared.row.Row.{Row}
 use Rattle.ht_tree.specs.declared.slot.Slot.{Slot}
 use Rattle.ht_tree.specs.Rows.{put_in, row_at}
+use Rattle.ht_tree.specs.Sizes.{top_size, total_size}
+use Rattle.ht_tree.specs.Slots.{slots_with}
 use Rattle.ht_tree.specs.Soundness.{Fits}
 use Rattle.ht_tree.specs.Tables.{RoomyTables, TablesOf, at_moment, with_row}
 
+-- They note how many tasks there are after them, from the first row on.
 pub record ChangesOf : Type 0 where
   pub rows : List Row
   pub notices : List Notice
+  pub totals : Option Totals
   pub slot : Option Slot
 
 -- the changes, and those at the last mark, to which the plan can go back
@@ -20,44 +23,34 @@ pub record PlanOf : Type 0 where
   pub changes : ChangesOf
   pub marked : ChangesOf
 
-abbrev pub changes_of : List Row → ChangesOf
-changes_of rows = record { rows = rows; notices = []; slot = None }
+abbrev pub changes_of : List Row → Option Totals → Option Slot → ChangesOf
+changes_of rows totals slot = record { rows = rows; notices = []; totals = totals; slot = slot }
 
 -- nothing is changed
 abbrev pub no_plan : PlanOf
-no_plan = record { changes = changes_of []; marked = changes_of [] }
+no_plan = record { changes = changes_of [] None None; marked = changes_of [] None None }
+
+-- with this reply as the one that is kept
+abbrev pub keeping : PlanOf → Slot → PlanOf
+keeping p slot = record p { changes = record p.changes { slot = Some slot } }
 
 -- ---- after the changes
 
--- slots stand in the order of their persons and devices
-abbrev pub slot_cmp : Slot → Slot → Ordering
-slot_cmp a b = ordering_then (nat_cmp a.person b.person) (nat_cmp a.device b.device)
-
--- the slots with this one in the place of its person and device
-abbrev pub slots_with : List Slot → Option Slot → List Slot
-slots_with slots None = slots
-slots_with slots (Some slot) = filter (λ s. is_lt (slot_cmp s slot)) slots ++ slot ∷ filter (λ s. is_gt (slot_cmp s slot)) slots
+abbrev pub slots_after : List Slot → Option Slot → List Slot
+slots_after slots None = slots
+slots_after slots (Some slot) = slots_with slots slot
 
 -- the tables as they would be after the plan
 abbrev pub planned : TablesOf → PlanOf → TablesOf
 planned t p = record t {
   rows = fold put_in t.rows (p.changes).rows;
   notices = t.notices ++ (p.changes).notices;
-  slots = slots_with t.slots (p.changes).slot;
+  slots = slots_after t.slots (p.changes).slot;
 }
 
 -- the tables after the plan is committed at a moment
 abbrev pub committed : TablesOf → PlanOf → ℕ → TablesOf
 committed t p at = at_moment (planned t p) at
-
--- the last row that is put of a task
-abbrev pub later_or : Option Row → Option Row → Option Row
-later_or None earlier = earlier
-later_or (Some row) earlier = Some row
-
-abbrev pub last_of : ℕ → List Row → Option Row
-last_of task [] = None
-last_of task (row ∷ puts) = later_or (last_of task puts) (if row.task.0 == task then Some row else None)
 
 -- ---- what fits
 
@@ -70,25 +63,39 @@ abbrev pub Follow : TablesOf → List Row → List Row → Type 0
 Follow t rows [] = Unit {0}
 Follow t rows (row ∷ puts) = IsNext rows row × Fits t row × Follow t (put_in rows row) puts
 
+-- there are as many of these rows as is noted, and as many tasks in the trees of all top tasks
+pub record AreTotals (t : TablesOf) (after : List Row) (n : Totals) : Type 0 where
+  pub rows : n.rows ≡ length after
+  pub size : n.size ≡ total_size t.models after
+  pub small : (task : ℕ) (row : Row) → row_at task after ≡ Some row → top_size t.models row < 2 ^ 32
+
+abbrev pub AreCounted : TablesOf → List Row → Option Totals → Type 0
+AreCounted t puts None = puts ≡ []
+AreCounted t puts (Some n) = AreTotals t (fold put_in t.rows puts) n
+
 -- a plan fits tables: so do its changes, and those at its mark
 pub record IsPlanOf (t : TablesOf) (p : PlanOf) : Type 0 where
   pub changes_fit : Follow t t.rows (p.changes).rows
+  pub changes_counted : AreCounted t (p.changes).rows (p.changes).totals
   pub marked_fit : Follow t t.rows (p.marked).rows
+  pub marked_counted : AreCounted t (p.marked).rows (p.marked).totals
 
 -- ---- a step of plans
 
--- A plan of t goes on: from the planned tables u to the planned tables v, and it still fits. What
--- it can go back to stays.
+-- A plan of t goes on by rows: from the planned tables u to the planned tables v, and it still fits.
+-- The reply that it keeps stays, and what it can go back to.
 pub record Goes (t : TablesOf) (old new : PlanOf) (u v : TablesOf) : Type 0 where
   pub from : planned t old ≡ u
   pub to : planned t new ≡ v
   pub fits : IsPlanOf t new
+  pub slot : (new.changes).slot ≡ (old.changes).slot
   pub marked : new.marked ≡ old.marked
 
 -- The plan lends a task's row: whichever row of the task is put next, the tables would be as if it were
 -- put behind the plan as it was.
 pub record Lends (t : TablesOf) (old new : PlanOf) (task : ℕ) : Type 0 where
   pub fits : IsPlanOf t new
+  pub slot : (new.changes).slot ≡ (old.changes).slot
   pub marked : new.marked ≡ old.marked
   pub next : (row : Row) → row.task.0 ≡ task → IsNext (planned t old).rows row → IsNext (planned t new).rows row
   pub again : (row : Row) → row.task.0 ≡ task → IsNext (planned t old).rows row → with_row (planned t new) row ≡ with_row (planned t old) row
@@ -108,4 +115,4 @@ new_rows t p = length (planned t p).rows - length t.rows
 
 -- the tables have all the memory that the plan's commit takes
 abbrev pub IsPrepared : RoomyTables → PlanOf → Type 0
-IsPrepared t p = new_rows t.tables p ≤ t.room
+IsPrepared t p = (new_rows t.tables p ≤ t.room) × (IsTrue (is_some (p.changes).slot) → 1 ≤ t.slot_room)

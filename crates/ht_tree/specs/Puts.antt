@@ -1,8 +1,8 @@
 -- What the putting of rows one after another takes.
-use Rattle.std.specs.Prelude.{◌≡◌, ℕ, ◌+◌, ◌<◌, List, [], ◌∷◌, ◌++◌, Option, Some, None, slice_get}
+use Rattle.std.specs.Prelude.{◌≡◌, ℕ, ◌+◌, ◌<◌, List, [], ◌∷◌, Option, Some, None, slice_get}
 use Rattle.ht_models.specs.Model.{ModelOf}
 use Rattle.ht_tree.specs.declared.row.Row.{Row}
-use Rattle.ht_tree.specs.Plans.{IsNext, PlanOf}
+use Rattle.ht_tree.specs.Plans.{IsNext}
 use Rattle.ht_tree.specs.Rows.{put_in}
 use Rattle.ht_tree.specs.Sizes.{top_size}
 
@@ -19,7 +19,3 @@ HaveModels count rows = (i : ℕ) (row : Row) → slice_get rows i ≡ Some row 
 abbrev pub CanPut : ℕ → List Row → List Row → Type 0
 CanPut count rows [] = Unit {0}
 CanPut count rows (row ∷ puts) = IsNext rows row × (row.model < count) × CanPut count (put_in rows row) puts
-
--- one more row is put in a plan
-abbrev pub put_more : PlanOf → Row → PlanOf
-put_more p row = record p { changes = record p.changes { rows = (p.changes).rows ++ row ∷ [] } }

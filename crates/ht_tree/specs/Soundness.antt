@@ -2,7 +2,7 @@
 -- all rows together.
 use Rattle.std.specs.Prelude.{◌≡◌, ℕ, ◌+◌, ◌<◌, ◌≤◌, nat_lt, Bool, true, false, ◌&&◌, List, length, slice_get, Option, Some, is_some, option_map, IsTrue, IfSome}
 use Rattle.std.specs.Option.{option_and_then}
-use Rattle.std.specs.List.{All, list_all}
+use Rattle.std.specs.List.{All, AllByRecursion, list_all}
 use Rattle.ht_base.specs.declared.moment.Moment.{Moment}
 use Rattle.ht_base.specs.declared.state.State.{State}
 use Rattle.ht_base.specs.declared.task_id.TaskId.{TaskId}
@@ -10,6 +10,7 @@ use Rattle.ht_base.specs.declared.value.Value.{Value}
 use Rattle.ht_base.specs.declared.value.Value.TheVariants as values
 use Rattle.ht_base.specs.declared.values.Values.{Values}
 use Rattle.ht_base.specs.Moment.{last_moment}
+use Rattle.ht_base.specs.Ordered.{AscendBy}
 use Rattle.ht_base.specs.Persons.{AllBelow, Ascends, has}
 use Rattle.ht_base.specs.State.{contains_state}
 use Rattle.ht_expr.specs.declared.kinds.Side.{Side}
@@ -23,6 +24,7 @@ use Rattle.ht_tree.specs.declared.comments.Comment.{Comment}
 use Rattle.ht_tree.specs.declared.row.Row.{Row}
 use Rattle.ht_tree.specs.Rows.{row_at}
 use Rattle.ht_tree.specs.Sizes.{most_tasks, total_size}
+use Rattle.ht_tree.specs.Slots.{IsSoundSlot, slot_cmp}
 use Rattle.ht_tree.specs.Tables.{TablesOf}
 
 -- ---- states (WS-HumanTask 1.1, 4.10)
@@ -179,6 +181,9 @@ pub record IsSound (t : TablesOf) : Type 0 where
   pub rows_sound : (task : ℕ) (row : Row) → row_at task t.rows ≡ Some row → IsSoundRow t row
   -- each sub task is of an entry of its parent's model
   pub entries : (task : ℕ) (row : Row) → row_at task t.rows ≡ Some row → IfSome row.parent (IsOfEntry t.models t.rows row.model)
+  -- there is one slot at most of each device of a person
+  pub slots_ascend : AscendBy slot_cmp t.slots
+  pub slots_sound : AllByRecursion (IsSoundSlot t.people (length t.rows)) t.slots
   pub last_within : t.last ≤ last_moment
   -- every task is counted in the tree of its top task
   pub tasks_counted : length t.rows ≤ total_size t.models t.rows

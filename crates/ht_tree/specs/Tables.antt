@@ -8,6 +8,7 @@ use Rattle.ht_tree.specs.declared.notice.Notice.{Notice}
 use Rattle.ht_tree.specs.declared.row.Row.{Row}
 use Rattle.ht_tree.specs.declared.slot.Slot.{Slot}
 use Rattle.ht_tree.specs.Rows.{put_in, row_at}
+use Rattle.ht_tree.specs.Slots.{slot_in, slots_with}
 
 pub record TablesOf : Type 0 where
   pub models : List ModelOf
@@ -17,10 +18,11 @@ pub record TablesOf : Type 0 where
   pub slots : List Slot
   pub last : ℕ
 
--- and how many more rows they take without memory
+-- and how many more rows and slots they take without memory
 pub record RoomyTables : Type 0 where
   pub tables : TablesOf
   pub room : ℕ
+  pub slot_room : ℕ
 
 -- no tasks yet
 abbrev pub empty_tables : List ModelOf → DirectoryOf → TablesOf
@@ -35,6 +37,10 @@ directory t = t.people
 -- the row of a task, by its number
 abbrev pub task_row : TablesOf → ℕ → Option Row
 task_row t task = row_at task t.rows
+
+-- the last numbered command of a person's device
+abbrev pub device_slot : TablesOf → ℕ → ℕ → Option Slot
+device_slot t person device = slot_in person device t.slots
 
 -- the model at a place, of which new tasks are made
 abbrev pub model_at : TablesOf → ℕ → Option ModelOf
@@ -65,6 +71,10 @@ stakeholders_of t row = row.stakeholders
 -- with this row in its task's place, or behind the others where the task is new
 abbrev pub with_row : TablesOf → Row → TablesOf
 with_row t row = record t { rows = put_in t.rows row }
+
+-- with this slot as that of its device
+abbrev pub with_slot : TablesOf → Slot → TablesOf
+with_slot t slot = record t { slots = slots_with t.slots slot }
 
 -- at a later moment
 abbrev pub at_moment : TablesOf → ℕ → TablesOf

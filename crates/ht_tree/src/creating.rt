@@ -28,7 +28,7 @@ use thiserror::Error;
 const MOST_TASKS: u128 = 50_000;
 
 /// The priority of a task whose model gives none.
-const MIDDLE_PRIORITY: u8 = 5;
+pub(crate) const MIDDLE_PRIORITY: u8 = 5;
 
 /// Why no task is created.
 #[derive(Clone, Copy, Debug, PartialEq, Eq, Error)]

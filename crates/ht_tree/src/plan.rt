@@ -1,24 +1,42 @@
-ghost use Rattle.std.specs.Prelude.{◌≡◌, ◌<◌, ◌^◌, IfOk, IfSome, IsSome, MatchOption, Some, OnOk, OnErr, fold, length, max, option_map};
-ghost use Rattle.ht_tree.specs.Plans.{Follow, Goes, IsNext, IsPlanOf, Lends, last_of, new_rows, no_plan, planned};
-ghost use Rattle.ht_tree.specs.Puts.{put_more};
+ghost use Rattle.std.specs.Prelude.{◌≡◌, ◌<◌, ◌^◌, IfOk, IfSome, IsSome, Some, OnOk, OnErr, is_some, length, option_map};
+ghost use Rattle.ht_tree.specs.Plans.{AreTotals, Goes, IsNext, IsPlanOf, Lends, keeping, new_rows, no_plan, planned};
 ghost use Rattle.ht_tree.specs.Roles as spec;
-ghost use Rattle.ht_tree.specs.Rows.{put_in, row_at};
+ghost use Rattle.ht_tree.specs.Rows.{put_in};
 ghost use Rattle.ht_tree.specs.Sizes.{total_size};
 ghost use Rattle.ht_tree.specs.Soundness.{Fits};
 ghost use Rattle.ht_tree.specs.Tables.{task_row, with_row};
 
+use crate::puts::Puts;
 use crate::sizes::resized;
-use crate::{Row, Tables};
+use crate::{Row, Slot, Tables};
 use ht_base::{Memory, Person, Roles, TaskId};
 use std::alloc::Global;
 use std::marker::Model;
 
-/// A planned change of the tables: the rows that are put, of which the last of a task counts. It can
-/// go back to its last mark.
+/// A planned change of the tables: the rows that are put, of which the last of a task counts, and the
+/// reply that is kept. It can go back to its last mark. What it is asked costs at most a logarithm of
+/// the number of its rows.
 #[derive(Drop)]
 pub struct Plan {
-    rows: Vec<Row>,
+    puts: Puts,
     mark: usize,
+    noted: Noted,
+    marked: Noted,
+}
+
+// What is noted beside the rows: the totals after them, from the first put on, and the reply that is
+// kept.
+#[derive(Clone, Copy)]
+struct Noted {
+    totals: Option<Totals>,
+    slot: Option<Slot>,
+}
+
+// How many tasks there would be, and how many in the trees of all top tasks.
+#[derive(Clone, Copy)]
+struct Totals {
+    rows: u32,
+    size: u128,
 }
 
 impl Model for Plan {
@@ -38,9 +56,15 @@ impl Plan {
     pub fn begin(alloc: Global) -> Result<Plan, Memory>
         ensures { IfOk result (λ plan. plan ≡ no_plan) }
     {
+        let nothing = Noted {
+            totals: None,
+            slot: None,
+        };
         Ok(Plan {
-            rows: Vec::with_capacity(alloc, 1)?,
+            puts: Puts::new(alloc)?,
             mark: 0,
+            noted: nothing,
+            marked: nothing,
         })
     }
 
@@ -50,7 +74,10 @@ impl Plan {
         ensures value { option_map (λ r. r.now) result ≡ task_row (planned tables.now.tables self.now) id.0 }
         ensures fits { IfSome result (λ r. Fits tables.now.tables r.now) }
     {
-        row_after(tables, &self.rows, id)
+        match self.puts.last(id) {
+            Some(row) => Some(row),
+            None => tables.row(id),
+        }
     }
 
     /// How many tasks there would be after the plan.
@@ -58,23 +85,26 @@ impl Plan {
         requires { IsPlanOf tables.now.tables self.now }
         ensures { result ≡ length (planned tables.now.tables self.now).rows }
     {
-        highest(tables.rows(), &self.rows)
+        self.totals(tables).rows
     }
 
-    /// Puts a row: of a task that there would be after the plan, or of the next.
-    pub fn put(&mut self, _tables: &Tables, row: Row) -> Result<(), Memory>
-        requires plan { IsPlanOf _tables.now.tables self.old }
-        requires next { IsNext (planned _tables.now.tables self.old).rows row }
-        requires fits { Fits _tables.now.tables row }
-        ensures goes { OnOk result (Goes _tables.now.tables self.old self.new (planned _tables.now.tables self.old) (with_row (planned _tables.now.tables self.old) row)) }
+    /// Puts a row: of a task that there would be after the plan, or of the next. It takes the place of
+    /// the one that was put of its task behind the mark.
+    pub fn put(&mut self, tables: &Tables, row: Row) -> Result<(), Memory>
+        requires plan { IsPlanOf tables.now.tables self.old }
+        requires next { IsNext (planned tables.now.tables self.old).rows row }
+        requires fits { Fits tables.now.tables row }
+        ensures goes { OnOk result (Goes tables.now.tables self.old self.new (planned tables.now.tables self.old) (with_row (planned tables.now.tables self.old) row)) }
         ensures err { OnErr result (self.new ≡ self.old) }
     {
-        self.rows.push(row)?;
+        let totals = self.totals_with(tables, &row);
+        self.puts.put(self.mark, row)?;
+        self.noted.totals = Some(totals);
         Ok(())
     }
 
     /// Takes the row of a task as it would be after the plan, to be changed and put again: moved, where
-    /// it was put last and behind the mark, and else copied.
+    /// it was put behind the mark, and else copied.
     pub fn take(&mut self, alloc: Global, tables: &Tables, id: TaskId) -> Result<Row, Memory>
         requires plan { IsPlanOf tables.now.tables self.old }
         requires there { IsSome (task_row (planned tables.now.tables self.old) id.0) }
@@ -83,7 +113,7 @@ impl Plan {
         ensures lends { OnOk result (Lends tables.now.tables self.old self.new id.0) }
         ensures err { OnErr result (self.new ≡ self.old) }
     {
-        if let Some(row) = self.pop_of(id) {
+        if let Some(row) = self.puts.lend(alloc, self.mark, id) {
             return Ok(row);
         }
         match self.row(tables, id) {
@@ -92,31 +122,27 @@ impl Plan {
         }
     }
 
-    // The row that was put last, where it is this task's and stands behind the mark.
-    fn pop_of(&mut self, id: TaskId) -> Option<Row>
-        ensures { MatchOption result (self.new ≡ self.old) (λ row. (row.task.0 ≡ id.0) × (self.old ≡ put_more self.new row)) }
+    /// Keeps a reply as that of its device's last command.
+    pub fn keep(&mut self, slot: Slot)
+        ensures { self.new ≡ keeping self.old slot }
     {
-        if self.rows.len() <= self.mark {
-            return None;
-        }
-        match self.rows.last() {
-            Some(row) if row.task == id => self.rows.pop(),
-            _ => None,
-        }
+        self.noted.slot = Some(slot);
     }
 
     /// Marks the plan as it is, to go back to.
     pub fn mark(&mut self)
         ensures { self.new ≡ record self.old { marked = self.old.changes } }
     {
-        self.mark = self.rows.len();
+        self.mark = self.puts.len();
+        self.marked = self.noted;
     }
 
     /// Goes back to the last mark, or to no change.
     pub fn back(&mut self)
         ensures { self.new ≡ record self.old { changes = self.old.marked } }
     {
-        self.rows.truncate(self.mark);
+        self.puts.truncate(self.mark);
+        self.noted = self.marked;
     }
 
     /// The roles of a person in a task as it would be after the plan.
@@ -138,15 +164,23 @@ impl Plan {
         ensures value { result ≡ total_size tables.now.tables.models (planned tables.now.tables self.now).rows }
         ensures small { result < 2 ^ 100 }
     {
-        size_after(tables, &self.rows)
+        self.totals(tables).size
     }
 
-    /// The rows that are put, in order.
-    pub(crate) fn into_rows(self) -> Vec<Row>
-        ensures { result.items ≡ self.changes.rows }
+    /// The rows that are put, in order, and the reply that is kept.
+    pub(crate) fn into_changes(self) -> (Vec<Row>, Option<Slot>)
+        ensures rows { result.0.items ≡ self.changes.rows }
+        ensures slot { result.1 ≡ self.changes.slot }
     {
-        let Plan { rows, mark: _ } = self;
-        rows
+        let Plan { puts, noted, .. } = self;
+        (puts.into_rows(), noted.slot)
+    }
+
+    /// Whether a reply is kept.
+    pub(crate) fn keeps(&self) -> bool
+        ensures { result ≡ is_some self.now.changes.slot }
+    {
+        self.noted.slot.is_some()
     }
 
     /// How many tasks are new.
@@ -155,6 +189,35 @@ impl Plan {
         ensures { result ≡ new_rows tables.now.tables self.now }
     {
         (self.rows(tables) - tables.rows()) as usize
+    }
+
+    // The totals of the tables as they would be after the plan.
+    fn totals(&self, tables: &Tables) -> Totals
+        requires { IsPlanOf tables.now.tables self.now }
+        ensures { AreTotals tables.now.tables (planned tables.now.tables self.now).rows result }
+    {
+        match self.noted.totals {
+            Some(totals) => totals,
+            None => Totals {
+                rows: tables.rows(),
+                size: u128::from(tables.size()),
+            },
+        }
+    }
+
+    // And with one more row.
+    fn totals_with(&self, tables: &Tables, row: &Row) -> Totals
+        requires plan { IsPlanOf tables.now.tables self.now }
+        requires next { IsNext (planned tables.now.tables self.now).rows row.now }
+        requires fits { Fits tables.now.tables row.now }
+        ensures { AreTotals tables.now.tables (put_in (planned tables.now.tables self.now).rows row.now) result }
+    {
+        let Totals { rows, size } = self.totals(tables);
+        let before = self.row(tables, row.task);
+        Totals {
+            rows: rows.max(row.task.0),
+            size: resized(tables.models(), size, before, row),
+        }
     }
 }
 
@@ -170,54 +233,4 @@ fn roles_in(tables: &Tables, row: &Row, person: Person) -> Roles
         administrator: row.administrators.contains(person),
         operator: tables.people().operator(person),
     }
-}
-
-// The tasks of all trees after these rows were put.
-fn size_after(tables: &Tables, puts: &[Row]) -> u128
-    requires { Follow tables.now.tables tables.now.tables.rows puts.now }
-    ensures value { result ≡ total_size tables.now.tables.models (fold put_in tables.now.tables.rows puts.now) }
-    ensures small { result < 2 ^ 100 }
-{
-    let mut size = u128::from(tables.size());
-    for (i, row) in puts.iter().enumerate() {
-        let before = row_after(tables, &puts[..i], row.task);
-        size = resized(tables.models(), size, before, row);
-    }
-    size
-}
-
-// The highest number of these rows, or this one.
-fn highest(count: u32, rows: &[Row]) -> u32
-    ensures { result ≡ fold (λ n row. max n row.task.0) count rows.now }
-{
-    let mut highest = count;
-    for row in rows {
-        highest = highest.max(row.task.0);
-    }
-    highest
-}
-
-// The row of a task after these rows were put.
-fn row_after<'a>(tables: &'a Tables, puts: &'a [Row], id: TaskId) -> Option<&'a Row>
-    requires { Follow tables.now.tables tables.now.tables.rows puts.now }
-    ensures value { option_map (λ r. r.now) result ≡ row_at id.0 (fold put_in tables.now.tables.rows puts.now) }
-    ensures fits { IfSome result (λ r. Fits tables.now.tables r.now) }
-{
-    match last_put(puts, id) {
-        Some(row) => Some(row),
-        None => tables.row(id),
-    }
-}
-
-// The last row that was put of a task.
-fn last_put(rows: &[Row], id: TaskId) -> Option<&Row>
-    ensures { option_map (λ r. r.now) result ≡ last_of id.0 rows.now }
-{
-    let mut last = None;
-    for row in rows {
-        if row.task == id {
-            last = Some(row);
-        }
-    }
-    last
 }

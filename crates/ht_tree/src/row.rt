@@ -1,5 +1,7 @@
 ghost use Rattle.std.specs.Prelude.{◌≡◌, IfOk};
+ghost use Rattle.ht_tree.specs.Places.{emptied};
 
+use crate::creating::MIDDLE_PRIORITY;
 use crate::{Comments, Taken};
 use ht_base::{Memory, Moment, Name, Person, Persons, State, TaskId, Values};
 use std::alloc::Global;
@@ -66,5 +68,35 @@ impl Row {
             taken: self.taken.copy(alloc)?,
             comments: self.comments.copy(alloc)?,
         })
+    }
+
+    /// A row of the same task, as it was before any of its roles was set.
+    pub(crate) fn emptied(&self, alloc: Global) -> Row
+        ensures { result ≡ emptied self.now }
+    {
+        Row {
+            task: self.task,
+            parent: self.parent,
+            model: self.model,
+            state: State::Created,
+            owner: None,
+            last_owner: None,
+            initiator: self.initiator,
+            potential_owners: Persons::new(alloc),
+            excluded_owners: Persons::new(alloc),
+            administrators: Persons::new(alloc),
+            stakeholders: Persons::new(alloc),
+            by_group: false,
+            started: false,
+            priority: MIDDLE_PRIORITY,
+            input: Values::new(alloc),
+            output: Values::new(alloc),
+            created: self.created,
+            waits: None,
+            until: None,
+            fault: None,
+            taken: Taken::new(alloc),
+            comments: Comments::new(alloc),
+        }
     }
 }

@@ -27,6 +27,7 @@ pub(crate) fn resized(models: &Models, total: u128, before: Option<&Row>, row: &
     ensures resized { IsResized models.now total row.now (option_map (λ r. r.now) before.entry) result }
     ensures changed { IfSome before.entry (λ r. result + spec.top_size models.now r.now ≡ total + spec.top_size models.now row.now) }
     ensures grown { result ≤ total + 2 ^ 32 }
+    ensures small { spec.top_size models.now row.now < 2 ^ 32 }
 {
     let rest = match before {
         Some(before) => total - u128::from(top_size(models, before)),

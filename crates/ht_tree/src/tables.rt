@@ -5,23 +5,27 @@ ghost use Rattle.ht_tree.specs.Plans.{IsNext, IsPlanOf, IsPrepared, committed};
 ghost use Rattle.ht_tree.specs.Rows.{put_in, row_at};
 ghost use Rattle.ht_tree.specs.Sizes.{total_size};
 ghost use Rattle.ht_tree.specs.Soundness.{IsSound, IsSoundRow};
-ghost use Rattle.ht_tree.specs.Tables.{directory, empty_tables, task_row};
+ghost use Rattle.ht_tree.specs.Tables.{device_slot, directory, empty_tables, task_row};
 
 use crate::sizes::resized;
-use crate::{Plan, Row};
-use ht_base::{Memory, Moment, TaskId};
+use crate::slot::{put_slot, slot_of};
+use crate::{Plan, Row, Slot};
+use ht_base::{Memory, Moment, Person, TaskId};
 use ht_models::Models;
 use ht_people::Directory;
 use std::alloc::Global;
 use std::marker::Model;
 
-/// The tasks of an office, over its models and its people. A contract also sees in `room` how many
-/// more tasks they take without memory.
+/// The tasks of an office, over its models and its people, and the last numbered command of each
+/// device. A contract also sees in `room` and `slot_room` how many more tasks and devices they take
+/// without memory.
 #[derive(Drop)]
 pub struct Tables {
     models: Models,
     people: Directory,
     rows: Vec<Row>,
+    // In the order of their persons and devices.
+    slots: Vec<Slot>,
     last: Moment,
     // The tasks of the trees of all top tasks.
     size: u64,
@@ -52,6 +56,7 @@ impl Tables {
             models,
             people,
             rows: Vec::new(alloc),
+            slots: Vec::new(alloc),
             last: Moment(0),
             size: 0,
         })
@@ -71,6 +76,14 @@ impl Tables {
         ensures sound { IsSound self.now.tables }
     {
         self.rows.len() as u32
+    }
+
+    /// The last numbered command of a person's device, if there was one.
+    pub fn slot(&self, person: Person, device: u8) -> Option<Slot>
+        ensures value { result ≡ device_slot self.now.tables person device }
+        ensures sound { IsSound self.now.tables }
+    {
+        slot_of(&self.slots, person, device)
     }
 
     /// The moment of the last accepted command.
@@ -110,6 +123,9 @@ impl Tables {
     {
         let more = plan.new_rows(self);
         self.rows.reserve(more)?;
+        if plan.keeps() {
+            self.slots.reserve(1)?;
+        }
         Ok(())
     }
 
@@ -122,9 +138,13 @@ impl Tables {
         ensures { self.new.tables ≡ committed self.old.tables plan at.0 }
     {
         self.last = at;
+        let (rows, slot) = plan.into_changes();
         let size = u128::from(self.size);
-        let size = put_all(&self.models, &mut self.rows, size, plan.into_rows());
+        let size = put_all(&self.models, &mut self.rows, size, rows);
         self.size = size as u64;
+        if let Some(slot) = slot {
+            put_slot(&mut self.slots, slot);
+        }
     }
 }
 

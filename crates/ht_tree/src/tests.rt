@@ -2,8 +2,8 @@ ghost use Rattle.std.specs.Prelude.{◌≡◌, None, OnOk};
 ghost use Rattle.ht_tree.specs.Plans.{IsPlanOf, planned};
 ghost use Rattle.ht_tree.specs.Soundness.{KeepsSound};
 
-use crate::{Comment, CreateRefusal, Plan, Tables, create, env, resolve};
-use ht_base::{LAST, Moment, Person, Persons, Role, Roles, State, TaskId, Txt, Values};
+use crate::{Comment, Comments, CreateRefusal, Kept, Plan, Slot, Tables, create, env, resolve};
+use ht_base::{LAST, Moment, Op, Person, Persons, Role, Roles, State, TaskId, Txt, Values};
 use ht_models::Models;
 use ht_people::Directory;
 use ht_samples::PEOPLE;
@@ -170,14 +170,168 @@ fn a_plan_goes_back_to_its_mark(rt: HostRuntime) -> Result<(), Fail> {
     Ok(())
 }
 
+// Plans priorities of tasks that there would be, one after another.
+fn prioritised(
+    alloc: Global,
+    tables: &Tables,
+    plan: &mut Plan,
+    priorities: &[(u32, u8)],
+) -> Result<(), Fail>
+    requires { IsPlanOf tables.now.tables plan.old }
+    ensures { OnOk result (IsPlanOf tables.now.tables plan.new) }
+{
+    for (task, priority) in priorities {
+        if plan.row(tables, TaskId(*task)).is_none() {
+            return Err(Fail::from("no such task"));
+        }
+        let mut row = plan.take(alloc, tables, TaskId(*task))?;
+        row.priority = *priority;
+        if row.task.0 == 0 || row.task.0 > plan.rows(tables) {
+            return Err(Fail::from("another number"));
+        }
+        plan.put(tables, row)?;
+    }
+    Ok(())
+}
+
+// Whether each of the tasks would have its priority.
+fn have_priorities(tables: &Tables, plan: &Plan, priorities: &[(u32, u8)]) -> bool
+    requires { IsPlanOf tables.now.tables plan.now }
+{
+    for (task, priority) in priorities {
+        match plan.row(tables, TaskId(*task)) {
+            Some(row) if row.priority == *priority => {}
+            _ => return false,
+        }
+    }
+    true
+}
+
+// Tables with six tasks of priority 5.
+fn six_tasks(rt: &impl Abort, alloc: Global) -> Result<Tables, Fail> {
+    let mut tables = tables(alloc)?;
+    for _ in 0..6 {
+        created(rt, alloc, &mut tables, UNIT)?;
+    }
+    Ok(tables)
+}
+
 #[test]
-fn a_comment_is_copied(rt: HostRuntime) -> Result<(), Fail> {
-    let comment = Comment {
-        moment: Moment(7),
-        person: DAN,
-        text: Txt::of(rt.alloc(), "late")?,
-    };
-    assert_eq!(rt; comment.copy(rt.alloc())?.text.as_str(), "late");
+fn rows_that_are_put_again_go_back_to_the_mark(rt: HostRuntime) -> Result<(), Fail> {
+    let tables = six_tasks(&rt, rt.alloc())?;
+    let mut plan = Plan::begin(rt.alloc())?;
+    let puts = [(1, 1), (2, 2), (3, 3), (4, 4), (5, 6), (5, 0)];
+    prioritised(rt.alloc(), &tables, &mut plan, &puts)?;
+    plan.mark();
+    let puts = [(5, 7), (1, 8), (5, 9), (6, 3), (1, 10)];
+    prioritised(rt.alloc(), &tables, &mut plan, &puts)?;
+    let behind = [(1, 10), (2, 2), (3, 3), (4, 4), (5, 9), (6, 3)];
+    assert!(rt; have_priorities(&tables, &plan, &behind));
+    plan.back();
+    let before = [(1, 1), (2, 2), (3, 3), (4, 4), (5, 0), (6, 5)];
+    assert!(rt; have_priorities(&tables, &plan, &before));
+    Ok(())
+}
+
+// That a person's device has claimed the first task.
+fn claim_of(person: u32, device: u8, number: u32) -> Slot {
+    Slot {
+        person: Person(person),
+        device,
+        number,
+        op: Op::Claim,
+        task: TaskId(1),
+        kept: Kept::Done {
+            task: TaskId(1),
+            state: State::Reserved,
+            owner: None,
+        },
+    }
+}
+
+fn claim_kept(
+    alloc: Global,
+    tables: &mut Tables,
+    person: u32,
+    device: u8,
+    number: u32,
+) -> Result<(), Fail> {
+    let persons = tables.people().persons();
+    if person >= persons || device > 15 || number == 0 || tables.rows() == 0 {
+        return Err(Fail::from("no such person, device, number or task"));
+    }
+    let at = tables.last();
+    let mut plan = Plan::begin(alloc)?;
+    plan.keep(claim_of(person, device, number));
+    tables.prepare(&plan)?;
+    tables.commit(plan, at);
+    Ok(())
+}
+
+#[test]
+fn the_last_command_of_each_device_is_kept(rt: HostRuntime) -> Result<(), Fail> {
+    let mut tables = tables(rt.alloc())?;
+    created(&rt, rt.alloc(), &mut tables, UNIT)?;
+    let kept = [
+        (1, 2, 7),
+        (0, 3, 1),
+        (2, 0, 4),
+        (1, 0, 2),
+        (1, 2, 8),
+        (0, 15, 9),
+    ];
+    for (person, device, number) in kept {
+        claim_kept(rt.alloc(), &mut tables, person, device, number)?;
+    }
+    let table = [
+        (0, 3, Some(1)),
+        (0, 15, Some(9)),
+        (1, 0, Some(2)),
+        (1, 2, Some(8)),
+        (2, 0, Some(4)),
+        (0, 0, None),
+        (1, 1, None),
+        (2, 15, None),
+        (3, 0, None),
+    ];
+    for (person, device, number) in table {
+        let slot = tables.slot(Person(person), device);
+        let want = number.map(|number| claim_of(person, device, number));
+        assert_eq!(rt; slot, want, "{person} {device}");
+    }
+    Ok(())
+}
+
+#[test]
+fn a_kept_reply_goes_back_to_the_mark(rt: HostRuntime) -> Result<(), Fail> {
+    let mut plan = Plan::begin(rt.alloc())?;
+    plan.keep(claim_of(0, 0, 1));
+    plan.mark();
+    plan.keep(claim_of(0, 0, 2));
+    plan.back();
+    let (rows, slot) = plan.into_changes();
+    assert!(rt; rows.is_empty());
+    assert_eq!(rt; slot, Some(claim_of(0, 0, 1)));
+    Ok(())
+}
+
+#[test]
+fn comments_are_kept_in_order(rt: HostRuntime) -> Result<(), Fail> {
+    let mut comments = Comments::new(rt.alloc());
+    for text in ["late", "later"] {
+        let comment = Comment {
+            moment: Moment(7),
+            person: DAN,
+            text: Txt::of(rt.alloc(), text)?,
+        };
+        comments.push(rt.alloc(), comment)?;
+    }
+    let copy = comments.copy(rt.alloc())?;
+    drop(comments);
+    assert_eq!(rt; copy.count(), 2);
+    let last = copy.get(1).ok_or("a comment")?;
+    assert_eq!(rt; last.text.as_str(), "later");
+    assert!(rt; copy.get(2).is_none());
     Ok(())
 }
 

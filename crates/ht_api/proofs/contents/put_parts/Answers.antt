@@ -2,7 +2,7 @@ use Rattle.std.proofs.Common.{◌<◌, [], ◌∷◌, List, subst, rules}
 use Rattle.json.specs.Token.{Token, begin_object, end_object}
 use Rattle.json.specs.Tree.{room}
 use Rattle.ht_api.specs.Contents.{part_rows}
-use Rattle.ht_api.specs.Writing.{Puts, object_tokens, rows_then}
+use Rattle.ht_api.specs.Writing.{Puts, object_tokens}
 use Rattle.ht_api.proofs.Going.{begun, ended, for_rows, then_full, then_put, tokens_of_object}
 use Rattle.ht_api.proofs.contents.put_parts.Goals as goal
 

@@ -13,24 +13,31 @@ pub put-requires-clause-next : goal.put-requires-clause-next
 put-requires-clause-next c =
     let u = planned c.args.tables.now.tables c.args.plan.now in
     let m : ModelOf = shown.model_of c.model-model.result.now in
-    let is = ap (λ (r : Row). effect (directory u) m c.args.caller c.args.command.now r) (sym c.in_ok-before.ensures) ∙ c.in_ok-after.ensures in
-    let at = sym c.in-Some.ensures.value in
-    (made u m c.args.caller c.args.id.0 c.args.command.now c.in-Some.row.now c.in_ok-after.after c.in_ok-after.follow c.requires.sound at c.requires.caller c.requires.command (may_of u c.args.id.0 c.args.caller c.args.command.now c.in-Some.row.now at c.requires.allowed) is).0.next
+    let row = c.in-Some.row.now in
+    let is = ap (λ (r : Row). effect (directory u) m c.args.caller c.args.at c.args.command.now r) (sym c.in_ok-before.ensures) ∙ c.in_ok-after.ensures in
+    let there = sym c.in-Some.ensures.value in
+    let of_model : model_of u row ≡ Some m = ap (λ (ms : List ModelOf). slice_get ms row.model) (sym c.models.ensures.value) ∙ c.model-model.ensures.value in
+    let left = made u m c.args.caller c.args.id.0 c.args.at c.args.command.now row c.in_ok-after.after c.in_ok-after.follow c.requires.sound there of_model c.requires.caller c.requires.at c.requires.command (may_of u c.args.id.0 c.args.caller c.args.command.now row there c.requires.allowed) is in
+    left.again.next
 
 pub put-requires-clause-fits : goal.put-requires-clause-fits
 put-requires-clause-fits c =
     let u = planned c.args.tables.now.tables c.args.plan.now in
     let m : ModelOf = shown.model_of c.model-model.result.now in
-    let is = ap (λ (r : Row). effect (directory u) m c.args.caller c.args.command.now r) (sym c.in_ok-before.ensures) ∙ c.in_ok-after.ensures in
-    let at = sym c.in-Some.ensures.value in
-    (made u m c.args.caller c.args.id.0 c.args.command.now c.in-Some.row.now c.in_ok-after.after c.in_ok-after.follow c.requires.sound at c.requires.caller c.requires.command (may_of u c.args.id.0 c.args.caller c.args.command.now c.in-Some.row.now at c.requires.allowed) is).1
+    let row = c.in-Some.row.now in
+    let is = ap (λ (r : Row). effect (directory u) m c.args.caller c.args.at c.args.command.now r) (sym c.in_ok-before.ensures) ∙ c.in_ok-after.ensures in
+    let there = sym c.in-Some.ensures.value in
+    let of_model : model_of u row ≡ Some m = ap (λ (ms : List ModelOf). slice_get ms row.model) (sym c.models.ensures.value) ∙ c.model-model.ensures.value in
+    let left = made u m c.args.caller c.args.id.0 c.args.at c.args.command.now row c.in_ok-after.after c.in_ok-after.follow c.requires.sound there of_model c.requires.caller c.requires.at c.requires.command (may_of u c.args.id.0 c.args.caller c.args.command.now row there c.requires.allowed) is in
+    left.fits
 
 pub returns : goal.returns
 returns c =
     let u = planned c.args.tables.now.tables c.args.plan.now in
     let m : ModelOf = shown.model_of c.model-model.result.now in
-    let is = ap (λ (r : Row). effect (directory u) m c.args.caller c.args.command.now r) (sym c.in_ok-before.ensures) ∙ c.in_ok-after.ensures in
-    let at = sym c.in-Some.ensures.value in
-    let of_model : model_of u c.in-Some.row.now ≡ Some m = ap (λ (ms : List ModelOf). slice_get ms c.in-Some.row.now.model) (sym c.models.ensures.value) ∙ c.model-model.ensures.value in
-    let done = made u m c.args.caller c.args.id.0 c.args.command.now c.in-Some.row.now c.in_ok-after.after c.in_ok-after.follow c.requires.sound at c.requires.caller c.requires.command (may_of u c.args.id.0 c.args.caller c.args.command.now c.in-Some.row.now at c.requires.allowed) is in
-    record { before = c.in-Some.row.now; model = m; after = c.in_ok-after.after; there = at; of_model = of_model; effect_is = is; goes = c.in_ok-put.ensures.goes; sound = done.0.keeps; found = done.0.found }
+    let row = c.in-Some.row.now in
+    let is = ap (λ (r : Row). effect (directory u) m c.args.caller c.args.at c.args.command.now r) (sym c.in_ok-before.ensures) ∙ c.in_ok-after.ensures in
+    let there = sym c.in-Some.ensures.value in
+    let of_model : model_of u row ≡ Some m = ap (λ (ms : List ModelOf). slice_get ms row.model) (sym c.models.ensures.value) ∙ c.model-model.ensures.value in
+    let left = made u m c.args.caller c.args.id.0 c.args.at c.args.command.now row c.in_ok-after.after c.in_ok-after.follow c.requires.sound there of_model c.requires.caller c.requires.at c.requires.command (may_of u c.args.id.0 c.args.caller c.args.command.now row there c.requires.allowed) is in
+    record { before = row; model = m; after = c.in_ok-after.after; there = there; of_model = of_model; effect_is = is; ends = left.ends; goes = c.in_ok-put.ensures.goes; sound = left.again.keeps; found = left.again.found }

@@ -1,25 +1,15 @@
-use Rattle.std.proofs.Common.{◌≡◌, ◌∷◌, [], List, length-append, ap, sym, subst, ◌∙◌, arith}
+use Rattle.std.proofs.Common.{List, Some, sym, subst}
 use Rattle.ht_tree.specs.declared.row.Row.{Row}
-use Rattle.ht_tree.specs.Plans.{Goes, PlanOf, planned}
+use Rattle.ht_tree.specs.Plans.{Goes, planned}
 use Rattle.ht_tree.specs.Tables.{with_row}
-use Rattle.ht_tree.specs.Puts.{put_more}
-use Rattle.ht_tree.proofs.Putting.{plan_with, pushed_plan, put_goes}
+use Rattle.ht_tree.proofs.Planning.{plan_with, put_goes}
 use Rattle.ht_tree.proofs.plan.Plan.put.Goals as goal
-
-pub invariant_of-self-2 : goal.invariant_of-self-2
-invariant_of-self-2 c =
-    let rows = c.self.inside.rows.items in
-    rw (c.in_ok-push.ensures.items, length-append rows (c.args.row ∷ [])) (let w = c.self.invariant in omega arith)
 
 pub returns-clause-goes : goal.returns-clause-goes
 returns-clause-goes c =
-    let t = c.args._tables.now.tables in
+    let t = c.args.tables.now.tables in
     let old = c.args.self.now in
     let row = c.args.row in
-    let mark = c.self.inside.mark in
-    let P : PlanOf → Type 0 = λ p. Goes t old p (planned t old) (with_row (planned t old) row) in
-    let pushed : plan_with c.push.new.self.items mark ≡ put_more old row =
-    ap (λ (l : List Row). plan_with l mark) c.in_ok-push.ensures.items
-    ∙ pushed_plan c.self.inside.rows.items mark row c.self.invariant
-    ∙ ap (λ (p : PlanOf). put_more p row) c.self.view_is in
-    subst P (sym pushed) (put_goes t old row c.requires.plan c.requires.next c.requires.fits)
+    let x = c.self.inside in
+    let G : List Row → Type 0 = λ l. Goes t old (plan_with l x.mark (record { totals = Some c.totals_with-totals.result; slot = (x.noted).slot }) x.marked) (planned t old) (with_row (planned t old) row) in
+    subst G (sym c.in_ok-put.ensures.ok) (put_goes t old x.puts x.mark x.noted x.marked c.self.view_is c.self.invariant c.requires.plan row c.totals_with-totals.result c.requires.next c.requires.fits c.totals_with-totals.ensures)

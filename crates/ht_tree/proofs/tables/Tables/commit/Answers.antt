@@ -13,7 +13,7 @@ put_all-size-requires-clause-puts c =
     let puts : List Row = (c.args.plan.changes).rows in
     let P : RoomyTables → Type 0 = λ t. Follow t.tables (t.tables).rows puts in
     let Q : List Row → Type 0 = λ l. CanPut (length c.self.inside.models) c.self.inside.rows.items l in
-    subst Q (sym c.into_rows.ensures) (can_put (tables_in c.self.inside) c.self.inside.rows.items puts (subst P (sym c.self.view_is) c.requires.fits.changes_fit))
+    subst Q (sym c.into_changes-rows.ensures.rows) (can_put (tables_in c.self.inside) c.self.inside.rows.items puts (subst P (sym c.self.view_is) c.requires.fits.changes_fit))
 
 pub put_all-size-requires-clause-models : goal.put_all-size-requires-clause-models
 put_all-size-requires-clause-models c = have_models (tables_in c.self.inside) c.self.invariant.sound

@@ -4,6 +4,6 @@ use Rattle.ht_tree.proofs.tables.Tables.new.Goals as goal
 
 pub invariant_of-result : goal.invariant_of-result
 invariant_of-result c = record {
-  sound = rw c.new.ensures.items (empty_sound c.args.models c.args.people);
+  sound = rw (c.new.ensures.items, c.new-2.ensures.items) (empty_sound c.args.models c.args.people);
   counted = rw c.new.ensures.items refl;
 }

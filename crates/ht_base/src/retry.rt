@@ -1,0 +1,9 @@
+/// By which device of a person a command is sent, and as its how-manyth: where it is sent again, it
+/// acts only once.
+#[derive(Clone, Copy, Debug, PartialEq, Eq)]
+pub struct Retry {
+    /// 0 to 15.
+    pub device: u8,
+    /// 1 to 4,294,967,295. The numbers of a device rise.
+    pub number: u32,
+}

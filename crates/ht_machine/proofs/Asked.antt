@@ -1,0 +1,158 @@
+-- What a command leaves, at the moment at which it acts.
+use Rattle.std.proofs.Common.{◌≡◌, ℕ, ◌<◌, ◌≤◌, List, length, Option, None, Some, IfSome, refl, ap, sym, subst, ◌∙◌, arith}
+use Rattle.ht_base.specs.declared.event.Command.{Command}
+use Rattle.ht_base.specs.declared.event.Command.TheVariants as command
+use Rattle.ht_base.specs.declared.operation.Op.{Op}
+use Rattle.ht_base.specs.declared.record.Record.{Record}
+use Rattle.ht_base.specs.declared.record.Record.TheVariants.{Asked}
+use Rattle.ht_base.specs.declared.reply.Answer.{Answer}
+use Rattle.ht_base.specs.declared.reply.Answer.TheVariants.{Refused}
+use Rattle.ht_base.specs.declared.reply.Refusal.{Refusal}
+use Rattle.ht_base.specs.declared.retry.Retry.{Retry}
+use Rattle.ht_base.specs.declared.task_id.TaskId.{TaskId}
+use Rattle.ht_base.specs.Events.{IsRetry, IsTaskOf, op_of}
+use Rattle.ht_base.specs.Moment.{last_moment}
+use Rattle.ht_machine.specs.declared.asking.Asked.{Asked as Ask}
+use Rattle.ht_machine.specs.declared.sending.Sending.{Sending}
+use Rattle.ht_machine.specs.declared.sending.Sending.TheVariants.{New}
+use Rattle.ht_machine.specs.Commands.{ActsOn, AfterEffect, BehindGate, Comes, Outcome, accepted, refused}
+use Rattle.ht_machine.specs.Deciding.{AsksAs, NamesOwner, Shows, done}
+use Rattle.ht_machine.specs.Gate.{Gate, gate, opens, shuts}
+use Rattle.ht_machine.specs.Planning.{Does, IsAsked, Leaves, PlansAsk, PlansNew, record_of}
+use Rattle.ht_machine.specs.Sending.{IsSent, answer_of, keeping_reply, slot_of, with_reply}
+use Rattle.ht_owner.specs.Effects.{Effect, does, effect, refuses}
+use Rattle.ht_people.specs.Directory.{DirectoryOf}
+use Rattle.ht_tree.specs.declared.row.Row.{Row}
+use Rattle.ht_tree.specs.declared.slot.Kept.{Kept}
+use Rattle.ht_tree.specs.declared.slot.Slot.{Slot}
+use Rattle.ht_tree.specs.Plans.{IsPlanOf, PlanOf, no_plan, planned}
+use Rattle.ht_tree.specs.Slots.{IsNamedBy, IsOneOf, IsSoundReply, IsSoundSlot}
+use Rattle.ht_tree.specs.Soundness.{IsSound}
+use Rattle.ht_tree.specs.Tables.{TablesOf, at_moment, directory, task_row}
+use Rattle.ht_tree.proofs.PublicLaws.{keeping_fits, keeping_planned, no_plan_fits, planned_nothing, slot_sound, sound_at, within}
+
+-- where nothing changes
+pub stays_leaves : (t : TablesOf) (p : PlanOf) → p ≡ no_plan → IsSound t → Leaves t p None t
+stays_leaves t p none sound = record {
+  fits = no_plan_fits t p none;
+  makes = ap (λ (u : TablesOf). at_moment u t.last) (planned_nothing t p none);
+  sound = sound;
+  later = omega arith;
+}
+
+-- on tables for which nothing was planned yet
+on_nothing : (t : TablesOf) (p : PlanOf) (person moment task : ℕ) (command : Command) (o : Outcome) → p ≡ no_plan → Comes (planned t p) person moment task command o → Comes t person moment task command o
+on_nothing t p person moment task command o none comes = let P : TablesOf → Type 0 = λ u. Comes u person moment task command o in subst P (planned_nothing t p none) comes
+
+pub none_found : {A : Type 0} (o : Option A) → ((x : A) → o ≡ Some x → ⊥) → o ≡ None
+none_found None other = refl
+none_found (Some x) other = absurd (other x refl)
+
+-- ---- the reply that is kept
+
+-- a command on a task is about that task
+acts_on_it : (u : TablesOf) (caller moment task : ℕ) (c : Command) (v : TablesOf) (about : ℕ) → ActsOn u caller moment task c (accepted v about) → about ≡ task
+acts_on_it u caller moment task c v about = at (gate u (op_of c) caller task)
+  where
+    by : (e : Effect) → AfterEffect u task e (accepted v about) → about ≡ task
+    by (does row follow) a = a.1
+    by (refuses why) a = absurd cc
+
+    at : (g : Gate) → BehindGate u caller moment task c g (accepted v about) → about ≡ task
+    at (opens row) a = by (effect (directory u) a.0 caller (record { 0 = moment }) c row) a.2
+    at (shuts why) a = absurd cc
+
+-- and names it, or none for a create
+named : (u : TablesOf) (caller moment : ℕ) (task : TaskId) (c : Command) (v : TablesOf) (about tasks : ℕ) → Comes u caller moment task.0 c (accepted v about) → IsTaskOf c task → (1 ≤ about) × (about ≤ tasks) → IsNamedBy tasks (op_of c) task
+named u caller moment task (command.Create model input) v about tasks comes is there = is
+named u caller moment task c v about tasks comes is there =
+    let it = acts_on_it u caller moment task.0 c v about comes in
+    let low = there.0 in
+    let high = there.1 in
+    (omega arith, omega arith)
+
+reply_is_sound : (u : TablesOf) (about : ℕ) (reply : Kept) → IsSound u → Shows u about reply → NamesOwner u.people reply → IsSoundReply u.people (length u.rows) reply
+reply_is_sound u about reply sound shows names =
+    let row = shows.0 in
+    let number = sound.numbered about row shows.1 in
+    let place = within u.rows row about shows.1 in
+    let low = place.0 in
+    let high = place.1 in
+    let S : Kept → Type 0 = λ k. IsSoundReply u.people (length u.rows) k in
+    let N : Kept → Type 0 = λ k. NamesOwner u.people k in
+    subst S (sym shows.2) ((omega arith, omega arith), subst N shows.2 names)
+
+with_reply_sound : (u : TablesOf) (person : ℕ) (retry : Option Retry) (op : Op) (task : TaskId) (reply : Kept) → IsSound u → person < length u.people.persons → IfSome retry IsRetry → IsNamedBy (length u.rows) op task → IsSoundReply u.people (length u.rows) reply → IsSound (with_reply u person retry op task reply)
+with_reply_sound u person None op task reply sound known is names kept = sound
+with_reply_sound u person (Some r) op task reply sound known is names kept =
+    slot_sound u (slot_of person r op task reply) sound (record { person = known; device = is.0; number = is.1; task = names; kept = kept })
+
+keeping_reply_planned : (t : TablesOf) (p : PlanOf) (person : ℕ) (retry : Option Retry) (op : Op) (task : TaskId) (reply : Kept) → (p.changes).slot ≡ None → planned t (keeping_reply p person retry op task reply) ≡ with_reply (planned t p) person retry op task reply
+keeping_reply_planned t p person None op task reply none = refl
+keeping_reply_planned t p person (Some r) op task reply none = keeping_planned t p (slot_of person r op task reply) none
+
+keeping_reply_fits : (t : TablesOf) (p : PlanOf) (person : ℕ) (retry : Option Retry) (op : Op) (task : TaskId) (reply : Kept) → IsPlanOf t p → IsPlanOf t (keeping_reply p person retry op task reply)
+keeping_reply_fits t p person None op task reply fit = fit
+keeping_reply_fits t p person (Some r) op task reply fit = keeping_fits t p (slot_of person r op task reply) fit
+
+-- ---- a new command
+
+module _ (t : TablesOf) (p q : PlanOf) (person : ℕ) (a : Ask) (sound : IsSound t) (none : p ≡ no_plan) where
+  -- that is accepted
+  module _ (about : TaskId) (reply : Kept) (later : t.last ≤ a.at.0) (known : person < length t.people.persons) (is : IsAsked a) where
+    pub asked_anew : Does t p q (Comes (planned t p) person a.at.0 a.task.0 a.command.now) about → Shows (planned t q) about.0 reply → NamesOwner t.people reply → PlansNew t (keeping_reply q person a.retry (op_of a.command.now) a.task reply) a.at.0 person a.retry a.task a.command.now (record_of a) (Some (record_of a)) (answer_of reply)
+    asked_anew came shows names =
+        let op = op_of a.command.now in
+        let v = came.after in
+        let u = planned t q in
+        let W : TablesOf → TablesOf = λ x. with_reply x person a.retry op a.task reply in
+        let S : TablesOf → Type 0 = λ x. IsSound x in
+        let A : TablesOf → Type 0 = λ x. Shows x about.0 reply in
+        let fresh : (q.changes).slot ≡ None = (came.goes).slot ∙ ap (λ (r : PlanOf). (r.changes).slot) none in
+        let made : IsSound u = subst S (sym (came.goes).to) (came.sound (subst S (sym (planned_nothing t p none)) sound)) in
+        let place = within u.rows shows.0 about.0 shows.1 in
+        let comes : Comes t person a.at.0 a.task.0 a.command.now (accepted v about.0) = on_nothing t p person a.at.0 a.task.0 a.command.now (accepted v about.0) none came.comes in
+        let names_task = named t person a.at.0 a.task a.command.now v about.0 (length u.rows) comes is.task place in
+        let kept : IsSound (W u) = with_reply_sound u person a.retry op a.task reply made known is.retry names_task (reply_is_sound u about.0 reply made shows names) in
+        record {
+          after = at_moment (W v) a.at.0;
+          asks = (accepted v about.0, comes, (reply, subst A (came.goes).to shows, refl, refl, refl));
+          leaves = record {
+            fits = keeping_reply_fits t q person a.retry op a.task reply (came.goes).fits;
+            makes = ap (λ (x : TablesOf). at_moment x a.at.0) (keeping_reply_planned t q person a.retry op a.task reply fresh ∙ ap W (came.goes).to);
+            sound = sound_at (W v) a.at.0 (let K : TablesOf → Type 0 = λ x. IsSound (W x) in subst K (came.goes).to kept) is.within;
+            later = later;
+          };
+        }
+
+  -- that is refused
+  pub refused_anew : (why : Refusal) → q ≡ p → Comes (planned t p) person a.at.0 a.task.0 a.command.now (refused why) → PlansNew t q a.at.0 person a.retry a.task a.command.now (record_of a) None (Refused why)
+  refused_anew why same comes = record {
+    after = t;
+    asks = (refused why, on_nothing t p person a.at.0 a.task.0 a.command.now (refused why) none comes, ((refl, refl), refl));
+    leaves = stays_leaves t q (same ∙ none) sound;
+  }
+
+-- ---- any command
+
+-- by what is known of it
+module _ (t : TablesOf) (p : PlanOf) (a : Ask) (op : Op) (sending : Sending) (named : op ≡ op_of a.command.now) (sent : IsSent t a.caller a.retry op a.task sending) where
+  known : IsSent t a.caller a.retry (op_of a.command.now) a.task sending
+  known = let P : Op → Type 0 = λ o. IsSent t a.caller a.retry o a.task sending in subst P named sent
+
+  -- one that leaves nothing
+  pub idle_asked : (answer : Answer) → IsSound t → p ≡ no_plan → AsksAs t a.at.0 a.retry a.task a.command.now (record_of a) sending None answer t → PlansAsk t p a.at.0 a.caller a.retry a.task a.command.now None answer
+  idle_asked answer sound none asks = record {
+    after = t;
+    asks = record { sending = sending; sent = known; asks = asks };
+    leaves = stays_leaves t p none sound;
+  }
+
+  pub new_asked : (q : PlanOf) (person : ℕ) (left : Option Record) (answer : Answer) → sending ≡ New person → PlansNew t q a.at.0 person a.retry a.task a.command.now (record_of a) left answer → PlansAsk t q a.at.0 a.caller a.retry a.task a.command.now left answer
+  new_asked q person left answer is plans =
+      let P : Sending → Type 0 = λ s. AsksAs t a.at.0 a.retry a.task a.command.now (record_of a) s left answer plans.after in
+      record {
+        after = plans.after;
+        asks = record { sending = sending; sent = known; asks = subst P (sym is) plans.asks };
+        leaves = plans.leaves;
+      }

@@ -1,0 +1,275 @@
+-- What the last command of a device says of one that is sent again.
+use Rattle.std.proofs.Common.{◌≡◌, ◌⊎◌, ◌<◌, ℕ, List, [], ◌∷◌, Bool, Option, None, Some, refl, ap, sym, subst, ◌∙◌, inl, inr, arith}
+use Rattle.std.proofs.lemmas.Bool.{cases_eq}
+use Rattle.ht_base.specs.declared.event.Command.{Command}
+use Rattle.ht_base.specs.declared.event.Command.TheVariants as command
+use Rattle.ht_base.specs.declared.event.Event.{Event}
+use Rattle.ht_base.specs.declared.event.Event.TheVariants.{Ask, Read}
+use Rattle.ht_base.specs.declared.operation.Op.{Op}
+use Rattle.ht_base.specs.declared.parts.Parts.{Parts}
+use Rattle.ht_base.specs.declared.record.Record.{Record}
+use Rattle.ht_base.specs.declared.record.Record.TheVariants.{Asked}
+use Rattle.ht_base.specs.declared.reply.Answer.{Answer}
+use Rattle.ht_base.specs.declared.reply.Answer.TheVariants.{Refused}
+use Rattle.ht_base.specs.declared.moment.Moment.{Moment}
+use Rattle.ht_base.specs.declared.reply.Reply.{Reply}
+use Rattle.ht_base.specs.declared.reply.Refusal.{Refusal}
+use Rattle.ht_base.specs.declared.reply.Refusal.TheVariants as refusal
+use Rattle.ht_base.specs.declared.retry.Retry.{Retry}
+use Rattle.ht_base.specs.declared.task_id.TaskId.{TaskId}
+use Rattle.ht_base.specs.Events.{op_of}
+use Rattle.ht_base.specs.Ordered.{AscendBy}
+use Rattle.ht_machine.specs.declared.sending.Sending.{Sending}
+use Rattle.ht_machine.specs.declared.sending.Sending.TheVariants as sending
+use Rattle.ht_machine.specs.declared.sending.Sending.TheVariants.{New, Answered}
+use Rattle.ht_machine.specs.Commands.{ActsOn, AfterEffect, BehindGate, Comes, Creates, CreatesAt, CreatesNamed, CreatesOf, CreatesUnless, Outcome, accepted, refused, why_not_created}
+use Rattle.ht_machine.specs.Deciding.{Asks, AsksAs, Decides, IsIdle, Leads, Settles, effective}
+use Rattle.ht_machine.specs.Following.{Follows}
+use Rattle.ht_machine.specs.Gate.{Gate, gate, opens, shuts}
+use Rattle.ht_machine.specs.History.{History, IsHistory, IsStep, memory_reply}
+use Rattle.ht_machine.specs.Once.{ActsOnce, IsAccepted, IsLast, IsOf, IsRepeat, IsSame, IsSince, Remembers}
+use Rattle.ht_machine.specs.Sending.{ByCaller, ByLast, ByNumber, BySlot, IsSent, answer_of, slot_of, with_reply}
+use Rattle.ht_models.specs.Model.{ModelOf}
+use Rattle.ht_owner.specs.declared.follow.Follow.TheVariants.{Nothing, Began, Close}
+use Rattle.ht_owner.specs.Effects.{Effect, does, effect, refuses}
+use Rattle.ht_people.specs.Directory.{find}
+use Rattle.ht_tree.specs.declared.slot.Kept.{Kept}
+use Rattle.ht_tree.specs.declared.slot.Slot.{Slot}
+use Rattle.ht_tree.specs.Slots.{slot_cmp, slot_in, slots_with}
+use Rattle.ht_tree.specs.Tables.{TablesOf, at_moment, device_slot, directory, model_named}
+use Rattle.ht_tree.proofs.PublicLaws.{new_slot_found, other_slot_found, slot_is, slots_with_ascend}
+
+-- ---- one event
+
+module _ (t : TablesOf) (at : ℕ) (caller : List ℕ) (retry : Option Retry) (task : TaskId) (c : Command) where
+  -- what is known of a command of this slot's device
+  by_last : (s : Slot) (number : ℕ) (known : Sending) → IsLast t s → (find caller (directory t) ≡ Some s.person) × (retry ≡ Some (record { device = s.device; number = number })) → IsSent t caller retry (op_of c) task known → ByLast s.person number (op_of c) task s known
+  by_last s number known last of sent =
+      let C : Option ℕ → Type 0 = λ p. ByCaller t (op_of c) task retry p known in
+      let N : Option Retry → Type 0 = λ r. ByNumber t s.person (op_of c) task r known in
+      let S : Option Slot → Type 0 = λ o. BySlot s.person number (op_of c) task o known in
+      subst S last (subst N of.1 (subst C of.0 sent))
+
+  module _ (moment : ℕ) (asked : Record) (left : Option Record) (answer : Answer) (after : TablesOf) where
+    pub again_of : (s : Slot) (known : Sending) → ByLast s.person s.number (op_of c) task s known → (s.op ≡ op_of c) × (s.task ≡ task) → AsksAs t moment retry task c asked known left answer after → IsIdle t left after × (answer ≡ answer_of s.kept)
+    again_of s (New p) by same asks = let up = by.0 in absurd (omega arith)
+    again_of s (Answered reply) by same asks = (asks.0, asks.1 ∙ ap answer_of by.3)
+    again_of s (sending.Refused why) (inl by) same asks = let down = by.0 in absurd (omega arith)
+    again_of s (sending.Refused why) (inr by) same asks = absurd (by.1 same)
+
+    pub reused_of : (s : Slot) (known : Sending) → ByLast s.person s.number (op_of c) task s known → ((s.op ≡ op_of c) × (s.task ≡ task) → ⊥) → AsksAs t moment retry task c asked known left answer after → IsIdle t left after × (answer ≡ Refused (refusal.NumberReused s.number))
+    reused_of s (New p) by differ asks = let up = by.0 in absurd (omega arith)
+    reused_of s (Answered reply) by differ asks = absurd (differ (by.1, by.2))
+    reused_of s (sending.Refused why) (inl by) differ asks = let down = by.0 in absurd (omega arith)
+    reused_of s (sending.Refused why) (inr by) differ asks = (asks.0, asks.1 ∙ ap Refused by.2)
+
+    pub stale_of : (s : Slot) (number : ℕ) (known : Sending) → number < s.number → ByLast s.person number (op_of c) task s known → AsksAs t moment retry task c asked known left answer after → IsIdle t left after × (answer ≡ Refused (refusal.NumberStale s.number))
+    stale_of s number (New p) low by asks = let up = by.0 in absurd (omega arith)
+    stale_of s number (Answered reply) low by asks = let e = by.0 in absurd (omega arith)
+    stale_of s number (sending.Refused why) low (inl by) asks = (asks.0, asks.1 ∙ ap Refused by.1)
+    stale_of s number (sending.Refused why) low (inr by) asks = let e = by.0 in absurd (omega arith)
+
+pub acts_once : (t : TablesOf) (e : Event) (left : Option Record) (answer : Answer) (after : TablesOf) → Leads t e left answer after → ActsOnce t e left answer after
+acts_once t (Ask at caller retry task c) left answer after leads =
+    let moment = effective t at.0 in
+    let asked = Asked (record { 0 = moment }) caller retry task c in
+    let known = leads.sending in
+    record {
+      again = λ s last of same. again_of t moment caller retry task c moment asked left answer after s known (by_last t moment caller retry task c s s.number known last of leads.sent) same leads.asks;
+      reused = λ s last of differ. reused_of t moment caller retry task c moment asked left answer after s known (by_last t moment caller retry task c s s.number known last of leads.sent) differ leads.asks;
+      stale = λ s number last low of. stale_of t moment caller retry task c moment asked left answer after s number known low (by_last t moment caller retry task c s number known last of leads.sent) leads.asks;
+    }
+acts_once t (Read caller what) left answer after leads = record {
+  again = λ s last of same. absurd of;
+  reused = λ s last of differ. absurd of;
+  stale = λ s number last low of. absurd of;
+}
+
+-- ---- what a command leaves of the slots
+
+create_keeps : (u : TablesOf) (caller moment place : ℕ) (input : Parts) (v : TablesOf) (about : ℕ) → CreatesAt u caller moment place input (accepted v about) → v.slots ≡ u.slots
+create_keeps u caller moment place input v about made = at (why_not_created (directory u) made.0 input) made.2
+  where
+    at : (why : Option Refusal) → CreatesUnless u caller moment place input made.0 why (accepted v about) → v.slots ≡ u.slots
+    at None is = ap (λ (x : TablesOf). x.slots) is.2.2
+    at (Some why) is = absurd cc
+
+acts_keeps : (u : TablesOf) (caller moment task : ℕ) (c : Command) (v : TablesOf) (about : ℕ) → ActsOn u caller moment task c (accepted v about) → v.slots ≡ u.slots
+acts_keeps u caller moment task c v about = at (gate u (op_of c) caller task)
+  where
+    by : (e : Effect) → AfterEffect u task e (accepted v about) → v.slots ≡ u.slots
+    by (does row Nothing) a = ap (λ (x : TablesOf). x.slots) a.0
+    by (does row Began) a = ap (λ (x : TablesOf). x.slots) a.0.2
+    by (does row (Close end)) a = ap (λ (x : TablesOf). x.slots) a.0.2
+    by (refuses why) a = absurd cc
+
+    at : (g : Gate) → BehindGate u caller moment task c g (accepted v about) → v.slots ≡ u.slots
+    at (opens row) a = by (effect (directory u) a.0 caller (record { 0 = moment }) c row) a.2
+    at (shuts why) a = absurd cc
+
+comes_keeps : (u : TablesOf) (caller moment task : ℕ) (c : Command) (v : TablesOf) (about : ℕ) → Comes u caller moment task c (accepted v about) → v.slots ≡ u.slots
+comes_keeps u caller moment task (command.Create None input) v about comes = create_keeps u caller moment 0 input v about comes
+comes_keeps u caller moment task (command.Create (Some name) input) v about comes = at (model_named u name) comes
+  where
+    at : (k : Option ℕ) → CreatesNamed u caller moment name input k (accepted v about) → v.slots ≡ u.slots
+    at None is = absurd cc
+    at (Some place) is = create_keeps u caller moment place input v about is
+comes_keeps u caller moment task c v about comes = acts_keeps u caller moment task c v about comes
+
+-- ---- from one state to the next
+
+by_slots : (s : Slot) (t u : TablesOf) → u.slots ≡ t.slots → IsSince s t → IsSince s u
+by_slots s t u same h = record {
+  last = h.last;
+  there = ap (λ (l : List Slot). slot_in s.person s.device l) same ∙ h.there;
+  later = h.later;
+  ordered = subst (AscendBy slot_cmp) (sym same) h.ordered;
+}
+
+-- the caller of a new command is a person
+new_caller : (t : TablesOf) (op : Op) (task : TaskId) (retry : Option Retry) (k : Option ℕ) (person : ℕ) → ByCaller t op task retry k (New person) → k ≡ Some person
+new_caller t op task retry None person by = absurd cc
+new_caller t op task None (Some p) person by = let same : person ≡ p = cc in ap Some (sym same)
+new_caller t op task (Some r) (Some p) person by = at (device_slot t p r.device) by
+  where
+    at : (last : Option Slot) → BySlot p r.number op task last (New person) → Some p ≡ Some person
+    at None is = let same : person ≡ p = cc in ap Some (sym same)
+    at (Some last) is = ap Some (sym is.1)
+
+new_number : (t : TablesOf) (op : Op) (task : TaskId) (retry : Option Retry) (k : Option ℕ) (person : ℕ) → ByCaller t op task retry k (New person) → ByNumber t person op task retry (New person)
+new_number t op task retry k person by =
+    let C : Option ℕ → Type 0 = λ o. ByCaller t op task retry o (New person) in
+    subst C (new_caller t op task retry k person by) by
+
+-- a new command of a device has a later number than its last
+module _ (t : TablesOf) (person : ℕ) (op : Op) (task : TaskId) (r : Retry) (reply : Kept) where
+  later_than : (s : Slot) → IsSince s t → ByNumber t person op task (Some r) (New person) → (person ≡ s.person) × (r.device ≡ s.device) → s.number < r.number
+  later_than s h new same = at h.later
+    where
+      last_before : (h.last).number < r.number
+      last_before =
+          let S : Option Slot → Type 0 = λ o. BySlot person r.number op task o (New person) in
+          let D : ℕ → Type 0 = λ d. S (device_slot t person d) in
+          let P : ℕ → Type 0 = λ p. S (device_slot t p s.device) in
+          (subst S h.there (subst P same.0 (subst D same.1 new))).0
+
+      at : (h.last ≡ s) ⊎ (s.number < (h.last).number) → s.number < r.number
+      at (inl is) = let e = ap (λ (x : Slot). x.number) is in let up = last_before in omega arith
+      at (inr up) = let low = last_before in omega arith
+
+  -- with its reply the tables have the slot of each device
+  with_new : (s : Slot) (u : TablesOf) → IsSince s t → ByNumber t person op task (Some r) (New person) → u.slots ≡ slots_with t.slots (slot_of person r op task reply) → IsSince s u
+  with_new s u h new same = elim (cases_eq person s.person) [
+    | inl p ↦ elim (cases_eq r.device s.device) [ inl d ↦ of_device p d | inr d ↦ of_another (λ e. d e.1) ]
+    | inr p ↦ of_another (λ e. p e.0)
+  ]
+    where
+      ordered : AscendBy slot_cmp u.slots
+      ordered = subst (AscendBy slot_cmp) (sym same) (slots_with_ascend (slot_of person r op task reply) t.slots h.ordered)
+
+      look : (p d : ℕ) → device_slot u p d ≡ slot_in p d (slots_with t.slots (slot_of person r op task reply))
+      look p d = ap (λ (l : List Slot). slot_in p d l) same
+
+      of_device : person ≡ s.person → r.device ≡ s.device → IsSince s u
+      of_device p d =
+          let D : ℕ → Type 0 = λ x. device_slot u person x ≡ Some (slot_of person r op task reply) in
+          let P : ℕ → Type 0 = λ x. device_slot u x s.device ≡ Some (slot_of person r op task reply) in
+          record {
+            last = slot_of person r op task reply;
+            there = subst P p (subst D d (look person r.device ∙ new_slot_found (slot_of person r op task reply) t.slots));
+            later = inr (later_than s h new (p, d));
+            ordered = ordered;
+          }
+
+      of_another : ((person ≡ s.person) × (r.device ≡ s.device) → ⊥) → IsSince s u
+      of_another apart = record {
+        last = h.last;
+        there = look s.person s.device ∙ other_slot_found (slot_of person r op task reply) t.slots s.person s.device apart h.ordered ∙ h.there;
+        later = h.later;
+        ordered = ordered;
+      }
+
+slots_after : (t v : TablesOf) (moment person : ℕ) (retry : Option Retry) (op : Op) (task : TaskId) (reply : Kept) (s : Slot) → v.slots ≡ t.slots → ByNumber t person op task retry (New person) → IsSince s t → IsSince s (at_moment (with_reply v person retry op task reply) moment)
+slots_after t v moment person None op task reply s same new h = by_slots s t (at_moment v moment) same h
+slots_after t v moment person (Some r) op task reply s same new h =
+    with_new t person op task r reply s (at_moment (with_reply v person (Some r) op task reply) moment) h new (ap (λ (l : List Slot). slots_with l (slot_of person r op task reply)) same)
+
+module _ (s : Slot) (t : TablesOf) where
+  idle_since : (after : TablesOf) → after ≡ t → IsSince s t → IsSince s after
+  idle_since after same h = subst (IsSince s) (sym same) h
+
+  asks_since : (moment : ℕ) (caller : List ℕ) (retry : Option Retry) (task : TaskId) (c : Command) (asked : Record) (known : Sending) (left : Option Record) (answer : Answer) (after : TablesOf) → IsSent t caller retry (op_of c) task known → AsksAs t moment retry task c asked known left answer after → IsSince s t → IsSince s after
+  asks_since moment caller retry task c asked (New person) left answer after sent asks h = at asks.0 asks.1 asks.2
+    where
+      at : (o : Outcome) → Comes t person moment task.0 c o → Settles t moment person retry (op_of c) task asked o left answer after → IsSince s after
+      at (accepted v about) comes settles =
+          subst (IsSince s) (sym settles.3)
+          (slots_after t v moment person retry (op_of c) task settles.0 s (comes_keeps t person moment task.0 c v about comes) (new_number t (op_of c) task retry (find caller (directory t)) person sent) h)
+      at (refused why) comes settles = idle_since after settles.0.1 h
+  asks_since moment caller retry task c asked (Answered reply) left answer after sent asks h = idle_since after asks.0.1 h
+  asks_since moment caller retry task c asked (sending.Refused why) left answer after sent asks h = idle_since after asks.0.1 h
+
+  leads_since : (e : Event) (left : Option Record) (answer : Answer) (after : TablesOf) → Leads t e left answer after → IsSince s t → IsSince s after
+  leads_since (Ask at caller retry task c) left answer after leads h =
+      let moment = effective t at.0 in
+      asks_since moment caller retry task c (Asked (record { 0 = moment }) caller retry task c) leads.sending left answer after leads.sent leads.asks h
+  leads_since (Read caller what) left answer after leads h = idle_since after leads.0.1 h
+
+  step_since : (e : Event) (reply : Reply) (after : TablesOf) → IsStep t e reply after → IsSince s t → IsSince s after
+  step_since e reply after (inl d) h = leads_since e d.0 reply.answer after d.1.1 h
+  step_since e reply after (inr none) h = idle_since after none.1 h
+
+-- ---- a command that is accepted
+
+settled_is_kept : (t : TablesOf) (moment person : ℕ) (caller : List ℕ) (r : Retry) (task : TaskId) (c : Command) (asked kept : Record) (o : Outcome) (answer : Answer) (after : TablesOf) → AscendBy slot_cmp t.slots → IsSent t caller (Some r) (op_of c) task (New person) → Comes t person moment task.0 c o → Settles t moment person (Some r) (op_of c) task asked o (Some kept) answer after → (s : Slot) × IsAccepted t caller r task c answer s × IsSince s after
+settled_is_kept t moment person caller r task c asked kept (accepted v about) answer after up sent comes settles =
+    let slot = slot_of person r (op_of c) task settles.0 in
+    let same = comes_keeps t person moment task.0 c v about comes in
+    let held : after.slots ≡ slots_with t.slots slot = ap (λ (x : TablesOf). x.slots) settles.3 ∙ ap (λ (l : List Slot). slots_with l slot) same in (
+      slot,
+      record { person = new_caller t (op_of c) task (Some r) (find caller (directory t)) person sent; device = refl; number = refl; op = refl; task_is = refl; reply = settles.4 },
+      record {
+        last = slot;
+        there = ap (λ (l : List Slot). slot_in person r.device l) held ∙ new_slot_found slot t.slots;
+        later = inl refl;
+        ordered = subst (AscendBy slot_cmp) (sym held) (slots_with_ascend slot t.slots up);
+      },
+    )
+settled_is_kept t moment person caller r task c asked kept (refused why) answer after up sent comes settles = absurd cc
+
+accepted_is_kept : (t : TablesOf) (moment : ℕ) (caller : List ℕ) (r : Retry) (task : TaskId) (c : Command) (asked kept : Record) (known : Sending) (answer : Answer) (after : TablesOf) → AscendBy slot_cmp t.slots → IsSent t caller (Some r) (op_of c) task known → AsksAs t moment (Some r) task c asked known (Some kept) answer after → (s : Slot) × IsAccepted t caller r task c answer s × IsSince s after
+accepted_is_kept t moment caller r task c asked kept (New person) answer after up sent asks = settled_is_kept t moment person caller r task c asked kept asks.0 answer after up sent asks.1 asks.2
+accepted_is_kept t moment caller r task c asked kept (Answered reply) answer after up sent asks = absurd cc
+accepted_is_kept t moment caller r task c asked kept (sending.Refused why) answer after up sent asks = absurd cc
+
+pub is_kept : (t : TablesOf) (at : Moment) (caller : List ℕ) (r : Retry) (task : TaskId) (c : Command) (kept : Record) (answer : Answer) (after : TablesOf) → AscendBy slot_cmp t.slots → Leads t (Ask at caller (Some r) task c) (Some kept) answer after → (s : Slot) × IsAccepted t caller r task c answer s × IsSince s after
+is_kept t at caller r task c kept answer after up leads =
+    let moment = effective t at.0 in
+    accepted_is_kept t moment caller r task c (Asked (record { 0 = moment }) caller (Some r) task c) kept leads.sending answer after up leads.sent leads.asks
+
+-- ---- a history
+
+of_device : (t : TablesOf) (s last : Slot) (number : ℕ) (e : Event) → last.person ≡ s.person → last.device ≡ s.device → IsOf t s number e → IsOf t last number e
+of_device t s last number (Ask at caller retry task c) p d of = (of.0 ∙ ap Some (sym p), of.1 ∙ ap (λ (x : ℕ). Some (record { device = x; number = number })) (sym d))
+of_device t s last number (Read caller what) p d of = of
+
+repeated : (s : Slot) (t : TablesOf) (e : Event) (reply : Reply) (after : TablesOf) → IsSince s t → IsStep t e reply after → IsOf t s s.number e → IsSame s e → IsRepeat s t after reply.answer
+repeated s t e reply after h (inr none) of same = record { same = none.1; told = inr (inr (ap (λ (r : Reply). r.answer) none.0)) }
+repeated s t e reply after h (inl d) of same = at h.later
+  where
+    at : (h.last ≡ s) ⊎ (s.number < (h.last).number) → IsRepeat s t after reply.answer
+    at (inl is) =
+        let told = (acts_once t e d.0 reply.answer after d.1.1).again s (h.there ∙ ap Some is) of same in
+        record { same = told.0.1; told = inl told.1 }
+    at (inr low) =
+        let last = h.last in
+        let is = slot_is s.person s.device t.slots last h.there in
+        let D : ℕ → Type 0 = λ x. device_slot t s.person x ≡ Some last in
+        let P : ℕ → Type 0 = λ x. device_slot t x last.device ≡ Some last in
+        let there : IsLast t last = subst P (sym is.0) (subst D (sym is.1) h.there) in
+        let told = (acts_once t e d.0 reply.answer after d.1.1).stale last s.number there low (of_device t s last s.number e is.0 is.1 of) in
+        record { same = told.0.1; told = inr (inl (last.number, low, told.1)) }
+
+pub remembers : (s : Slot) (t : TablesOf) (history : History) → IsSince s t → IsHistory t history → Remembers s t history
+remembers s t [] h legal = tt
+remembers s t (e ∷ es) h legal = ((λ of same. repeated s t e.event e.reply e.after h legal.0 of same), remembers s e.after es (step_since s t e.event e.reply e.after legal.0 h) legal.1)

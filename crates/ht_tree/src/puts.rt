@@ -1,0 +1,170 @@
+ghost use Rattle.std.specs.Prelude.{◌≡◌, ◌++◌, ◌∷◌, ◌≤◌, [], IfOk, length, MatchOption, OnOk, OnErr, Some, option_map, slice_get, slice_set, take};
+ghost use Rattle.ht_tree.specs.Places.{IsLent, last_of, last_place, put_past, tasks_of};
+
+use crate::Row;
+use crate::index::Index;
+use ht_base::{Memory, TaskId};
+use std::alloc::Global;
+use std::marker::Model;
+use std::mem;
+
+/// How many rows are looked through. A plan of one command seldom puts more.
+const FEW: usize = 4;
+
+/// Rows that are put one after another: the first few are looked through, and the others have an index.
+#[derive(Drop)]
+pub(crate) struct Puts {
+    rows: Vec<Row>,
+    others: Index,
+}
+
+impl Model for Puts {
+    ghost use Rattle.std.specs.Prelude.{List};
+    ghost use Rattle.ht_tree.specs.declared.row.Row.{Row};
+
+    ghost Value = { List Row };
+
+    ghost use Rattle.ht_tree.specs.KeptIndex.{AreIndexed, puts_in};
+
+    ghost view = { puts_in };
+
+    ghost invariant = { AreIndexed };
+}
+
+impl Puts {
+    /// It has room for one row.
+    pub(crate) fn new(alloc: Global) -> Result<Puts, Memory>
+        ensures { IfOk result (λ p. p ≡ []) }
+    {
+        Ok(Puts {
+            rows: Vec::with_capacity(alloc, 1)?,
+            others: Index::new(alloc),
+        })
+    }
+
+    pub(crate) fn len(&self) -> usize
+        ensures { result ≡ length self.now }
+    {
+        self.rows.len()
+    }
+
+    fn get(&self, place: usize) -> Option<&Row>
+        ensures { option_map (λ r. r.now) result ≡ slice_get self.now place }
+    {
+        self.rows.get(place)
+    }
+
+    /// The last row of a task.
+    pub(crate) fn last(&self, task: TaskId) -> Option<&Row>
+        ensures { option_map (λ r. r.now) result ≡ last_of task.0 self.now }
+    {
+        match self.place(task) {
+            Some(place) => self.get(place),
+            None => None,
+        }
+    }
+
+    // The place of the last row of a task.
+    fn place(&self, task: TaskId) -> Option<usize>
+        ensures { result ≡ last_place task.0 (tasks_of self.now) }
+    {
+        match self.others.place(task) {
+            Some(place) => Some(FEW + place),
+            None => place_in(self.first(), task),
+        }
+    }
+
+    // The rows that are looked through.
+    fn first(&self) -> &[Row]
+        ensures { result.now ≡ take 4 self.now }
+    {
+        &self.rows[..self.rows.len().min(FEW)]
+    }
+
+    /// Puts a row: in the place of the last of its task, where that is not before the mark, and else
+    /// behind all.
+    pub(crate) fn put(&mut self, mark: usize, row: Row) -> Result<(), Memory>
+        ensures ok { OnOk result (self.new ≡ put_past mark self.old row) }
+        ensures err { OnErr result (self.new ≡ self.old) }
+    {
+        match self.place(row.task) {
+            Some(place) if place >= mark => {
+                let _ = self.replace(place, row);
+                Ok(())
+            }
+            _ => self.push(row),
+        }
+    }
+
+    fn push(&mut self, row: Row) -> Result<(), Memory>
+        ensures ok { OnOk result (self.new ≡ self.old ++ row ∷ []) }
+        ensures err { OnErr result (self.new ≡ self.old) }
+    {
+        self.rows.reserve(1)?;
+        if self.rows.len() >= FEW {
+            self.others.push(row.task)?;
+        }
+        self.rows.push_reserved(row);
+        Ok(())
+    }
+
+    /// Takes the last row of a task, where it is not before the mark. A bare one is left in its place.
+    pub(crate) fn lend(&mut self, alloc: Global, mark: usize, task: TaskId) -> Option<Row>
+        ensures { MatchOption result (self.new ≡ self.old) (λ row. IsLent mark self.old self.new task.0 row) }
+    {
+        match self.place(task) {
+            Some(place) if place >= mark => {
+                let left = self.get(place)?.emptied(alloc);
+                Some(self.replace(place, left))
+            }
+            _ => None,
+        }
+    }
+
+    // Puts a row in the place of one of the same task, which it gives.
+    fn replace(&mut self, place: usize, row: Row) -> Row
+        requires { option_map (λ r. r.task.0) (slice_get self.old place) ≡ Some row.task.0 }
+        ensures there { slice_get self.old place ≡ Some result }
+        ensures new { self.new ≡ slice_set self.old place row }
+    {
+        mem::replace(&mut self.rows[place], row)
+    }
+
+    /// Takes the last rows, so that as many are left. It takes no memory.
+    pub(crate) fn truncate(&mut self, len: usize)
+        requires { len ≤ length self.old }
+        ensures { self.new ≡ take len self.old }
+    {
+        while self.rows.len() > len {
+            let _ = self.pop();
+        }
+    }
+
+    fn pop(&mut self) -> Option<Row>
+        ensures { MatchOption result ((self.old ≡ []) × (self.new ≡ [])) (λ row. self.old ≡ self.new ++ row ∷ []) }
+    {
+        let row = self.rows.pop()?;
+        let _ = self.others.pop();
+        Some(row)
+    }
+
+    /// The rows, in the order in which they were put.
+    pub(crate) fn into_rows(self) -> Vec<Row>
+        ensures { result.items ≡ self }
+    {
+        self.rows
+    }
+}
+
+// The place of the last row of a task.
+fn place_in(rows: &[Row], task: TaskId) -> Option<usize>
+    ensures { result ≡ last_place task.0 (tasks_of rows.now) }
+{
+    let mut last = None;
+    for (place, row) in rows.iter().enumerate() {
+        if row.task == task {
+            last = Some(place);
+        }
+    }
+    last
+}
