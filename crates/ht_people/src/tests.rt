@@ -2,7 +2,7 @@ use crate::{
     Directory, PeopleRefusal, a_people_text_has_one_answer, built_in_text_reads, except, intersect,
     union,
 };
-use ht_base::{Name, Person, Persons};
+use ht_base::{Memory, Name, Person, Persons};
 use ht_samples::PEOPLE;
 use std::alloc::{AllocError, Global};
 use std::process::Abort;
@@ -89,60 +89,95 @@ fn members_of(alloc: Global, directory: &Directory, group: &str) -> Result<Perso
     Ok(directory.members(alloc, name)?)
 }
 
+// Whether these are the members of a group.
+fn has_members(
+    alloc: Global,
+    directory: &Directory,
+    group: &str,
+    persons: &[Person],
+) -> Result<bool, Fail> {
+    let members = members_of(alloc, directory, group)?;
+    Ok(members.as_slice() == persons)
+}
+
+// Whether a person has this name and this number, and is an operator or not.
+fn is_person(directory: &Directory, text: &str, number: u32, operator: bool) -> bool {
+    let Some(name) = Name::of(text.as_bytes()) else {
+        return false;
+    };
+    match directory.find(name) {
+        Some(person) => {
+            person == Person(number)
+                && directory.name(person) == name
+                && directory.operator(person) == operator
+        }
+        None => false,
+    }
+}
+
+// How many persons and groups a text has.
+fn counts(alloc: Global, text: &[u8]) -> Result<(u32, u32), Fail> {
+    let directory = Directory::read(alloc, text)?;
+    Ok((directory.persons(), directory.groups()))
+}
+
+// Each person of the sample with its number, and whether it is an operator.
+const SAMPLE: [(&str, u32, bool); 5] = [
+    ("anna", 0, false),
+    ("ben", 1, false),
+    ("cora", 2, false),
+    ("dan", 3, false),
+    ("root", 4, true),
+];
+
 #[test]
 fn the_sample_people_are_read(rt: HostRuntime) -> Result<(), Fail> {
     let directory = Directory::read(rt.alloc(), PEOPLE.as_bytes())?;
-    assert_eq!(rt; directory.persons(), 5);
-    assert_eq!(rt; directory.groups(), 1);
-    let table = [
-        ("anna", 0, false),
-        ("ben", 1, false),
-        ("cora", 2, false),
-        ("dan", 3, false),
-        ("root", 4, true),
-    ];
-    for (text, place, operator) in table {
-        let name = Name::of(text.as_bytes()).ok_or("a name")?;
-        match directory.find(name) {
-            Some(person) => {
-                assert_eq!(rt; person, Person(place), "{text}");
-                assert_eq!(rt; directory.name(person), name);
-                assert_eq!(rt; directory.operator(person), operator, "{text}");
-            }
-            None => return Err(Fail::new(text)),
-        }
+    for (text, number, operator) in &SAMPLE {
+        assert!(rt; is_person(&directory, text, *number, *operator), "{text}");
     }
-    let stranger = Name::of(b"clerks").ok_or("a name")?;
-    assert_eq!(rt; directory.find(stranger), None);
-    let clerks = members_of(rt.alloc(), &directory, "clerks")?;
-    assert_eq!(rt; clerks.as_slice(), [Person(0), Person(1)].as_slice());
-    let nobody = members_of(rt.alloc(), &directory, "anna")?;
-    assert_eq!(rt; nobody.as_slice().len(), 0);
     Ok(())
+}
+
+#[test]
+fn the_sample_people_are_counted(rt: HostRuntime) -> Result<(), Fail> {
+    assert_eq!(rt; counts(rt.alloc(), PEOPLE.as_bytes())?, (5, 1));
+    Ok(())
+}
+
+#[test]
+fn a_group_is_no_person(rt: HostRuntime) -> Result<(), Fail> {
+    let directory = Directory::read(rt.alloc(), PEOPLE.as_bytes())?;
+    let clerks = Name::of(b"clerks").ok_or("a name")?;
+    assert_eq!(rt; directory.find(clerks), None);
+    let persons = [Person(0), Person(1)];
+    assert!(rt; has_members(rt.alloc(), &directory, "clerks", &persons)?);
+    assert!(rt; has_members(rt.alloc(), &directory, "anna", &[])?);
+    Ok(())
+}
+
+// Whether a person of an office with the built-in text has the name of its number.
+fn is_numbered(alloc: Global, directory: &Directory, number: u32) -> Result<bool, Fail> {
+    let text = format!(in alloc; "p{number}")?;
+    Ok(is_person(directory, text.as_str(), number, false))
 }
 
 #[test]
 fn the_built_in_people_are_read(rt: HostRuntime) -> Result<(), Fail> {
     built_in_text_reads();
     a_people_text_has_one_answer();
-    let mut text = String::new(rt.alloc());
-    for n in 0..16u32 {
-        write!(text, "[[person]]\nname = \"p{n}\"\n")?;
-    }
+    let text = many(rt.alloc(), 16, 0)?;
     assert_eq!(rt; text.len(), 374);
+    assert_eq!(rt; counts(rt.alloc(), text.as_bytes())?, (16, 0));
+    Ok(())
+}
+
+#[test]
+fn the_built_in_people_have_numbers(rt: HostRuntime) -> Result<(), Fail> {
+    let text = many(rt.alloc(), 16, 0)?;
     let directory = Directory::read(rt.alloc(), text.as_bytes())?;
-    assert_eq!(rt; directory.persons(), 16);
-    assert_eq!(rt; directory.groups(), 0);
-    for n in 0..16u32 {
-        let text = format!(in rt.alloc(); "p{n}")?;
-        let name = Name::of(text.as_bytes()).ok_or("a name")?;
-        match directory.find(name) {
-            Some(person) => {
-                assert_eq!(rt; person, Person(n));
-                assert!(rt; !directory.operator(person));
-            }
-            None => return Err(Fail::new(n)),
-        }
+    for number in 0..16u32 {
+        assert!(rt; is_numbered(rt.alloc(), &directory, number)?, "p{number}");
     }
     Ok(())
 }
@@ -150,122 +185,197 @@ fn the_built_in_people_are_read(rt: HostRuntime) -> Result<(), Fail> {
 #[test]
 fn a_text_without_entries_is_read(rt: HostRuntime) -> Result<(), Fail> {
     for text in [b"".as_slice(), b"person = []\n", b"# nobody\ngroup = []\n"] {
-        let directory = Directory::read(rt.alloc(), text)?;
-        assert_eq!(rt; directory.persons(), 0);
-        assert_eq!(rt; directory.groups(), 0);
+        assert_eq!(rt; counts(rt.alloc(), text)?, (0, 0));
     }
     Ok(())
 }
 
+const APART: &[u8] =
+    b"person = [{name = \"a\"}, {name = \"b\", operator = false}]\ngroup = [{name = \"a\", members = [\"b\", \"@c\"]}, {name = \"c\", members = [\"a\"]}, {name = \"b\", members = [\"a\", \"@a\"]}]\n";
+
 #[test]
 fn names_of_persons_and_groups_are_apart(rt: HostRuntime) -> Result<(), Fail> {
-    let text =
-        b"person = [{name = \"a\"}, {name = \"b\", operator = false}]\ngroup = [{name = \"a\", members = [\"b\", \"@c\"]}, {name = \"c\", members = [\"a\"]}, {name = \"b\", members = [\"a\", \"@a\"]}]\n";
-    let directory = Directory::read(rt.alloc(), text)?;
-    let table = [("a", 2), ("b", 2), ("c", 1), ("d", 0)];
-    for (group, count) in table {
-        let members = members_of(rt.alloc(), &directory, group)?;
-        assert_eq!(rt; members.as_slice().len(), count, "{group}");
+    let directory = Directory::read(rt.alloc(), APART)?;
+    let table: [(&str, &[Person]); 4] = [
+        ("a", &[Person(0), Person(1)]),
+        ("b", &[Person(0), Person(1)]),
+        ("c", &[Person(0)]),
+        ("d", &[]),
+    ];
+    for (group, members) in table {
+        assert!(rt;
+            has_members(rt.alloc(), &directory, group, members)?,
+            "{group}"
+        );
     }
-    let first = members_of(rt.alloc(), &directory, "c")?;
-    assert_eq!(rt; first.as_slice(), [Person(0)].as_slice());
     Ok(())
 }
 
 // Why a text is refused, if it is.
+fn refusal_of(alloc: Global, text: &str) -> Option<PeopleRefusal> {
+    Directory::read(alloc, text.as_bytes()).err()
+}
+
+// The same in words.
 fn answer(alloc: Global, text: &str) -> Result<String, Fail> {
-    match Directory::read(alloc, text.as_bytes()) {
-        Ok(_) => Ok(String::from_str(alloc, "read")?),
-        Err(refusal) => Ok(format!(in alloc; "{refusal:?}")?),
+    match refusal_of(alloc, text) {
+        None => Ok(String::from_str(alloc, "read")?),
+        Some(refusal) => Ok(format!(in alloc; "{refusal:?}")?),
     }
 }
 
-// In each line a text, with `;` for each line feed, stands before its refusal.
-fn are_refused(rt: &impl Abort, alloc: Global, lines: &str) -> Result<(), Fail> {
-    for line in lines.lines() {
-        let (text, refusal) = line.split_once(" => ").ok_or("a text and its refusal")?;
-        let text = text.replace(alloc, ";", "\n")?;
-        let answer = answer(alloc, text.as_str())?;
-        assert_eq!(rt; answer.as_str(), refusal, "{line}");
+fn is_answered(alloc: Global, text: &str, want: &str) -> Result<bool, Fail> {
+    let answer = answer(alloc, text)?;
+    Ok(answer.as_str() == want)
+}
+
+// In a line a text, with `;` for each line feed, stands before its refusal.
+fn is_refused(alloc: Global, line: &str) -> Result<bool, Fail> {
+    let (text, refusal) = line.split_once(" => ").ok_or("a text and its refusal")?;
+    let text = text.replace(alloc, ";", "\n")?;
+    is_answered(alloc, text.as_str(), refusal)
+}
+
+#[test]
+fn texts_are_refused_at_the_least_place(rt: HostRuntime) -> Result<(), Fail> {
+    for lines in [NO_DOCUMENTS, MISSHAPEN, TWICE, UNKNOWN, CYCLES, LEAST] {
+        for line in lines.lines() {
+            assert!(rt; is_refused(rt.alloc(), line)?, "{line}");
+        }
     }
     Ok(())
 }
 
 #[test]
-fn texts_are_refused_at_the_least_place(rt: HostRuntime) -> Result<(), Fail> {
-    are_refused(&rt, rt.alloc(), NO_DOCUMENTS)?;
-    are_refused(&rt, rt.alloc(), MISSHAPEN)?;
-    are_refused(&rt, rt.alloc(), TWICE)?;
-    are_refused(&rt, rt.alloc(), UNKNOWN)?;
-    are_refused(&rt, rt.alloc(), CYCLES)?;
-    are_refused(&rt, rt.alloc(), LEAST)?;
-    let latin = Directory::read(rt.alloc(), b"[[person]]\nname = \"caf\xe9\"\n");
-    assert_eq!(rt; latin.err(), Some(PeopleRefusal::Syntax));
-    let own = Directory::read(rt.alloc(), ITS_OWN_MEMBER);
-    assert_eq!(rt; own.err(), Some(PeopleRefusal::Cycle(5)));
+fn bytes_are_refused(rt: HostRuntime) {
+    let latin = Directory::read(rt.alloc(), b"[[person]]\nname = \"caf\xe9\"\n").err();
+    assert_eq!(rt; latin, Some(PeopleRefusal::Syntax));
+    let own = Directory::read(rt.alloc(), ITS_OWN_MEMBER).err();
+    assert_eq!(rt; own, Some(PeopleRefusal::Cycle(5)));
+}
+
+fn put_persons(text: &mut String, persons: u32) -> Result<(), AllocError> {
+    for n in 0..persons {
+        write!(text, "[[person]]\nname = \"p{n}\"\n")?;
+    }
+    Ok(())
+}
+
+fn put_groups(text: &mut String, groups: u32) -> Result<(), AllocError> {
+    for n in 0..groups {
+        write!(text, "[[group]]\nname = \"g{n}\"\nmembers = []\n")?;
+    }
     Ok(())
 }
 
 // As many persons and groups, and no memberships.
 fn many(alloc: Global, persons: u32, groups: u32) -> Result<String, AllocError> {
     let mut text = String::new(alloc);
-    for n in 0..persons {
-        write!(text, "[[person]]\nname = \"p{n}\"\n")?;
-    }
-    for n in 0..groups {
-        write!(text, "[[group]]\nname = \"g{n}\"\nmembers = []\n")?;
-    }
+    put_persons(&mut text, persons)?;
+    put_groups(&mut text, groups)?;
     Ok(text)
 }
 
-// One person, and a chain of as many memberships from the first group to the person.
-fn nested(alloc: Global, memberships: u32) -> Result<String, AllocError> {
-    let mut text = String::from_str(alloc, "[[person]]\nname = \"p\"\n")?;
-    for n in 1..memberships {
-        write!(text, "[[group]]\nname = \"g{n}\"\nmembers = [\"@g")?;
-        let next = u64::from(n) + 1;
-        write!(text, "{next}\"]\n")?;
-    }
-    write!(
-        text,
-        "[[group]]\nname = \"g{memberships}\"\nmembers = [\"p\"]\n"
-    )?;
-    Ok(text)
+fn refusal_of_many(
+    alloc: Global,
+    persons: u32,
+    groups: u32,
+) -> Result<Option<PeopleRefusal>, Fail> {
+    let text = many(alloc, persons, groups)?;
+    Ok(refusal_of(alloc, text.as_str()))
 }
 
 #[test]
-fn limits_are_kept(rt: HostRuntime) -> Result<(), Fail> {
+fn there_are_so_many_persons_and_groups(rt: HostRuntime) -> Result<(), Fail> {
     let sizes = [
         (1024, 256, None),
         (1025, 0, Some(PeopleRefusal::Limit)),
         (1024, 257, Some(PeopleRefusal::Limit)),
     ];
     for (persons, groups, refusal) in sizes {
-        let text = many(rt.alloc(), persons, groups)?;
-        let read = Directory::read(rt.alloc(), text.as_bytes());
-        assert_eq!(rt; read.err(), refusal, "{persons} {groups}");
+        assert_eq!(rt;
+            refusal_of_many(rt.alloc(), persons, groups)?,
+            refusal,
+            "{persons} {groups}"
+        );
     }
+    Ok(())
+}
+
+// Groups of which each has the next as its member.
+fn put_chain(text: &mut String, groups: u32) -> Result<(), AllocError> {
+    for n in 1..groups {
+        let next = u64::from(n) + 1;
+        write!(
+            text,
+            "[[group]]\nname = \"g{n}\"\nmembers = [\"@g{next}\"]\n"
+        )?;
+    }
+    Ok(())
+}
+
+// One person, a chain of as many memberships from the first group to the person, and some text.
+fn nested(alloc: Global, memberships: u32, behind: &str) -> Result<String, AllocError> {
+    let mut text = String::from_str(alloc, "[[person]]\nname = \"p\"\n")?;
+    put_chain(&mut text, memberships)?;
+    write!(
+        text,
+        "[[group]]\nname = \"g{memberships}\"\nmembers = [\"p\"]\n{behind}"
+    )?;
+    Ok(text)
+}
+
+fn refusal_of_nested(
+    alloc: Global,
+    memberships: u32,
+    behind: &str,
+) -> Result<Option<PeopleRefusal>, Fail> {
+    let text = nested(alloc, memberships, behind)?;
+    Ok(refusal_of(alloc, text.as_str()))
+}
+
+#[test]
+fn memberships_nest_so_deep(rt: HostRuntime) -> Result<(), Fail> {
     let chains = [(1, None), (8, None), (9, Some(PeopleRefusal::Limit))];
     for (memberships, refusal) in chains {
-        let text = nested(rt.alloc(), memberships)?;
-        let read = Directory::read(rt.alloc(), text.as_bytes());
-        assert_eq!(rt; read.err(), refusal, "{memberships}");
+        assert_eq!(rt;
+            refusal_of_nested(rt.alloc(), memberships, "")?,
+            refusal,
+            "{memberships}"
+        );
     }
-    let text = nested(rt.alloc(), 8)?;
+    Ok(())
+}
+
+#[test]
+fn members_are_found_through_each_group(rt: HostRuntime) -> Result<(), Fail> {
+    let text = nested(rt.alloc(), 8, "")?;
     let directory = Directory::read(rt.alloc(), text.as_bytes())?;
     for group in ["g1", "g8"] {
-        let members = members_of(rt.alloc(), &directory, group)?;
-        assert_eq!(rt; members.as_slice(), [Person(0)].as_slice(), "{group}");
+        assert!(rt;
+            has_members(rt.alloc(), &directory, group, &[Person(0)])?,
+            "{group}"
+        );
     }
     Ok(())
 }
 
 #[test]
 fn a_cycle_comes_before_a_limit(rt: HostRuntime) -> Result<(), Fail> {
-    let mut text = nested(rt.alloc(), 9)?;
-    text.push_str("[[group]]\nname = \"round\"\nmembers = [\"@round\"]\n")?;
-    let read = Directory::read(rt.alloc(), text.as_bytes());
-    assert_eq!(rt; read.err(), Some(PeopleRefusal::Cycle(10)));
+    let round = "[[group]]\nname = \"round\"\nmembers = [\"@round\"]\n";
+    assert_eq!(rt;
+        refusal_of_nested(rt.alloc(), 9, round)?,
+        Some(PeopleRefusal::Cycle(10))
+    );
+    Ok(())
+}
+
+fn put_members(text: &mut String, members: &str) -> Result<(), AllocError> {
+    for member in members.split(" ") {
+        if member != "-" {
+            write!(text, "\"@g{member}\", ")?;
+        }
+    }
     Ok(())
 }
 
@@ -273,25 +383,87 @@ fn grouped(alloc: Global, groups: &str) -> Result<String, AllocError> {
     let mut text = String::new(alloc);
     for (place, members) in groups.split(" | ").enumerate() {
         write!(text, "[[group]]\nname = \"g{place}\"\nmembers = [")?;
-        for member in members.split(" ") {
-            if member != "-" {
-                text.push_str("\"@g")?;
-                text.push_str(member)?;
-                text.push_str("\", ")?;
-            }
-        }
+        put_members(&mut text, members)?;
         text.push_str("]\n")?;
     }
     Ok(text)
 }
 
+// In a line groups stand before what is told of them.
+fn is_told(alloc: Global, line: &str) -> Result<bool, Fail> {
+    let (groups, expected) = line.split_once(" => ").ok_or("groups and what is told")?;
+    let text = grouped(alloc, groups)?;
+    is_answered(alloc, text.as_str(), expected)
+}
+
 #[test]
 fn the_least_group_of_a_cycle_is_told(rt: HostRuntime) -> Result<(), Fail> {
     for line in CIRCLES.lines() {
-        let (groups, expected) = line.split_once(" => ").ok_or("groups and what is told")?;
-        let text = grouped(rt.alloc(), groups)?;
-        let answer = answer(rt.alloc(), text.as_str())?;
-        assert_eq!(rt; answer.as_str(), expected, "{line}");
+        assert!(rt; is_told(rt.alloc(), line)?, "{line}");
+    }
+    Ok(())
+}
+
+fn set_of(alloc: Global, set: &str, first: &Persons, second: &Persons) -> Result<Persons, Memory> {
+    match set {
+        "union" => union(alloc, first, second),
+        "intersect" => intersect(alloc, first, second),
+        _ => except(alloc, first, second),
+    }
+}
+
+// The persons that two groups make.
+fn made(
+    alloc: Global,
+    directory: &Directory,
+    set: &str,
+    first: &str,
+    second: &str,
+) -> Result<Persons, Fail> {
+    let first = members_of(alloc, directory, first)?;
+    let second = members_of(alloc, directory, second)?;
+    Ok(set_of(alloc, set, &first, &second)?)
+}
+
+// Whether two groups make the set of the members of a third.
+fn is_made(
+    alloc: Global,
+    directory: &Directory,
+    set: &str,
+    of: (&str, &str),
+    group: &str,
+) -> Result<bool, Fail> {
+    let made = made(alloc, directory, set, of.0, of.1)?;
+    has_members(alloc, directory, group, made.as_slice())
+}
+
+// In each row two groups stand before the groups of who is in either, in both, and in the first alone.
+const OF_TWO: [[&str; 5]; 6] = [
+    ["none", "none", "none", "none", "none"],
+    ["odd", "none", "odd", "none", "odd"],
+    ["none", "odd", "odd", "none", "none"],
+    ["odd", "even", "all", "none", "odd"],
+    ["low", "high", "most", "middle", "first"],
+    ["odd", "odd", "odd", "odd", "none"],
+];
+
+fn are_made(
+    rt: &impl Abort,
+    alloc: Global,
+    directory: &Directory,
+    row: &[&str; 5],
+) -> Result<(), Fail> {
+    let [first, second, either, both, first_alone] = *row;
+    let sets = [
+        ("union", either),
+        ("intersect", both),
+        ("except", first_alone),
+    ];
+    for (set, group) in sets {
+        assert!(rt;
+            is_made(alloc, directory, set, (first, second), group)?,
+            "{set} {first} {second}"
+        );
     }
     Ok(())
 }
@@ -299,29 +471,17 @@ fn the_least_group_of_a_cycle_is_told(rt: HostRuntime) -> Result<(), Fail> {
 #[test]
 fn sets_are_made_of_two(rt: HostRuntime) -> Result<(), Fail> {
     let directory = Directory::read(rt.alloc(), SETS)?;
-    let table = [
-        ["none", "none", "none", "none", "none"],
-        ["odd", "none", "odd", "none", "odd"],
-        ["none", "odd", "odd", "none", "none"],
-        ["odd", "even", "all", "none", "odd"],
-        ["low", "high", "most", "middle", "first"],
-        ["odd", "odd", "odd", "odd", "none"],
-    ];
-    for [first, second, either, both, first_alone] in table {
-        let a = members_of(rt.alloc(), &directory, first)?;
-        let b = members_of(rt.alloc(), &directory, second)?;
-        let expected = members_of(rt.alloc(), &directory, either)?;
-        assert_eq!(rt; union(rt.alloc(), &a, &b)?.as_slice(), expected.as_slice());
-        let expected = members_of(rt.alloc(), &directory, both)?;
-        assert_eq!(rt;
-            intersect(rt.alloc(), &a, &b)?.as_slice(),
-            expected.as_slice()
-        );
-        let expected = members_of(rt.alloc(), &directory, first_alone)?;
-        assert_eq!(rt; except(rt.alloc(), &a, &b)?.as_slice(), expected.as_slice());
+    for row in &OF_TWO {
+        are_made(&rt, rt.alloc(), &directory, row)?;
     }
-    let middle = members_of(rt.alloc(), &directory, "middle")?;
-    assert_eq!(rt; middle.as_slice(), [Person(2), Person(3)].as_slice());
+    Ok(())
+}
+
+#[test]
+fn members_ascend(rt: HostRuntime) -> Result<(), Fail> {
+    let directory = Directory::read(rt.alloc(), SETS)?;
+    let ascending = [Person(1), Person(2), Person(3), Person(4)];
+    assert!(rt; has_members(rt.alloc(), &directory, "most", &ascending)?);
     Ok(())
 }
 
