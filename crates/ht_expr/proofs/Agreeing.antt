@@ -12,7 +12,8 @@ use Rattle.ht_expr.specs.declared.kinds.Side.{Side}
 use Rattle.ht_expr.specs.declared.kinds.Side.TheVariants.{Input, Output}
 use Rattle.ht_expr.specs.declared.operator.Operator.{Operator}
 use Rattle.ht_expr.specs.declared.operator.Operator.TheVariants as operator
-use Rattle.ht_expr.specs.Environment.{given, has_parts, kind_of_value, may_be, value_at, values_fit}
+use Rattle.ht_base.specs.Kinds.{kind_of_value}
+use Rattle.ht_expr.specs.Environment.{given, has_parts, may_be, value_at, values_fit}
 use Rattle.ht_expr.specs.KindTable.{common_kind, is_of_kind, kind_of, operated_kind, same_kind}
 use Rattle.ht_expr.specs.Kinds.{Declared, declared_kind}
 use Rattle.ht_expr.specs.Trees.{Tree, integer, text, truth, priority, initiator, part, is_set, count, count_text, count_true, brackets, negative, opposite, binary, choice}

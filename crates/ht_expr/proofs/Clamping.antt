@@ -3,7 +3,7 @@ use Rattle.std.proofs.Common.{◌≡◌, ℕ, arith}
 use Rattle.std.specs.Prelude.{ℤ, pos, neg_ℤ, ◌+ℤ◌, ◌-ℤ◌}
 use Rattle.std.specs.Int.{saturate_signed}
 use mir.Syntax.{w64}
-use Rattle.ht_expr.specs.Values.{clamped}
+use Rattle.ht_base.specs.Integers.{clamped}
 
 pub clamped_to : (z : ℤ) → saturate_signed w64 z ≡ clamped z
 clamped_to z = grind arith

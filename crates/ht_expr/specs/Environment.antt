@@ -2,11 +2,11 @@
 use Rattle.std.specs.Prelude.{ℕ, Bool, true, false, ◌&&◌, List, [], ◌∷◌, length, count_by, bytes_eq, if◌then◌else◌, Option, Some, None}
 use Rattle.std.specs.List.{list_all}
 use Rattle.ht_base.specs.declared.kind.Kind.{Kind}
-use Rattle.ht_base.specs.declared.kind.Kind.TheVariants as kind
 use Rattle.ht_base.specs.declared.state.State.{State}
 use Rattle.ht_base.specs.declared.state.State.TheVariants as state
 use Rattle.ht_base.specs.declared.value.Value.{Value}
 use Rattle.ht_base.specs.declared.value.Value.TheVariants as values
+use Rattle.ht_base.specs.Kinds.{kind_of_value}
 use Rattle.ht_expr.specs.declared.environment.Env.{Env}
 use Rattle.ht_expr.specs.declared.kinds.Side.{Side}
 use Rattle.ht_expr.specs.declared.kinds.Side.TheVariants.{Input, Output}
@@ -25,13 +25,6 @@ value_at name (v ∷ vs) = if bytes_eq v.0 name then Some v.1 else value_at name
 abbrev pub given : Env → Side → List ℕ → Option Value
 given env Input name = value_at name env.input
 given env Output name = value_at name env.output
-
-abbrev pub kind_of_value : Value → Kind
-kind_of_value (values.Text x) = kind.Text
-kind_of_value (values.Int n) = kind.Int
-kind_of_value (values.Truth b) = kind.Truth
-kind_of_value (values.Person p) = kind.Person
-kind_of_value (values.Instant m) = kind.Instant
 
 -- the value is of the kind that is declared, if one is
 abbrev pub may_be : Option Kind → Value → Bool

@@ -1,6 +1,6 @@
 -- The value of an expression.
 use Rattle.std.specs.Prelude.{ℕ, Bool, true, false, not, ◌&&◌, ◌||◌, ◌==◌, nat_lt, int_lt, ℤ, pos, neg_ℤ, ◌+ℤ◌, ◌-ℤ◌, ◌*ℤ◌, List, [], is_some, bytes_eq, Option, Some, None, option_map}
-use Rattle.std.specs.Int.{int_max, int_min}
+use Rattle.ht_base.specs.Integers.{clamped}
 use Rattle.ht_base.specs.declared.kind.Kind.{Kind}
 use Rattle.ht_base.specs.declared.kind.Kind.TheVariants as kind
 use Rattle.ht_base.specs.declared.value.Value.{Value}
@@ -29,18 +29,6 @@ kind_of_outcome (a_truth b) = Some kind.Truth
 kind_of_outcome (a_person p) = Some kind.Person
 kind_of_outcome (a_moment m) = Some kind.Instant
 kind_of_outcome nothing = None
-
--- ---- numbers
-
-abbrev pub least_number : ℤ
-least_number = neg_ℤ (pos 9223372036854775808)
-
-abbrev pub greatest_number : ℤ
-greatest_number = pos 9223372036854775807
-
--- the number of 64 bits that is nearest to the exact one
-abbrev pub clamped : ℤ → ℤ
-clamped z = int_max least_number (int_min greatest_number z)
 
 -- ---- parts
 

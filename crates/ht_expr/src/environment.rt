@@ -1,4 +1,5 @@
 ghost use Rattle.std.specs.Prelude.{◌≡◌, [], ◌∷◌, ◌++◌, IfOk, OnOk, OnErr, option_map};
+ghost use Rattle.ht_base.specs.Kinds.{kind_of_value};
 ghost use Rattle.ht_expr.specs.Environment as environment;
 
 use crate::kinding::is_of_kind;
@@ -115,7 +116,7 @@ fn may_be(kind: Option<Kind>, value: &Value) -> bool
 }
 
 fn kind_of_value(value: &Value) -> Kind
-    ensures { result ≡ environment.kind_of_value value.now }
+    ensures { result ≡ kind_of_value value.now }
 {
     match value {
         Value::Text(_) => Kind::Text,

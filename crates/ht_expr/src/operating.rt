@@ -1,5 +1,6 @@
 //! What operators make of values.
 ghost use Rattle.std.specs.Prelude.{◌≡◌, ◌&&◌, ◌||◌, not, pos, neg_ℤ, ◌+ℤ◌, ◌-ℤ◌, ◌*ℤ◌, option_map};
+ghost use Rattle.ht_base.specs.Integers.{clamped};
 ghost use Rattle.ht_expr.specs.Evaluating.{outcome};
 ghost use Rattle.ht_expr.specs.Values as values;
 
@@ -166,14 +167,14 @@ fn is_less(left: Held<'_>, right: Held<'_>) -> Option<bool>
 /// The number of 64 bits with a sign that is nearest.
 #[tactic(auto, using(crate::proofs::Clamping::clamped_unsigned))]
 pub(crate) fn signed(number: u64) -> i64
-    ensures { result ≡ values.clamped (pos number) }
+    ensures { result ≡ clamped (pos number) }
 {
     0i64.saturating_add_unsigned(number)
 }
 
 #[tactic(auto, using(crate::proofs::Clamping::clamped_to))]
 fn sum(left: Option<i64>, right: Option<i64>) -> Option<i64>
-    ensures { result ≡ values.on_both (λ x y. values.clamped (x +ℤ y)) left right }
+    ensures { result ≡ values.on_both (λ x y. clamped (x +ℤ y)) left right }
 {
     let (left, right) = (left?, right?);
     Some(left.saturating_add(right))
@@ -181,7 +182,7 @@ fn sum(left: Option<i64>, right: Option<i64>) -> Option<i64>
 
 #[tactic(auto, using(crate::proofs::Clamping::clamped_to))]
 fn difference(left: Option<i64>, right: Option<i64>) -> Option<i64>
-    ensures { result ≡ values.on_both (λ x y. values.clamped (x -ℤ y)) left right }
+    ensures { result ≡ values.on_both (λ x y. clamped (x -ℤ y)) left right }
 {
     let (left, right) = (left?, right?);
     Some(left.saturating_sub(right))
@@ -189,7 +190,7 @@ fn difference(left: Option<i64>, right: Option<i64>) -> Option<i64>
 
 #[tactic(auto, using(crate::proofs::Clamping::clamped_to))]
 fn product(left: Option<i64>, right: Option<i64>) -> Option<i64>
-    ensures { result ≡ values.on_both (λ x y. values.clamped (x *ℤ y)) left right }
+    ensures { result ≡ values.on_both (λ x y. clamped (x *ℤ y)) left right }
 {
     let (left, right) = (left?, right?);
     Some(left.saturating_mul(right))
@@ -197,7 +198,7 @@ fn product(left: Option<i64>, right: Option<i64>) -> Option<i64>
 
 #[tactic(auto, using(crate::proofs::Clamping::clamped_negative))]
 pub(crate) fn negative(number: Option<i64>) -> Option<i64>
-    ensures { result ≡ option_map (λ n. values.clamped (neg_ℤ n)) number }
+    ensures { result ≡ option_map (λ n. clamped (neg_ℤ n)) number }
 {
     Some(0i64.saturating_sub(number?))
 }

@@ -3,8 +3,6 @@
 use Rattle.std.specs.Prelude.{ℕ, nat_le, List, [], ◌∷◌, length, Option, Some, None, codes, option_map, if◌then◌else◌}
 use Rattle.std.specs.Option.{option_and_then}
 use Rattle.toml.specs.Data.{Data, as_str}
-use Rattle.ht_base.specs.declared.kind.Kind.{Kind}
-use Rattle.ht_base.specs.declared.kind.Kind.TheVariants.{Text, Int, Truth}
 use Rattle.ht_toml.specs.Values.{meaning, whole_of}
 use Rattle.ht_base.specs.declared.how.How.{How}
 use Rattle.ht_base.specs.declared.how.How.TheVariants as how
@@ -45,20 +43,3 @@ how_of word None None = meaning alone word
 how_of word (Some percent) None = option_map (λ h. h percent) (meaning by_percent word)
 how_of word None (Some text) = option_map (λ h. h text) (meaning by_delimiter word)
 how_of word (Some percent) (Some text) = None
-
--- ---- kinds
-
--- the kind of the values that it takes, and of its result
-abbrev pub kind_of : How → Kind
-kind_of how.Concat = Text
-kind_of (how.ConcatWithDelimiter text) = Text
-kind_of how.MostFrequent = Text
-kind_of how.LeastFrequent = Text
-kind_of (how.VoteOnString percent) = Text
-kind_of how.And = Truth
-kind_of how.Or = Truth
-kind_of (how.Vote percent) = Truth
-kind_of how.Min = Int
-kind_of how.Max = Int
-kind_of how.Sum = Int
-kind_of how.Avg = Int

@@ -9,7 +9,7 @@ use Rattle.ht_expr.specs.Kinds.{Declared, declared_kind}
 use Rattle.ht_expr.specs.KindTable.{is_of_kind}
 use Rattle.ht_models.specs.declared.choices.Trigger.{Trigger}
 use Rattle.ht_models.specs.declared.choices.Trigger.TheVariants.{Manual, Automatic}
-use Rattle.ht_models.specs.Aggregates.{kind_of}
+use Rattle.ht_base.specs.Kinds.{kind_of_how}
 use Rattle.ht_models.specs.Deadlines.{DeadlineText}
 use Rattle.ht_models.specs.Expressions.{declared}
 use Rattle.ht_models.specs.Finishes.{FinishText, Setting}
@@ -67,7 +67,7 @@ has_undated_deadline m = list_any (λ d. is_undated (declared m) d.part) m.deadl
 
 -- a finish sets a part that isn't an output of the aggregate's kind
 abbrev pub is_unfit : Declared → Setting → Bool
-is_unfit kinds s = not (is_of_kind (kind_of s.how) (declared_kind kinds Output s.part))
+is_unfit kinds s = not (is_of_kind (kind_of_how s.how) (declared_kind kinds Output s.part))
 
 abbrev pub has_unfit_finish : ModelEntry → Bool
 has_unfit_finish m = list_any (λ f. list_any (is_unfit (declared m)) f.settings) m.finishes

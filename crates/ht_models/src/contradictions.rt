@@ -2,7 +2,7 @@ ghost use Rattle.std.specs.Prelude.{◌≡◌, option_map};
 ghost use Rattle.std.specs.List.{list_any};
 ghost use Rattle.ht_base.specs.Indexes.{IsIndex};
 ghost use Rattle.ht_base.specs.Places.{IsLeastIfAny};
-ghost use Rattle.ht_models.specs.Aggregates.{kind_of};
+ghost use Rattle.ht_base.specs.Kinds.{kind_of_how};
 ghost use Rattle.ht_models.specs.Contradictions as spec;
 ghost use Rattle.ht_models.specs.Expressions.{declared};
 ghost use Rattle.ht_models.specs.Refusals.{IsContradicted};
@@ -177,7 +177,7 @@ fn is_unfit(entry: &ModelEntry, setting: &Setting) -> bool
 
 /// The kind of the values that an aggregate takes, and of its result.
 fn kind_of(how: &How) -> Kind
-    ensures { result ≡ kind_of how.now }
+    ensures { result ≡ kind_of_how how.now }
 {
     match how {
         How::Concat

@@ -1,0 +1,3 @@
+-- Laws of results, for the proofs of crates above.
+pub use Rattle.ht_aggregate.proofs.Fitting.{result_kind, result_short}
+pub use Rattle.ht_aggregate.proofs.Unique.{one_result}
