@@ -1,86 +1,80 @@
 use crate::creating_tests::{shown_parts, text_of};
 use crate::tests::sheet_for;
-use ht_base::{Answer, Limit, Name, Refusal, Sheet, ShownComments, Unknown};
+use ht_base::{Answer, Limit, Name, Refusal, Sheet, ShownComments, State, Unknown};
 use ht_tree::Tables;
 use std::alloc::Global;
 use std::test::Fail;
 
-fn push_word(text: &mut String, word: &str) -> Result<(), Fail> {
-    text.push_str(" ")?;
-    text.push_str(word)?;
-    Ok(())
-}
-
-fn push_name(text: &mut String, name: &Name) -> Result<(), Fail> {
-    push_word(text, std::str::from_utf8(name.as_bytes())?)
-}
-
 // What is answered, in words.
 pub(crate) fn told(alloc: Global, answer: &Answer) -> Result<String, Fail> {
-    let mut text = String::new(alloc);
     match answer {
-        Answer::Done { state, owner, .. } => {
-            push_word(&mut text, state.name())?;
-            if let Some(owner) = owner {
-                push_name(&mut text, owner)?;
-            }
-        }
-        Answer::Sheet(_) => push_word(&mut text, "Sheet")?,
-        Answer::Refused(refusal) => push_refusal(alloc, &mut text, refusal)?,
+        Answer::Done { state, owner, .. } => done_told(alloc, *state, owner),
+        Answer::Sheet(_) => Ok(String::from_str(alloc, " Sheet")?),
+        Answer::Refused(refusal) => refusal_told(alloc, refusal),
     }
-    Ok(text)
 }
 
-fn push_last(alloc: Global, text: &mut String, fault: &str, last: u32) -> Result<(), Fail> {
-    push_word(text, fault)?;
-    push_word(text, format!(in alloc; "{last}")?.as_str())
+fn done_told(alloc: Global, state: State, owner: &Option<Name>) -> Result<String, Fail> {
+    let state = state.name();
+    match owner {
+        Some(owner) => Ok(format!(in alloc; " {state} {}", owner.as_str())?),
+        None => Ok(format!(in alloc; " {state}")?),
+    }
 }
 
-fn push_refusal(alloc: Global, text: &mut String, refusal: &Refusal) -> Result<(), Fail> {
+fn refusal_told(alloc: Global, refusal: &Refusal) -> Result<String, Fail> {
+    let fault = fault_of(refusal);
+    if let Some(name) = name_in(refusal) {
+        return Ok(format!(in alloc; " {fault} {}", name.as_str())?);
+    }
+    if let Some(last) = last_in(refusal) {
+        return Ok(format!(in alloc; " {fault} {last}")?);
+    }
+    Ok(format!(in alloc; " {fault}")?)
+}
+
+fn fault_of(refusal: &Refusal) -> &'static str {
     match refusal {
-        Refusal::Head | Refusal::Fields | Refusal::Coding | Refusal::Body => {
-            push_word(text, "bytes")
-        }
-        Refusal::Route | Refusal::Method | Refusal::Json | Refusal::Field(_) => {
-            push_word(text, "request")
-        }
-        Refusal::Person => push_word(text, "Person"),
-        Refusal::NumberStale { last } => push_last(alloc, text, "NumberStale", *last),
-        Refusal::NumberReused { last } => push_last(alloc, text, "NumberReused", *last),
-        Refusal::Task(_) => push_word(text, "Task"),
-        Refusal::Role { .. } => push_word(text, "Role"),
-        Refusal::State { .. } => push_word(text, "State"),
-        Refusal::Unknown(Unknown::Model(name)) => {
-            push_word(text, "Unknown")?;
-            push_name(text, name)
-        }
-        Refusal::Unknown(Unknown::Person(name)) => {
-            push_word(text, "Unknown")?;
-            push_name(text, name)
-        }
-        Refusal::PartRefused(name) => {
-            push_word(text, "PartRefused")?;
-            push_name(text, name)
-        }
-        Refusal::Ownerless => push_word(text, "Ownerless"),
-        Refusal::ByGroup => push_word(text, "ByGroup"),
-        Refusal::Excluded(name) => {
-            push_word(text, "Excluded")?;
-            push_name(text, name)
-        }
-        Refusal::NotDelegatee(name) => {
-            push_word(text, "NotDelegatee")?;
-            push_name(text, name)
-        }
-        Refusal::NoOwners => push_word(text, "NoOwners"),
-        Refusal::NoOutput(name) => {
-            push_word(text, "NoOutput")?;
-            push_name(text, name)
-        }
-        Refusal::NotSkipable => push_word(text, "NotSkipable"),
-        Refusal::Limit(Limit::Tasks) => push_word(text, "Limit tasks"),
-        Refusal::Limit(Limit::Comments) => push_word(text, "Limit comments"),
-        Refusal::Memory => push_word(text, "Memory"),
+        Refusal::Head | Refusal::Fields | Refusal::Coding | Refusal::Body => "bytes",
+        Refusal::Route | Refusal::Method | Refusal::Json | Refusal::Field(_) => "request",
+        Refusal::Person => "Person",
+        Refusal::NumberStale { .. } => "NumberStale",
+        Refusal::NumberReused { .. } => "NumberReused",
+        Refusal::Task(_) => "Task",
+        Refusal::Role { .. } => "Role",
+        Refusal::State { .. } => "State",
+        Refusal::Unknown(_) => "Unknown",
+        Refusal::PartRefused(_) => "PartRefused",
+        Refusal::Ownerless => "Ownerless",
+        Refusal::ByGroup => "ByGroup",
+        Refusal::Excluded(_) => "Excluded",
+        Refusal::NotDelegatee(_) => "NotDelegatee",
+        Refusal::NoOwners => "NoOwners",
+        Refusal::NoOutput(_) => "NoOutput",
+        Refusal::NotSkipable => "NotSkipable",
+        Refusal::Limit(Limit::Tasks) => "Limit tasks",
+        Refusal::Limit(Limit::Comments) => "Limit comments",
+        Refusal::Memory => "Memory",
+    }
+}
+
+fn name_in(refusal: &Refusal) -> Option<Name> {
+    match refusal {
+        Refusal::Unknown(Unknown::Model(name)) => Some(*name),
+        Refusal::Unknown(Unknown::Person(name)) => Some(*name),
+        Refusal::PartRefused(name) => Some(*name),
+        Refusal::Excluded(name) => Some(*name),
+        Refusal::NotDelegatee(name) => Some(*name),
+        Refusal::NoOutput(name) => Some(*name),
+        _ => None,
+    }
+}
+
+fn last_in(refusal: &Refusal) -> Option<u32> {
+    match refusal {
+        Refusal::NumberStale { last } => Some(*last),
+        Refusal::NumberReused { last } => Some(*last),
+        _ => None,
     }
 }
 
@@ -108,18 +102,21 @@ fn shown_of(alloc: Global, sheet: &Sheet, key: &str) -> Result<String, Fail> {
 }
 
 fn word_of(alloc: Global, name: &Option<Name>) -> Result<String, Fail> {
-    let mut text = String::new(alloc);
-    if let Some(name) = name {
-        push_name(&mut text, name)?;
+    match name {
+        Some(name) => Ok(format!(in alloc; " {}", name.as_str())?),
+        None => Ok(String::new(alloc)),
     }
-    Ok(text)
 }
 
 fn shown_comments(alloc: Global, comments: &ShownComments) -> Result<String, Fail> {
     let mut text = String::new(alloc);
     for comment in comments.as_slice() {
-        push_name(&mut text, &comment.person)?;
-        push_word(&mut text, comment.text.as_str())?;
+        write!(
+            text,
+            " {} {}",
+            comment.person.as_str(),
+            comment.text.as_str()
+        )?;
     }
     Ok(text)
 }

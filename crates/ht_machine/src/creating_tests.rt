@@ -5,7 +5,7 @@ use crate::answers_in_words::told;
 use crate::operation_tests::{answer, asked};
 use crate::run_one;
 use crate::tests::{create, done_of, refusal_of, sheet_for};
-use ht_base::{Command, Event, Name, Names, Parts, Refusal, Scalar, Txt, Unknown};
+use ht_base::{Answer, Command, Event, Name, Names, Parts, Refusal, Scalar, Sheet, Txt, Unknown};
 use ht_models::Models;
 use ht_people::Directory;
 use ht_samples::{MODELS, PEOPLE};
@@ -21,43 +21,55 @@ fn tables_of(alloc: Global, models: &str) -> Result<Tables, Fail> {
 
 // Tables whose first model has this priority and these potential owners, and two parts.
 fn tables_by(alloc: Global, priority: &str, owners: &str) -> Result<Tables, Fail> {
-    let mut text = String::new(alloc);
-    text.push_str(
-        "[[model]]\nname = \"m\"\ninput = [{name = \"boss\", kind = \"person\", optional = true}, {name = \"sum\", kind = \"int\", optional = true}]\npriority = \"",
+    let text = format!(in alloc;
+        "[[model]]\nname = \"m\"\ninput = [{{name = \"boss\", kind = \"person\", optional = true}}, {{name = \"sum\", kind = \"int\", optional = true}}]\npriority = \"{priority}\"\npotentialOwners = \"{owners}\"\nexcludedOwners = \"when(priority == 9, user('anna'), nobody)\"\n"
     )?;
-    text.push_str(priority)?;
-    text.push_str("\"\npotentialOwners = \"")?;
-    text.push_str(owners)?;
-    text.push_str("\"\nexcludedOwners = \"when(priority == 9, user('anna'), nobody)\"\n")?;
     tables_of(alloc, text.as_str())
+}
+
+// The sheet of a task that dan creates in such tables.
+fn sheet_by(alloc: Global, priority: &str, owners: &str) -> Result<Sheet, Fail> {
+    let mut tables = tables_by(alloc, priority, owners)?;
+    answer(alloc, &mut tables, "dan", "create m")?;
+    sheet_for(alloc, &mut tables, "dan")
 }
 
 pub(crate) fn text_of(alloc: Global, names: &Names) -> Result<String, Fail> {
     let mut text = String::new(alloc);
     for name in names.as_slice() {
-        text.push_str(" ")?;
-        text.push_str(std::str::from_utf8(name.as_bytes())?)?;
+        write!(text, " {}", name.as_str())?;
     }
     Ok(text)
 }
 
-// What comes of a create of the model with this name: the state of the task, or the refusal.
-fn outcome(alloc: Global, tables: &mut Tables, name: &str) -> Result<&'static str, Fail> {
-    let event = create(alloc, "dan", 1000, name).ok_or("an event")?;
-    let model = Name::of(name.as_bytes()).ok_or("a name")?;
-    let part = Name::of(b"b").ok_or("a name")?;
-    let reply = run_one(alloc, tables, &event)?;
-    let refusal = refusal_of(&reply.answer);
+// An answer to a create of this model: the state of the task, or the refusal of the model or the part.
+fn outcome_of(answer: &Answer, model: Name, part: Name) -> &'static str {
+    let refusal = refusal_of(answer);
     if refusal == Some(Refusal::Unknown(Unknown::Model(model))) {
-        return Ok("Unknown");
+        return "Unknown";
     }
     if refusal == Some(Refusal::PartRefused(part)) {
-        return Ok("b");
+        return "b";
     }
-    match done_of(&reply.answer) {
-        Some((_, state, _)) => Ok(state.name()),
-        None => Ok("another answer"),
+    match done_of(answer) {
+        Some((_, state, _)) => state.name(),
+        None => "another answer",
     }
+}
+
+// What comes of a create of the model with this name.
+fn outcome(alloc: Global, tables: &mut Tables, name: &str) -> Result<&'static str, Fail> {
+    let model = Name::of(name.as_bytes()).ok_or("a name")?;
+    let part = Name::of(b"b").ok_or("a name")?;
+    let event = create(alloc, "dan", 1000, name).ok_or("an event")?;
+    let reply = run_one(alloc, tables, &event)?;
+    Ok(outcome_of(&reply.answer, model, part))
+}
+
+// In a line a model stands before what comes of its create.
+fn has_outcome(alloc: Global, tables: &mut Tables, line: &str) -> Result<bool, Fail> {
+    let (model, want) = line.split_once(" => ").ok_or("a model and an outcome")?;
+    Ok(outcome(alloc, tables, model)? == want)
 }
 
 // In each line a priority of a model stands before the priority of its tasks.
@@ -77,16 +89,16 @@ if set(in.sum) then 1 else 8 => 8
 if in.boss == initiator then 1 else 2 => 2
 if priority == 5 then 4 else 6 => 4";
 
+fn has_priority(alloc: Global, line: &str) -> Result<bool, Fail> {
+    let (text, priority) = line.split_once(" => ").ok_or("two numbers")?;
+    let sheet = sheet_by(alloc, text, "group('clerks')")?;
+    Ok(sheet.priority == priority.parse::<u8>()?)
+}
+
 #[test]
 fn priorities_are_between_their_ends(rt: HostRuntime) -> Result<(), Fail> {
     for line in PRIORITIES.lines() {
-        let (text, priority) = line.split_once(" => ").ok_or("two numbers")?;
-        let mut tables = tables_by(rt.alloc(), text, "group('clerks')")?;
-        let event = create(rt.alloc(), "dan", 1000, "m").ok_or("an event")?;
-        run_one(rt.alloc(), &mut tables, &event)?;
-        let sheet = sheet_for(rt.alloc(), &mut tables, "dan")?;
-        let found = format!(in rt.alloc(); "{}", sheet.priority)?;
-        assert_eq!(rt; found.as_str(), priority, "{text}");
+        assert!(rt; has_priority(rt.alloc(), line)?, "{line}");
     }
     Ok(())
 }
@@ -103,17 +115,22 @@ priority + 1; when(priority == 5, user('anna'), user('ben')) => ben
 5; in.boss =>
 1; except(when(priority <= 1, everybody, nobody), group('clerks')) => cora dan root";
 
+fn owners_by(alloc: Global, priority: &str, owners: &str) -> Result<String, Fail> {
+    let sheet = sheet_by(alloc, priority, owners)?;
+    text_of(alloc, &sheet.potential_owners)
+}
+
+fn has_owners(alloc: Global, line: &str) -> Result<bool, Fail> {
+    let (texts, names) = line.split_once(" =>").ok_or("texts and names")?;
+    let (priority, owners) = texts.split_once("; ").ok_or("two texts")?;
+    let found = owners_by(alloc, priority, owners)?;
+    Ok(found.as_str() == names)
+}
+
 #[test]
 fn roles_see_the_priority(rt: HostRuntime) -> Result<(), Fail> {
     for line in OWNERS.lines() {
-        let (texts, names) = line.split_once(" =>").ok_or("texts and names")?;
-        let (priority, owners) = texts.split_once("; ").ok_or("two texts")?;
-        let mut tables = tables_by(rt.alloc(), priority, owners)?;
-        let event = create(rt.alloc(), "dan", 1000, "m").ok_or("an event")?;
-        run_one(rt.alloc(), &mut tables, &event)?;
-        let sheet = sheet_for(rt.alloc(), &mut tables, "dan")?;
-        let found = text_of(rt.alloc(), &sheet.potential_owners)?;
-        assert_eq!(rt; found.as_str(), names, "{line}");
+        assert!(rt; has_owners(rt.alloc(), line)?, "{line}");
     }
     Ok(())
 }
@@ -135,9 +152,7 @@ late => Unknown";
 fn samples_are_created_or_refused(rt: HostRuntime) -> Result<(), Fail> {
     let mut tables = tables_of(rt.alloc(), MODELS)?;
     for line in SAMPLES.lines() {
-        let (model, want) = line.split_once(" => ").ok_or("a model and an outcome")?;
-        let found = outcome(rt.alloc(), &mut tables, model)?;
-        assert_eq!(rt; found, want, "{model}");
+        assert!(rt; has_outcome(rt.alloc(), &mut tables, line)?, "{line}");
     }
     assert_eq!(rt; tables.rows(), 5);
     Ok(())
@@ -186,9 +201,7 @@ asks-due => Unknown";
 fn what_is_not_there_yet_is_refused(rt: HostRuntime) -> Result<(), Fail> {
     let mut tables = tables_of(rt.alloc(), PARTS)?;
     for line in REFUSALS.lines() {
-        let (model, want) = line.split_once(" => ").ok_or("a model and an outcome")?;
-        let found = outcome(rt.alloc(), &mut tables, model)?;
-        assert_eq!(rt; found, want, "{model}");
+        assert!(rt; has_outcome(rt.alloc(), &mut tables, line)?, "{line}");
     }
     assert_eq!(rt; tables.rows(), 1);
     Ok(())
@@ -225,6 +238,13 @@ fn create_with(alloc: Global, name: &str, kind: &str, value: &str) -> Result<Eve
     let input = parts_with(alloc, name, kind, value)?;
     let caller = Name::of(b"dan").ok_or("a name")?;
     Ok(asked(caller, Command::Create { model: None, input }))
+}
+
+// The name of a part, the kind of what is given for it, and its value.
+fn given_of(given: &str) -> Result<(&str, &str, &str), Fail> {
+    let (part, rest) = given.split_once(" ").ok_or("a part and a value")?;
+    let (kind, value) = rest.split_once(" ").ok_or("a kind and a value")?;
+    Ok((part, kind, value))
 }
 
 // An output of anna's, of which one part is given.
@@ -266,43 +286,97 @@ i int -1 => PartRefused i
 i text 2027-01-01T00:00:00Z => PartRefused i
 z int 7 => PartRefused z";
 
+fn push_scalar(text: &mut String, scalar: &Scalar) -> Result<(), Fail> {
+    match scalar {
+        Scalar::Text(value) => text.push_str(value.as_str())?,
+        Scalar::Int(value) => write!(text, "{value}")?,
+        Scalar::Truth(value) => write!(text, "{value}")?,
+    }
+    Ok(())
+}
+
 // Each part with its value, as a sheet shows it.
 pub(crate) fn shown_parts(alloc: Global, parts: &Parts) -> Result<String, Fail> {
     let mut text = String::new(alloc);
     for (name, scalar) in parts.as_slice() {
-        text.push_str(" ")?;
-        text.push_str(name.as_str())?;
-        text.push_str(" ")?;
-        match scalar {
-            Scalar::Text(value) => text.push_str(value.as_str())?,
-            Scalar::Int(value) => text.push_str(format!(in alloc; "{value}")?.as_str())?,
-            Scalar::Truth(value) => text.push_str(format!(in alloc; "{value}")?.as_str())?,
-        }
+        write!(text, " {} ", name.as_str())?;
+        push_scalar(&mut text, scalar)?;
         text.push_str(".")?;
     }
     Ok(text)
 }
 
+// A part and its value, as the sheet shows them, of a part, its kind and its value.
+fn part_shown(alloc: Global, given: &str) -> Result<String, Fail> {
+    let (part, _, value) = given_of(given)?;
+    Ok(format!(in alloc; " {part} {value}.")?)
+}
+
+fn is_answered_so(
+    alloc: Global,
+    tables: &mut Tables,
+    event: &Event,
+    want: &str,
+) -> Result<bool, Fail>
+    requires { IsValid event.now }
+{
+    let reply = run_one(alloc, tables, event)?;
+    is_told(alloc, &reply.answer, want)
+}
+
+fn is_told(alloc: Global, answer: &Answer, want: &str) -> Result<bool, Fail> {
+    let found = told(alloc, answer)?;
+    Ok(found.as_str() == want)
+}
+
+// Whether a sheet shows this input and no output, or the other way round.
+fn shows(alloc: Global, sheet: &Sheet, input: &str, output: &str) -> Result<bool, Fail> {
+    Ok(are_parts(alloc, &sheet.input, input)? && are_parts(alloc, &sheet.output, output)?)
+}
+
+fn are_parts(alloc: Global, parts: &Parts, want: &str) -> Result<bool, Fail> {
+    let shown = shown_parts(alloc, parts)?;
+    Ok(shown.as_str() == want)
+}
+
+fn is_shown(alloc: Global, tables: &mut Tables, input: &str, output: &str) -> Result<bool, Fail> {
+    let sheet = sheet_for(alloc, tables, "dan")?;
+    shows(alloc, &sheet, input, output)
+}
+
+// Whether a create to which this is given is answered so.
+fn is_created_so(
+    alloc: Global,
+    tables: &mut Tables,
+    given: &str,
+    want: &str,
+) -> Result<bool, Fail> {
+    let (part, kind, value) = given_of(given)?;
+    let event = create_with(alloc, part, kind, value)?;
+    is_answered_so(alloc, tables, &event, want)
+}
+
+fn is_input_shown(alloc: Global, tables: &mut Tables, given: &str) -> Result<bool, Fail> {
+    let input = part_shown(alloc, given)?;
+    is_shown(alloc, tables, input.as_str(), "")
+}
+
+// Where a task is created, its sheet shows what was given.
+fn is_input(alloc: Global, line: &str) -> Result<bool, Fail> {
+    let (given, want) = line
+        .split_once(" =>")
+        .ok_or("what is given, and an answer")?;
+    let mut tables = tables_of(alloc, KINDS)?;
+    Ok(
+        is_created_so(alloc, &mut tables, given, want)?
+            && (want != " Created" || is_input_shown(alloc, &mut tables, given)?),
+    )
+}
+
 #[test]
 fn inputs_are_of_their_kinds(rt: HostRuntime) -> Result<(), Fail> {
     for line in INPUTS.lines() {
-        let mut tables = tables_of(rt.alloc(), KINDS)?;
-        let (given, want) = line
-            .split_once(" =>")
-            .ok_or("what is given, and an answer")?;
-        let (part, value) = given.split_once(" ").ok_or("a part and a value")?;
-        let (kind, value) = value.split_once(" ").ok_or("a kind and a value")?;
-        let event = create_with(rt.alloc(), part, kind, value)?;
-        let reply = run_one(rt.alloc(), &mut tables, &event)?;
-        let found = told(rt.alloc(), &reply.answer)?;
-        assert_eq!(rt; found.as_str(), want, "{line}");
-        if want == " Created" {
-            let sheet = sheet_for(rt.alloc(), &mut tables, "dan")?;
-            let input = shown_parts(rt.alloc(), &sheet.input)?;
-            let given = format!(in rt.alloc(); " {part} {value}.")?;
-            assert_eq!(rt; input.as_str(), given.as_str(), "{line}");
-            assert!(rt; sheet.output.as_slice().is_empty(), "{line}");
-        }
+        assert!(rt; is_input(rt.alloc(), line)?, "{line}");
     }
     Ok(())
 }
@@ -316,19 +390,6 @@ input = [{name = \"z\", kind = \"int\", optional = true}]
 output = [{name = \"t\", kind = \"text\"}, {name = \"n\", kind = \"int\"}, {name = \"b\", kind = \"bool\"}, {name = \"p\", kind = \"person\"}, {name = \"i\", kind = \"instant\"}]
 ";
 
-fn is_answered_so(
-    alloc: Global,
-    tables: &mut Tables,
-    event: &Event,
-    want: &str,
-) -> Result<bool, Fail>
-    requires { IsValid event.now }
-{
-    let reply = run_one(alloc, tables, event)?;
-    let found = told(alloc, &reply.answer)?;
-    Ok(found.as_str() == want)
-}
-
 // Tables with a task that anna has started.
 fn started(alloc: Global) -> Result<Tables, Fail> {
     let mut tables = tables_of(alloc, OUTPUT_KINDS)?;
@@ -337,31 +398,38 @@ fn started(alloc: Global) -> Result<Tables, Fail> {
     Ok(tables)
 }
 
-// Whether the sheet shows this output, and no input.
-fn is_shown(alloc: Global, tables: &mut Tables, output: &str) -> Result<bool, Fail> {
-    let sheet = sheet_for(alloc, tables, "dan")?;
-    let shown = shown_parts(alloc, &sheet.output)?;
-    Ok(shown.as_str() == output && sheet.input.as_slice().is_empty())
-}
-
-// Whether a part, its kind and its value are answered so twice, and this output is shown then.
-fn is_put_twice(alloc: Global, given: &str, want: &str, output: &str) -> Result<bool, Fail> {
-    let (part, value) = given.split_once(" ").ok_or("a part and a value")?;
-    let (kind, value) = value.split_once(" ").ok_or("a kind and a value")?;
-    let event = output_with(alloc, part, kind, value)?;
-    let mut tables = started(alloc)?;
+// Whether an output that is put twice is answered so each time, and the sheet shows these parts then.
+fn is_put_twice(
+    alloc: Global,
+    tables: &mut Tables,
+    event: &Event,
+    want: &str,
+    output: &str,
+) -> Result<bool, Fail>
+    requires { IsValid event.now }
+{
     Ok(
-        is_answered_so(alloc, &mut tables, &event, want)?
-            && is_answered_so(alloc, &mut tables, &event, want)?
-            && is_shown(alloc, &mut tables, output)?,
+        is_answered_so(alloc, tables, event, want)?
+            && is_answered_so(alloc, tables, event, want)?
+            && is_shown(alloc, tables, "", output)?,
     )
 }
 
-// A part and its value, as the sheet shows them, of a part, its kind and its value.
-fn part_shown(alloc: Global, given: &str) -> Result<String, Fail> {
-    let (part, value) = given.split_once(" ").ok_or("a part and a value")?;
-    let (_, value) = value.split_once(" ").ok_or("a kind and a value")?;
-    Ok(format!(in alloc; " {part} {value}.")?)
+// Whether an output of what is given is answered so, each of two times, and shown so.
+fn is_put(alloc: Global, given: &str, want: &str, output: &str) -> Result<bool, Fail> {
+    let (part, kind, value) = given_of(given)?;
+    let event = output_with(alloc, part, kind, value)?;
+    let mut tables = started(alloc)?;
+    is_put_twice(alloc, &mut tables, &event, want, output)
+}
+
+fn is_output(alloc: Global, line: &str) -> Result<bool, Fail> {
+    let (given, want) = line.split_once(" =>").ok_or("a part, and an answer")?;
+    if want != " Created" {
+        return is_put(alloc, given, want, "");
+    }
+    let shown = part_shown(alloc, given)?;
+    is_put(alloc, given, " InProgress anna", shown.as_str())
 }
 
 // What stands in each line is given for a part of the output as it was for one of the input, and then
@@ -369,14 +437,7 @@ fn part_shown(alloc: Global, given: &str) -> Result<String, Fail> {
 #[test]
 fn outputs_are_of_their_kinds(rt: HostRuntime) -> Result<(), Fail> {
     for line in INPUTS.lines() {
-        let (given, want) = line.split_once(" =>").ok_or("a part, and an answer")?;
-        let is_as_wanted = if want == " Created" {
-            let shown = part_shown(rt.alloc(), given)?;
-            is_put_twice(rt.alloc(), given, " InProgress anna", shown.as_str())?
-        } else {
-            is_put_twice(rt.alloc(), given, want, "")?
-        };
-        assert!(rt; is_as_wanted, "{line}");
+        assert!(rt; is_output(rt.alloc(), line)?, "{line}");
     }
     Ok(())
 }

@@ -12,6 +12,7 @@ use ht_people::Directory;
 use ht_samples::{MODELS, PEOPLE};
 use ht_tree::Tables;
 use std::alloc::Global;
+use std::process::Abort;
 use std::test::Fail;
 
 // Models whose delegation, ownership and roles the scripts below need beside the samples.
@@ -43,9 +44,7 @@ output = [{name = \"b\", kind = \"text\"}, {name = \"a\", kind = \"text\"}]
 ";
 
 fn tables(alloc: Global) -> Result<Tables, Fail> {
-    let mut text = String::new(alloc);
-    text.push_str(MODELS)?;
-    text.push_str(MORE)?;
+    let text = format!(in alloc; "{MODELS}{MORE}")?;
     tables_of(alloc, text.as_str(), PEOPLE)
 }
 
@@ -365,22 +364,33 @@ show lastOwner =>
 root addComment why => Role
 eve addComment why => Person";
 
+// What a line of the script shows or is answered.
+fn found(alloc: Global, tables: &mut Tables, asked: &str) -> Result<String, Fail> {
+    let (who, what) = asked.split_once(" ").ok_or("a person and a command")?;
+    if who == "show" {
+        return shown(alloc, tables, what);
+    }
+    answer_told(alloc, tables, who, what)
+}
+
+fn is_line_answered(alloc: Global, tables: &mut Tables, line: &str) -> Result<bool, Fail> {
+    let (asked, want) = line.split_once(" =>").ok_or("a command and its answer")?;
+    let found = found(alloc, tables, asked)?;
+    Ok(found.as_str() == want)
+}
+
+fn is_office_answered(rt: &impl Abort, alloc: Global, lines: &str) -> Result<(), Fail> {
+    let mut tables = tables(alloc)?;
+    for line in lines.lines() {
+        assert!(rt; is_line_answered(alloc, &mut tables, line)?, "{line}");
+    }
+    Ok(())
+}
+
 #[test]
 fn the_script_is_answered(rt: HostRuntime) -> Result<(), Fail> {
-    let mut tables = tables(rt.alloc())?;
-    for line in SCRIPT.lines() {
-        if line.is_empty() {
-            tables = self::tables(rt.alloc())?;
-            continue;
-        }
-        let (asked, want) = line.split_once(" =>").ok_or("a command and its answer")?;
-        let (who, what) = asked.split_once(" ").ok_or("a person and a command")?;
-        let found = if who == "show" {
-            shown(rt.alloc(), &mut tables, what)?
-        } else {
-            told(rt.alloc(), &answer(rt.alloc(), &mut tables, who, what)?)?
-        };
-        assert_eq!(rt; found.as_str(), want, "{line}");
+    for lines in SCRIPT.split("\n\n") {
+        is_office_answered(&rt, rt.alloc(), lines)?;
     }
     Ok(())
 }
@@ -404,6 +414,17 @@ pub(crate) fn answer(
     }
     let event = asked(caller, command_of(alloc, op, given)?);
     Ok(run_one(alloc, tables, &event)?.answer)
+}
+
+// The same in words.
+pub(crate) fn answer_told(
+    alloc: Global,
+    tables: &mut Tables,
+    who: &str,
+    what: &str,
+) -> Result<String, Fail> {
+    let answer = answer(alloc, tables, who, what)?;
+    told(alloc, &answer)
 }
 
 // A command on task 1, or a create.

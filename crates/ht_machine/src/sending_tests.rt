@@ -1,13 +1,15 @@
 ghost use Rattle.std.specs.Prelude.{IfOk};
-ghost use Rattle.ht_base.specs.Events.{IsTaskOf, IsValid};
+ghost use Rattle.ht_base.specs.Events.{IsRetry, IsTaskOf, IsValid};
 
 use crate::answers_in_words::{shown, told};
 use crate::operation_tests::{answer, command_of, tables_of};
 use crate::run_one;
 use crate::tests::done_of;
-use ht_base::{Command, Event, Moment, Name, Person, Retry, TaskId};
+use ht_base::{Answer, Command, Event, Moment, Name, Person, Retry, TaskId};
 use ht_samples::{MODELS, PEOPLE};
+use ht_tree::Tables;
 use std::alloc::Global;
+use std::process::Abort;
 use std::test::Fail;
 
 // A person, a device and the number of the command, the task, an operation and what is given to it,
@@ -39,24 +41,48 @@ anna 1/7 1 complete => 1 Completed
 dan 15/1 0 create none => Unknown none
 dan 15/1 0 create solo => 3 Reserved anna";
 
+// What is answered, behind the task that it is answered of.
+fn told_of_task(alloc: Global, answer: &Answer) -> Result<String, Fail> {
+    let told = told(alloc, answer)?;
+    match done_of(answer) {
+        Some((task, _, _)) => Ok(format!(in alloc; " {}{told}", task.0)?),
+        None => Ok(told),
+    }
+}
+
+fn sent(alloc: Global, tables: &mut Tables, asked: &str) -> Result<String, Fail> {
+    let event = numbered(alloc, asked)?;
+    let reply = run_one(alloc, tables, &event)?;
+    told_of_task(alloc, &reply.answer)
+}
+
+fn is_sent(alloc: Global, tables: &mut Tables, line: &str) -> Result<bool, Fail> {
+    let (asked, want) = line.split_once(" =>").ok_or("a command and its answer")?;
+    let found = sent(alloc, tables, asked)?;
+    Ok(found.as_str() == want)
+}
+
+fn has_priority(alloc: Global, tables: &mut Tables, want: &str) -> Result<bool, Fail> {
+    let shown = shown(alloc, tables, "priority")?;
+    Ok(shown.as_str() == want)
+}
+
 #[test]
 fn a_command_that_is_sent_again_acts_once(rt: HostRuntime) -> Result<(), Fail> {
     let mut tables = tables_of(rt.alloc(), MODELS, PEOPLE)?;
     for line in SENT.lines() {
-        let (asked, want) = line.split_once(" =>").ok_or("a command and its answer")?;
-        let event = numbered(rt.alloc(), asked)?;
-        let answer = run_one(rt.alloc(), &mut tables, &event)?.answer;
-        let mut found = String::new(rt.alloc());
-        if let Some((task, _, _)) = done_of(&answer) {
-            found.push_str(format!(in rt.alloc(); " {}", task.0)?.as_str())?;
-        }
-        found.push_str(told(rt.alloc(), &answer)?.as_str())?;
-        assert_eq!(rt; found.as_str(), want, "{line}");
+        assert!(rt; is_sent(rt.alloc(), &mut tables, line)?, "{line}");
     }
+    assert!(rt; has_priority(rt.alloc(), &mut tables, " 3")?);
+    are_kept(&rt, &tables)
+}
+
+fn are_kept(rt: &impl Abort, tables: &Tables) -> Result<(), Fail> {
     assert_eq!(rt; tables.rows(), 3);
-    assert_eq!(rt; shown(rt.alloc(), &mut tables, "priority")?.as_str(), " 3");
-    let last = tables.slot(Person(0), 1).ok_or("a slot")?;
-    assert_eq!(rt; (last.number, last.task), (7, TaskId(1)));
+    match tables.slot(Person(0), 1) {
+        Some(last) => assert_eq!(rt; (last.number, last.task), (7, TaskId(1))),
+        None => return Err(Fail::from("no slot")),
+    }
     assert!(rt; tables.slot(Person(1), 2).is_none());
     Ok(())
 }
@@ -73,6 +99,7 @@ fn only_a_numbered_command_is_kept(rt: HostRuntime) -> Result<(), Fail> {
     Ok(())
 }
 
+// Who asks, a device and a number, a task, an operation and what is given to it.
 fn numbered(alloc: Global, asked: &str) -> Result<Event, Fail>
     ensures { IfOk result IsValid }
 {
@@ -80,21 +107,31 @@ fn numbered(alloc: Global, asked: &str) -> Result<Event, Fail>
     let (retry, asked) = asked.split_once(" ").ok_or("a device and a number")?;
     let (task, asked) = asked.split_once(" ").ok_or("a task")?;
     let (op, given) = asked.split_once(" ").unwrap_or((asked, ""));
-    let (device, number) = retry.split_once("/").ok_or("a device and a number")?;
+    let caller = Name::of(who.as_bytes()).ok_or("a name")?;
+    let retry = retry_of(retry)?;
+    let task = task.parse::<u32>()?;
+    let command = command_of(alloc, op, given)?;
+    let task = task_of(&command, task)?;
+    Ok(Event::Ask {
+        at: Moment(1000),
+        caller,
+        retry: Some(retry),
+        task,
+        command,
+    })
+}
+
+// A device and a number, as DEVICE/NUMBER.
+fn retry_of(words: &str) -> Result<Retry, Fail>
+    ensures { IfOk result IsRetry }
+{
+    let (device, number) = words.split_once("/").ok_or("a device and a number")?;
     let device = device.parse::<u8>()?;
     let number = number.parse::<u32>()?;
     if device > 15 || number == 0 {
         return Err(Fail::from("no device, or no number"));
     }
-    let command = command_of(alloc, op, given)?;
-    let task = task_of(&command, task.parse::<u32>()?)?;
-    Ok(Event::Ask {
-        at: Moment(1000),
-        caller: Name::of(who.as_bytes()).ok_or("a name")?,
-        retry: Some(Retry { device, number }),
-        task,
-        command,
-    })
+    Ok(Retry { device, number })
 }
 
 // The task of this number, if the command may name it.

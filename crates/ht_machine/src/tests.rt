@@ -11,6 +11,7 @@ use ht_people::Directory;
 use ht_samples::PEOPLE;
 use ht_tree::Tables;
 use std::alloc::Global;
+use std::process::Abort;
 use std::test::Fail;
 
 const MODELS: &[u8] =
@@ -69,8 +70,10 @@ fn get(caller: &str) -> Option<Event>
     })
 }
 
-// The task, its state and its owner, where the event is accepted.
-pub(crate) fn done_of(answer: &Answer) -> Option<(TaskId, State, Option<Name>)> {
+// What is answered where an event is accepted: the task, its state and its owner.
+pub(crate) type Done = (TaskId, State, Option<Name>);
+
+pub(crate) fn done_of(answer: &Answer) -> Option<Done> {
     match answer {
         Answer::Done { task, state, owner } => Some((*task, *state, *owner)),
         Answer::Sheet(_) => None,
@@ -87,14 +90,54 @@ pub(crate) fn refusal_of(answer: &Answer) -> Option<Refusal> {
     }
 }
 
+// What a create of dan's of this model does, where it is accepted.
+fn created(alloc: Global, tables: &mut Tables, model: &str) -> Result<Option<Done>, Fail> {
+    let event = create(alloc, "dan", 1000, model).ok_or("an event")?;
+    let reply = run_one(alloc, tables, &event)?;
+    Ok(done_of(&reply.answer))
+}
+
+// Why a create of dan's of this model is refused, if it is.
+fn not_created(alloc: Global, tables: &mut Tables, model: &str) -> Result<Option<Refusal>, Fail> {
+    let event = create(alloc, "dan", 1000, model).ok_or("an event")?;
+    let reply = run_one(alloc, tables, &event)?;
+    Ok(refusal_of(&reply.answer))
+}
+
+// What a claim of anna's does, where it is accepted.
+fn claimed(alloc: Global, tables: &mut Tables) -> Result<Option<Done>, Fail> {
+    let event = claim("anna", 2000).ok_or("an event")?;
+    let reply = run_one(alloc, tables, &event)?;
+    Ok(done_of(&reply.answer))
+}
+
+// Why a claim of anna's is refused, if it is.
+fn not_claimed(alloc: Global, tables: &mut Tables) -> Result<Option<Refusal>, Fail> {
+    let event = claim("anna", 2000).ok_or("an event")?;
+    let reply = run_one(alloc, tables, &event)?;
+    Ok(refusal_of(&reply.answer))
+}
+
 // A task of the first model, which anna has claimed.
 fn claimed_tables(alloc: Global) -> Result<Tables, Fail> {
     let mut tables = tables(alloc)?;
-    let created = create(alloc, "dan", 1000, "unit").ok_or("an event")?;
-    run_one(alloc, &mut tables, &created)?;
-    let claimed = claim("anna", 2000).ok_or("an event")?;
-    run_one(alloc, &mut tables, &claimed)?;
+    created(alloc, &mut tables, "unit")?;
+    claimed(alloc, &mut tables)?;
     Ok(tables)
+}
+
+// The event is decided to be refused so, and nothing of it is kept.
+fn is_decided_so(
+    alloc: Global,
+    tables: &mut Tables,
+    event: &Event,
+    refusal: Refusal,
+) -> Result<bool, Fail>
+    requires { IsValid event.now }
+{
+    let decision = decide(alloc, tables, event)?;
+    let is_left = decision.left.is_some() || decision.reply.taken != 0;
+    Ok(refusal_of(&decision.reply.answer) == Some(refusal) && !is_left)
 }
 
 // The event is refused so, and changes nothing.
@@ -107,11 +150,9 @@ fn is_refused(
     requires { IsValid event.now }
 {
     let before = (tables.last(), tables.rows());
-    let decision = decide(alloc, tables, event)?;
-    let is_told = refusal_of(&decision.reply.answer) == Some(refusal);
-    let is_left = decision.left.is_some() || decision.reply.taken != 0;
+    let is_decided = is_decided_so(alloc, tables, event, refusal)?;
     run_one(alloc, tables, event)?;
-    Ok(is_told && !is_left && (tables.last(), tables.rows()) == before)
+    Ok(is_decided && (tables.last(), tables.rows()) == before)
 }
 
 pub(crate) fn sheet_for(alloc: Global, tables: &mut Tables, caller: &str) -> Result<Sheet, Fail> {
@@ -131,6 +172,13 @@ fn are_names(names: &Names, texts: &[&str]) -> bool {
             .all(|(name, text)| name.as_bytes() == text.as_bytes())
 }
 
+// What a create of this model does to tables without a task, and the last moment then.
+fn first_created(alloc: Global, model: &str) -> Result<(Option<Done>, Moment), Fail> {
+    let mut tables = tables(alloc)?;
+    let done = created(alloc, &mut tables, model)?;
+    Ok((done, tables.last()))
+}
+
 #[test]
 fn tasks_are_created_by_their_models(rt: HostRuntime) -> Result<(), Fail> {
     let table = [
@@ -140,14 +188,21 @@ fn tasks_are_created_by_their_models(rt: HostRuntime) -> Result<(), Fail> {
         ("shut", State::Created, None),
     ];
     for (model, state, owner) in table {
-        let mut tables = tables(rt.alloc())?;
-        let event = create(rt.alloc(), "dan", 1000, model).ok_or("an event")?;
-        let reply = run_one(rt.alloc(), &mut tables, &event)?;
-        let want = Some((TaskId(1), state, owner));
-        assert!(rt; done_of(&reply.answer) == want, "{model}");
-        assert_eq!(rt; tables.last(), Moment(1000));
+        let want = (Some((TaskId(1), state, owner)), Moment(1000));
+        assert!(rt; first_created(rt.alloc(), model)? == want, "{model}");
     }
     Ok(())
+}
+
+// A claim of this caller's is refused so, and changes nothing.
+fn is_claim_refused(
+    alloc: Global,
+    tables: &mut Tables,
+    caller: &str,
+    refusal: Refusal,
+) -> Result<bool, Fail> {
+    let event = claim(caller, 3000).ok_or("an event")?;
+    is_refused(alloc, tables, &event, refusal)
 }
 
 #[test]
@@ -167,13 +222,24 @@ fn claims_are_refused(rt: HostRuntime) -> Result<(), Fail> {
         ("eve", Refusal::Person),
     ];
     for (caller, refusal) in table {
-        let event = claim(caller, 3000).ok_or("an event")?;
         assert!(rt;
-            is_refused(rt.alloc(), &mut tables, &event, refusal)?,
+            is_claim_refused(rt.alloc(), &mut tables, caller, refusal)?,
             "{caller}"
         );
     }
     Ok(())
+}
+
+// A create of this caller's and this model is refused so, and changes nothing.
+fn is_create_refused(
+    alloc: Global,
+    tables: &mut Tables,
+    caller: &str,
+    model: &str,
+    refusal: Refusal,
+) -> Result<bool, Fail> {
+    let event = create(alloc, caller, 3000, model).ok_or("an event")?;
+    is_refused(alloc, tables, &event, refusal)
 }
 
 #[test]
@@ -185,13 +251,23 @@ fn creates_are_refused(rt: HostRuntime) -> Result<(), Fail> {
         ("dan", "sole", Refusal::Unknown(unknown)),
     ];
     for (caller, model, refusal) in table {
-        let event = create(rt.alloc(), caller, 3000, model).ok_or("an event")?;
         assert!(rt;
-            is_refused(rt.alloc(), &mut tables, &event, refusal)?,
+            is_create_refused(rt.alloc(), &mut tables, caller, model, refusal)?,
             "{caller}"
         );
     }
     Ok(())
+}
+
+// A look of this caller's at the task is refused so, and changes nothing.
+fn is_get_refused(
+    alloc: Global,
+    tables: &mut Tables,
+    caller: &str,
+    refusal: Refusal,
+) -> Result<bool, Fail> {
+    let event = get(caller).ok_or("an event")?;
+    is_refused(alloc, tables, &event, refusal)
 }
 
 #[test]
@@ -205,42 +281,49 @@ fn sheets_are_refused(rt: HostRuntime) -> Result<(), Fail> {
         .with(Role::Administrator);
     let table = [("root", Refusal::Role { needs }), ("eve", Refusal::Person)];
     for (caller, refusal) in table {
-        let event = get(caller).ok_or("an event")?;
         assert!(rt;
-            is_refused(rt.alloc(), &mut tables, &event, refusal)?,
+            is_get_refused(rt.alloc(), &mut tables, caller, refusal)?,
             "{caller}"
         );
     }
     Ok(())
 }
 
-#[test]
-fn a_task_is_claimed(rt: HostRuntime) -> Result<(), Fail> {
-    let mut tables = tables(rt.alloc())?;
+// What is kept of a claim of anna's: its moment and its task.
+fn kept_of_claim(alloc: Global, tables: &mut Tables) -> Result<Option<(Moment, TaskId)>, Fail> {
     let event = claim("anna", 2000).ok_or("an event")?;
-    let early = run_one(rt.alloc(), &mut tables, &event)?;
-    assert_eq!(rt; refusal_of(&early.answer), Some(Refusal::Task(TaskId(1))));
-    let first = create(rt.alloc(), "dan", 1000, "unit").ok_or("an event")?;
-    run_one(rt.alloc(), &mut tables, &first)?;
-    let decision = decide(rt.alloc(), &mut tables, &event)?;
-    match decision.left {
-        Some(Record::Asked { at, task, .. }) => {
-            assert_eq!(rt; (at, task), (Moment(2000), TaskId(1)));
-        }
-        None => assert!(rt; false, "nothing is kept"),
+    let decision = decide(alloc, tables, &event)?;
+    Ok(kept_of(&decision.left))
+}
+
+fn kept_of(left: &Option<Record>) -> Option<(Moment, TaskId)> {
+    match left {
+        Some(Record::Asked { at, task, .. }) => Some((*at, *task)),
+        None => None,
     }
-    let reply = run_one(rt.alloc(), &mut tables, &event)?;
-    let want = Some((TaskId(1), State::Reserved, Name::of(b"anna")));
-    assert!(rt; done_of(&reply.answer) == want);
-    Ok(())
 }
 
 #[test]
-fn a_task_is_shown(rt: HostRuntime) -> Result<(), Fail> {
+fn a_task_is_claimed(rt: HostRuntime) -> Result<(), Fail> {
     let mut tables = tables(rt.alloc())?;
-    let created = create(rt.alloc(), "dan", 1000, "unit").ok_or("an event")?;
-    run_one(rt.alloc(), &mut tables, &created)?;
-    let sheet = sheet_for(rt.alloc(), &mut tables, "dan")?;
+    let early = not_claimed(rt.alloc(), &mut tables)?;
+    assert!(rt; early == Some(Refusal::Task(TaskId(1))));
+    created(rt.alloc(), &mut tables, "unit")?;
+    let kept = kept_of_claim(rt.alloc(), &mut tables)?;
+    assert!(rt; kept == Some((Moment(2000), TaskId(1))));
+    let want = Some((TaskId(1), State::Reserved, Name::of(b"anna")));
+    assert!(rt; claimed(rt.alloc(), &mut tables)? == want);
+    Ok(())
+}
+
+// A sheet of the first task for dan, who has created it.
+fn first_sheet(alloc: Global) -> Result<Sheet, Fail> {
+    let mut tables = tables(alloc)?;
+    created(alloc, &mut tables, "unit")?;
+    sheet_for(alloc, &mut tables, "dan")
+}
+
+fn is_as_created(rt: &impl Abort, sheet: &Sheet) {
     assert_eq!(rt;
         (sheet.task, sheet.state, sheet.owner.is_none()),
         (TaskId(1), State::Ready, true)
@@ -248,38 +331,37 @@ fn a_task_is_shown(rt: HostRuntime) -> Result<(), Fail> {
     assert_eq!(rt; (sheet.created, sheet.by_group), (Moment(1000), true));
     assert!(rt; Some(sheet.initiator) == Name::of(b"dan"));
     assert!(rt; Some(sheet.model) == Name::of(b"unit"));
+}
+
+#[test]
+fn a_task_is_shown(rt: HostRuntime) -> Result<(), Fail> {
+    let sheet = first_sheet(rt.alloc())?;
+    is_as_created(&rt, &sheet);
     Ok(())
+}
+
+fn is_as_claimed(sheet: &Sheet) -> bool {
+    sheet.state == State::Reserved
+        && sheet.owner == Name::of(b"anna")
+        && are_names(&sheet.potential_owners, &["anna", "ben"])
+        && are_names(&sheet.administrators, &["cora"])
+}
+
+fn is_shown_as_claimed(alloc: Global, tables: &mut Tables, caller: &str) -> Result<bool, Fail> {
+    let sheet = sheet_for(alloc, tables, caller)?;
+    Ok(is_as_claimed(&sheet))
 }
 
 #[test]
 fn a_claimed_task_is_shown_to_its_people(rt: HostRuntime) -> Result<(), Fail> {
     let mut tables = claimed_tables(rt.alloc())?;
     for caller in ["anna", "ben", "cora", "dan"] {
-        let sheet = sheet_for(rt.alloc(), &mut tables, caller)?;
         assert!(rt;
-            sheet.state == State::Reserved && sheet.owner == Name::of(b"anna"),
+            is_shown_as_claimed(rt.alloc(), &mut tables, caller)?,
             "{caller}"
         );
-        assert!(rt; are_names(&sheet.potential_owners, &["anna", "ben"]));
-        assert!(rt; are_names(&sheet.administrators, &["cora"]));
     }
     Ok(())
-}
-
-// What a create of this model does: the task, its state and its owner, where it is accepted.
-fn created(
-    alloc: Global,
-    tables: &mut Tables,
-    model: &str,
-) -> Result<Option<(TaskId, State, Option<Name>)>, Fail> {
-    let event = create(alloc, "dan", 1000, model).ok_or("an event")?;
-    Ok(done_of(&run_one(alloc, tables, &event)?.answer))
-}
-
-// Why a create of this model is refused, if it is.
-fn not_created(alloc: Global, tables: &mut Tables, model: &str) -> Result<Option<Refusal>, Fail> {
-    let event = create(alloc, "dan", 1000, model).ok_or("an event")?;
-    Ok(refusal_of(&run_one(alloc, tables, &event)?.answer))
 }
 
 #[test]
@@ -292,10 +374,14 @@ fn tasks_are_created_up_to_the_limit(rt: HostRuntime) -> Result<(), Fail> {
             "at {number}"
         );
     }
+    is_full(&rt, rt.alloc(), &mut tables)
+}
+
+fn is_full(rt: &impl Abort, alloc: Global, tables: &mut Tables) -> Result<(), Fail> {
     let full = Some(Refusal::Limit(Limit::Tasks));
-    assert!(rt; not_created(rt.alloc(), &mut tables, "solo")? == full);
+    assert!(rt; not_created(alloc, tables, "solo")? == full);
     // The model is looked at before the limit.
     let part = Some(Refusal::PartRefused(Name::of(b"sum").ok_or("a name")?));
-    assert!(rt; not_created(rt.alloc(), &mut tables, "asks")? == part);
+    assert!(rt; not_created(alloc, tables, "asks")? == part);
     Ok(())
 }

@@ -1,9 +1,15 @@
 ghost use Rattle.std.specs.Prelude.{◌≡◌, None, OnOk};
+ghost use Rattle.ht_base.specs.declared.operation.Op.TheVariants as op;
+ghost use Rattle.ht_base.specs.declared.state.State.TheVariants.{Reserved};
+ghost use Rattle.ht_tree.specs.declared.slot.Kept.TheVariants as kept;
 ghost use Rattle.ht_tree.specs.Plans.{IsPlanOf, planned};
 ghost use Rattle.ht_tree.specs.Soundness.{KeepsSound};
 
-use crate::{Comment, Comments, CreateRefusal, Kept, Plan, Slot, Tables, create, env, resolve};
+use crate::{
+    Comment, Comments, CreateRefusal, Kept, Plan, Row, Slot, Tables, create, env, resolve,
+};
 use ht_base::{LAST, Moment, Op, Person, Persons, Role, Roles, State, TaskId, Txt, Values};
+use ht_expr::Env;
 use ht_models::Models;
 use ht_people::Directory;
 use ht_samples::PEOPLE;
@@ -88,36 +94,59 @@ fn readied(alloc: Global, tables: &mut Tables, task: TaskId, at: Moment) -> Resu
     Ok(())
 }
 
+// Whether the row of a task of dan's has these roles.
+fn has_roles(row: &Row, owners: &[Person], excluded: &[Person], by_group: bool) -> bool {
+    row.initiator == DAN
+        && row.potential_owners.as_slice() == owners
+        && row.excluded_owners.as_slice() == excluded
+        && row.by_group == by_group
+}
+
+// A task of this model is created with these roles.
+fn is_created(
+    rt: &impl Abort,
+    alloc: Global,
+    tables: &mut Tables,
+    model: u32,
+    owners: &[Person],
+    excluded: &[Person],
+    by_group: bool,
+) -> Result<bool, Fail> {
+    let task = created(rt, alloc, tables, model)?;
+    let row = tables.row(task).ok_or("a row")?;
+    Ok(has_roles(row, owners, excluded, by_group))
+}
+
 #[test]
 fn a_task_is_created(rt: HostRuntime) -> Result<(), Fail> {
     let mut tables = tables(rt.alloc())?;
-    let table: [(u32, &[Person], &[Person], bool); 2] = [
-        (SHUT, &[], &[Person(0)], false),
-        (UNIT, &[Person(0), Person(1)], &[], true),
-    ];
-    for (model, owners, excluded, by_group) in table {
-        let task = created(&rt, rt.alloc(), &mut tables, model)?;
-        let row = tables.row(task).ok_or("a row")?;
-        assert_eq!(rt; row.potential_owners.as_slice(), owners);
-        assert_eq!(rt; row.excluded_owners.as_slice(), excluded);
-        assert_eq!(rt; row.by_group, by_group);
-        assert_eq!(rt; row.initiator, DAN);
-    }
+    let anna = [Person(0)];
+    assert!(rt; is_created(&rt, rt.alloc(), &mut tables, SHUT, &[], &anna, false)?);
+    let clerks = [Person(0), Person(1)];
+    assert!(rt; is_created(&rt, rt.alloc(), &mut tables, UNIT, &clerks, &[], true)?);
+    Ok(())
+}
+
+fn is_below(rt: &impl Abort, row: &Row) {
+    assert_eq!(rt; row.parent, Some((TaskId(1), 7)));
+    assert_eq!(rt; row.potential_owners.as_slice(), [Person(1)].as_slice());
+    assert_eq!(rt; row.administrators.as_slice(), [Person(2)].as_slice());
+    assert_eq!(rt; row.stakeholders.as_slice(), [Person(4)].as_slice());
+}
+
+fn is_planned_below(rt: &impl Abort, alloc: Global, tables: &Tables) -> Result<(), Fail> {
+    let mut plan = Plan::begin(alloc)?;
+    let above = planned(rt, alloc, tables, &mut plan, UNIT, None)?;
+    let below = planned(rt, alloc, tables, &mut plan, BARE, Some((above, 7)))?;
+    let row = plan.row(tables, below).ok_or("a row")?;
+    is_below(rt, row);
     Ok(())
 }
 
 #[test]
 fn a_sub_task_has_the_administrators_of_its_parent(rt: HostRuntime) -> Result<(), Fail> {
     let tables = tables(rt.alloc())?;
-    let mut plan = Plan::begin(rt.alloc())?;
-    let above = planned(&rt, rt.alloc(), &tables, &mut plan, UNIT, None)?;
-    let below = planned(&rt, rt.alloc(), &tables, &mut plan, BARE, Some((above, 7)))?;
-    let row = plan.row(&tables, below).ok_or("a row")?;
-    assert_eq!(rt; row.parent, Some((TaskId(1), 7)));
-    assert_eq!(rt; row.potential_owners.as_slice(), [Person(1)].as_slice());
-    assert_eq!(rt; row.administrators.as_slice(), [Person(2)].as_slice());
-    assert_eq!(rt; row.stakeholders.as_slice(), [Person(4)].as_slice());
-    Ok(())
+    is_planned_below(&rt, rt.alloc(), &tables)
 }
 
 #[test]
@@ -134,6 +163,23 @@ fn there_are_at_most_fifty_thousand_tasks(rt: HostRuntime) -> Result<(), Fail> {
     Ok(())
 }
 
+// Whether a task is in this state, or isn't there.
+fn is_in(tables: &Tables, task: u32, state: Option<State>) -> bool {
+    tables.row(TaskId(task)).map(|row| row.state) == state
+}
+
+fn are_in(rt: &impl Abort, tables: &Tables) {
+    let table = [
+        (0, None),
+        (1, Some(State::Ready)),
+        (2, Some(State::Created)),
+        (3, None),
+    ];
+    for (task, state) in table {
+        assert!(rt; is_in(tables, task, state), "{task}");
+    }
+}
+
 #[test]
 fn a_changed_row_is_committed(rt: HostRuntime) -> Result<(), Fail> {
     let mut tables = tables(rt.alloc())?;
@@ -142,32 +188,27 @@ fn a_changed_row_is_committed(rt: HostRuntime) -> Result<(), Fail> {
     readied(rt.alloc(), &mut tables, TaskId(1), Moment(5000))?;
     assert_eq!(rt; tables.rows(), 2);
     assert_eq!(rt; tables.last(), Moment(5000));
-    let table = [
-        (0, None),
-        (1, Some(State::Ready)),
-        (2, Some(State::Created)),
-        (3, None),
-    ];
-    for (task, state) in table {
-        let found = tables.row(TaskId(task)).map(|row| row.state);
-        assert_eq!(rt; found, state, "{task}");
-    }
+    are_in(&rt, &tables);
+    Ok(())
+}
+
+fn goes_back(rt: &impl Abort, alloc: Global, tables: &Tables) -> Result<(), Fail> {
+    let mut plan = Plan::begin(alloc)?;
+    let first = planned(rt, alloc, tables, &mut plan, UNIT, None)?;
+    plan.mark();
+    planned(rt, alloc, tables, &mut plan, SHUT, None)?;
+    assert_eq!(rt; plan.rows(tables), 2);
+    plan.back();
+    assert_eq!(rt; plan.rows(tables), 1);
+    assert!(rt; plan.row(tables, TaskId(2)).is_none());
+    assert!(rt; plan.row(tables, first).is_some());
     Ok(())
 }
 
 #[test]
 fn a_plan_goes_back_to_its_mark(rt: HostRuntime) -> Result<(), Fail> {
     let tables = tables(rt.alloc())?;
-    let mut plan = Plan::begin(rt.alloc())?;
-    let first = planned(&rt, rt.alloc(), &tables, &mut plan, UNIT, None)?;
-    plan.mark();
-    planned(&rt, rt.alloc(), &tables, &mut plan, SHUT, None)?;
-    assert_eq!(rt; plan.rows(&tables), 2);
-    plan.back();
-    assert_eq!(rt; plan.rows(&tables), 1);
-    assert!(rt; plan.row(&tables, TaskId(2)).is_none());
-    assert!(rt; plan.row(&tables, first).is_some());
-    Ok(())
+    goes_back(&rt, rt.alloc(), &tables)
 }
 
 // Plans priorities of tasks that there would be, one after another.
@@ -216,25 +257,31 @@ fn six_tasks(rt: &impl Abort, alloc: Global) -> Result<Tables, Fail> {
     Ok(tables)
 }
 
-#[test]
-fn rows_that_are_put_again_go_back_to_the_mark(rt: HostRuntime) -> Result<(), Fail> {
-    let tables = six_tasks(&rt, rt.alloc())?;
-    let mut plan = Plan::begin(rt.alloc())?;
+fn rows_go_back(rt: &impl Abort, alloc: Global, tables: &Tables) -> Result<(), Fail> {
+    let mut plan = Plan::begin(alloc)?;
     let puts = [(1, 1), (2, 2), (3, 3), (4, 4), (5, 6), (5, 0)];
-    prioritised(rt.alloc(), &tables, &mut plan, &puts)?;
+    prioritised(alloc, tables, &mut plan, &puts)?;
     plan.mark();
     let puts = [(5, 7), (1, 8), (5, 9), (6, 3), (1, 10)];
-    prioritised(rt.alloc(), &tables, &mut plan, &puts)?;
+    prioritised(alloc, tables, &mut plan, &puts)?;
     let behind = [(1, 10), (2, 2), (3, 3), (4, 4), (5, 9), (6, 3)];
-    assert!(rt; have_priorities(&tables, &plan, &behind));
+    assert!(rt; have_priorities(tables, &plan, &behind));
     plan.back();
     let before = [(1, 1), (2, 2), (3, 3), (4, 4), (5, 0), (6, 5)];
-    assert!(rt; have_priorities(&tables, &plan, &before));
+    assert!(rt; have_priorities(tables, &plan, &before));
     Ok(())
 }
 
+#[test]
+fn rows_that_are_put_again_go_back_to_the_mark(rt: HostRuntime) -> Result<(), Fail> {
+    let tables = six_tasks(&rt, rt.alloc())?;
+    rows_go_back(&rt, rt.alloc(), &tables)
+}
+
 // That a person's device has claimed the first task.
-fn claim_of(person: u32, device: u8, number: u32) -> Slot {
+fn claim_of(person: u32, device: u8, number: u32) -> Slot
+    ensures { result ≡ record { person = person; device = device; number = number; op = op.Claim; task = record { 0 = 1 }; kept = kept.Done (record { 0 = 1 }) Reserved None } }
+{
     Slot {
         person: Person(person),
         device,
@@ -268,37 +315,45 @@ fn claim_kept(
     Ok(())
 }
 
-#[test]
-fn the_last_command_of_each_device_is_kept(rt: HostRuntime) -> Result<(), Fail> {
-    let mut tables = tables(rt.alloc())?;
-    created(&rt, rt.alloc(), &mut tables, UNIT)?;
-    let kept = [
-        (1, 2, 7),
-        (0, 3, 1),
-        (2, 0, 4),
-        (1, 0, 2),
-        (1, 2, 8),
-        (0, 15, 9),
-    ];
-    for (person, device, number) in kept {
-        claim_kept(rt.alloc(), &mut tables, person, device, number)?;
-    }
-    let table = [
-        (0, 3, Some(1)),
-        (0, 15, Some(9)),
-        (1, 0, Some(2)),
-        (1, 2, Some(8)),
-        (2, 0, Some(4)),
-        (0, 0, None),
-        (1, 1, None),
-        (2, 15, None),
-        (3, 0, None),
-    ];
-    for (person, device, number) in table {
+// The commands that are kept, each of a person, a device and a number.
+const KEPT: [(u32, u8, u32); 6] = [
+    (1, 2, 7),
+    (0, 3, 1),
+    (2, 0, 4),
+    (1, 0, 2),
+    (1, 2, 8),
+    (0, 15, 9),
+];
+
+// The number of the command that is the last of each person and device.
+const LAST_KEPT: [(u32, u8, Option<u32>); 9] = [
+    (0, 3, Some(1)),
+    (0, 15, Some(9)),
+    (1, 0, Some(2)),
+    (1, 2, Some(8)),
+    (2, 0, Some(4)),
+    (0, 0, None),
+    (1, 1, None),
+    (2, 15, None),
+    (3, 0, None),
+];
+
+fn are_last(rt: &impl Abort, tables: &Tables) {
+    for (person, device, number) in LAST_KEPT {
         let slot = tables.slot(Person(person), device);
         let want = number.map(|number| claim_of(person, device, number));
         assert_eq!(rt; slot, want, "{person} {device}");
     }
+}
+
+#[test]
+fn the_last_command_of_each_device_is_kept(rt: HostRuntime) -> Result<(), Fail> {
+    let mut tables = tables(rt.alloc())?;
+    created(&rt, rt.alloc(), &mut tables, UNIT)?;
+    for (person, device, number) in KEPT {
+        claim_kept(rt.alloc(), &mut tables, person, device, number)?;
+    }
+    are_last(&rt, &tables);
     Ok(())
 }
 
@@ -315,19 +370,27 @@ fn a_kept_reply_goes_back_to_the_mark(rt: HostRuntime) -> Result<(), Fail> {
     Ok(())
 }
 
+fn comment(alloc: Global, comments: &mut Comments, text: &str) -> Result<(), Fail> {
+    let comment = Comment {
+        moment: Moment(7),
+        person: DAN,
+        text: Txt::of(alloc, text)?,
+    };
+    comments.push(alloc, comment)?;
+    Ok(())
+}
+
+// A copy of two comments, which are gone.
+fn copied(alloc: Global) -> Result<Comments, Fail> {
+    let mut comments = Comments::new(alloc);
+    comment(alloc, &mut comments, "late")?;
+    comment(alloc, &mut comments, "later")?;
+    Ok(comments.copy(alloc)?)
+}
+
 #[test]
 fn comments_are_kept_in_order(rt: HostRuntime) -> Result<(), Fail> {
-    let mut comments = Comments::new(rt.alloc());
-    for text in ["late", "later"] {
-        let comment = Comment {
-            moment: Moment(7),
-            person: DAN,
-            text: Txt::of(rt.alloc(), text)?,
-        };
-        comments.push(rt.alloc(), comment)?;
-    }
-    let copy = comments.copy(rt.alloc())?;
-    drop(comments);
+    let copy = copied(rt.alloc())?;
     assert_eq!(rt; copy.count(), 2);
     let last = copy.get(1).ok_or("a comment")?;
     assert_eq!(rt; last.text.as_str(), "later");
@@ -362,30 +425,44 @@ fn roles_are_those_of_the_row(rt: HostRuntime) -> Result<(), Fail> {
     Ok(())
 }
 
+fn is_env_of_row(rt: &impl Abort, env: &Env) {
+    assert_eq!(rt; env.initiator, DAN);
+    assert_eq!(rt; env.priority, 5);
+    assert_eq!(rt; env.subs.as_slice().len(), 0);
+}
+
+fn env_of_first(alloc: Global, tables: &Tables) -> Result<Env, Fail> {
+    let plan = Plan::begin(alloc)?;
+    let row = tables.row(TaskId(1)).ok_or("a row")?;
+    Ok(env(alloc, tables, &plan, row)?)
+}
+
 #[test]
 fn an_environment_is_that_of_a_row(rt: HostRuntime) -> Result<(), Fail> {
     let mut tables = tables(rt.alloc())?;
     created(&rt, rt.alloc(), &mut tables, UNIT)?;
-    let plan = Plan::begin(rt.alloc())?;
-    let row = tables.row(TaskId(1)).ok_or("a row")?;
-    let env = env(rt.alloc(), &tables, &plan, row)?;
-    assert_eq!(rt; env.initiator, DAN);
-    assert_eq!(rt; env.priority, 5);
-    assert_eq!(rt; env.subs.as_slice().len(), 0);
+    let env = env_of_first(rt.alloc(), &tables)?;
+    is_env_of_row(&rt, &env);
     Ok(())
 }
 
-// A task of dan's whose model has these potential owners, priority 7 and two parts, which are unset.
-fn owned_by(rt: &impl Abort, alloc: Global, owners: &str) -> Result<Tables, Fail> {
-    let mut text = String::new(alloc);
-    text.push_str(
-        "[[model]]\nname = \"m\"\npriority = \"7\"\ninput = [{name = \"boss\", kind = \"person\"}, {name = \"sum\", kind = \"int\"}]\npotentialOwners = \"",
+// A model with these potential owners, priority 7 and two parts.
+fn model_of(alloc: Global, owners: &str) -> Result<Models, Fail> {
+    let text = format!(in alloc;
+        "[[model]]\nname = \"m\"\npriority = \"7\"\ninput = [{{name = \"boss\", kind = \"person\"}}, {{name = \"sum\", kind = \"int\"}}]\npotentialOwners = \"{owners}\"\n"
     )?;
-    text.push_str(owners)?;
-    text.push_str("\"\n")?;
-    let models = Models::read(alloc, text.as_bytes())?;
+    Ok(Models::read(alloc, text.as_bytes())?)
+}
+
+fn tables_of(alloc: Global, owners: &str) -> Result<Tables, Fail> {
+    let models = model_of(alloc, owners)?;
     let people = Directory::read(alloc, PEOPLE.as_bytes())?;
-    let mut tables = Tables::new(alloc, models, people)?;
+    Ok(Tables::new(alloc, models, people)?)
+}
+
+// A task of dan's of such a model, whose parts are unset.
+fn owned_by(rt: &impl Abort, alloc: Global, owners: &str) -> Result<Tables, Fail> {
+    let mut tables = tables_of(alloc, owners)?;
     created(rt, alloc, &mut tables, 0)?;
     Ok(tables)
 }
@@ -414,17 +491,42 @@ when(priority < 7, user('anna'), group('clerks')) => [Person(0), Person(1)]
 when(initiator == in.boss, everybody, user('ben')) => [Person(1)]
 when(set(in.sum) or in.sum != 0, everybody, union(initiator, in.boss)) => [Person(3)]";
 
+fn is_found(rt: &impl Abort, alloc: Global, tables: &Tables, persons: &str) -> Result<bool, Fail> {
+    let row = tables.row(TaskId(1)).ok_or("a row")?;
+    assert_eq!(rt; row.priority, 7);
+    let found = found(alloc, tables)?;
+    are_shown(alloc, &found, persons)
+}
+
+fn are_shown(alloc: Global, persons: &Persons, want: &str) -> Result<bool, Fail> {
+    let shown = format!(in alloc; "{:?}", persons.as_slice())?;
+    Ok(shown.as_str() == want)
+}
+
+fn finds(rt: &impl Abort, alloc: Global, line: &str) -> Result<bool, Fail> {
+    let (text, persons) = line.split_once(" => ").ok_or("an assignment and persons")?;
+    let tables = owned_by(rt, alloc, text)?;
+    is_found(rt, alloc, &tables, persons)
+}
+
 #[test]
 fn assignments_find_persons(rt: HostRuntime) -> Result<(), Fail> {
     for line in FOUND.lines() {
-        let (text, persons) = line.split_once(" => ").ok_or("an assignment and persons")?;
-        let tables = owned_by(&rt, rt.alloc(), text)?;
-        let found = found(rt.alloc(), &tables)?;
-        let found = format!(in rt.alloc(); "{:?}", found.as_slice())?;
-        assert_eq!(rt; found.as_str(), persons, "{text}");
-        let row = tables.row(TaskId(1)).ok_or("a row")?;
-        assert_eq!(rt; row.priority, 7);
+        assert!(rt; finds(&rt, rt.alloc(), line)?, "{line}");
     }
+    Ok(())
+}
+
+fn is_first(rt: &impl Abort, row: &Row) {
+    assert_eq!(rt; (row.task, row.state), (TaskId(1), State::Created));
+    assert_eq!(rt; row.potential_owners.as_slice().len(), 2);
+}
+
+fn is_taken(rt: &impl Abort, alloc: Global, tables: &Tables) -> Result<(), Fail> {
+    let mut plan = Plan::begin(alloc)?;
+    assert!(rt; plan.row(tables, TaskId(1)).is_some());
+    let row = plan.take(alloc, tables, TaskId(1))?;
+    is_first(rt, &row);
     Ok(())
 }
 
@@ -432,10 +534,6 @@ fn assignments_find_persons(rt: HostRuntime) -> Result<(), Fail> {
 fn a_row_is_taken(rt: HostRuntime) -> Result<(), Fail> {
     let mut tables = tables(rt.alloc())?;
     let task = created(&rt, rt.alloc(), &mut tables, UNIT)?;
-    let mut plan = Plan::begin(rt.alloc())?;
-    assert!(rt; plan.row(&tables, task).is_some());
-    let row = plan.take(rt.alloc(), &tables, task)?;
-    assert_eq!(rt; (row.task, row.state), (task, State::Created));
-    assert_eq!(rt; row.potential_owners.as_slice().len(), 2);
-    Ok(())
+    assert_eq!(rt; task, TaskId(1));
+    is_taken(&rt, rt.alloc(), &tables)
 }
