@@ -2,6 +2,7 @@ mod Averages
 mod Counted
 mod Cuts
 mod Examples
+mod Existing
 mod Extremes
 mod Fitting
 mod Members

@@ -21,7 +21,7 @@ IsText-weaker : (P Q : List ℕ → Type 0) → ((t : List ℕ) → P t → Q t)
 IsText-weaker P Q to (Some (Text t)) h = to t h
 IsText-weaker P Q to _ h = h
 
-one_or_empty : (P : List ℕ → Type 0) (o : Option (List ℕ)) → IsOneOrNone P o → (t : List ℕ) → t ≡ unwrap_or o [] → IsOneOrEmpty P t
+pub one_or_empty : (P : List ℕ → Type 0) (o : Option (List ℕ)) → IsOneOrNone P o → (t : List ℕ) → t ≡ unwrap_or o [] → IsOneOrEmpty P t
 one_or_empty P None none t e = inr (none, e)
 one_or_empty P (Some x) one t e = inl (subst P (sym e) one)
 

@@ -14,4 +14,4 @@ mod truths;
 mod voting;
 
 pub use aggregates::aggregate;
-pub use laws::{each_aggregate_has_one_result, each_result_fits};
+pub use laws::{each_aggregate_has_a_result, each_aggregate_has_one_result, each_result_fits};

@@ -2,7 +2,9 @@ ghost use Rattle.std.specs.Prelude.{◌≡◌, All, IfOk};
 ghost use Rattle.ht_base.specs.Kinds.{kind_of_how, kind_of_value};
 ghost use Rattle.ht_base.specs.declared.kind.Kind.TheVariants as kind;
 
-use crate::{aggregate, each_aggregate_has_one_result, each_result_fits};
+use crate::{
+    aggregate, each_aggregate_has_a_result, each_aggregate_has_one_result, each_result_fits,
+};
 use ht_base::{How, Memory, Txt, Value, ValueList};
 use std::alloc::Global;
 use std::process::Abort;
@@ -12,6 +14,7 @@ use std::test::Fail;
 
 #[test]
 fn texts_are_joined(rt: HostRuntime) -> Result<(), Fail> {
+    each_aggregate_has_a_result();
     each_aggregate_has_one_result();
     each_result_fits();
     texts_give(
