@@ -11,12 +11,16 @@ mod LeastOfTwo
 mod Lookups
 mod ModelLists
 mod Passing
+pub mod PublicLaws
 mod Repeated
 mod Shapes
 mod SingleModels
+mod SizedTrees
 mod Spellings
 mod SubPlaces
 mod TooMuch
 mod TreeCounts
+mod TreeLaws
+mod TreeLevels
 mod Words
 mod Zips

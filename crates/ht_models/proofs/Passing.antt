@@ -28,6 +28,7 @@ use Rattle.ht_models.specs.Limits.{has_too_large_tree}
 use Rattle.ht_models.specs.SubTrees.{AreCounted, TreeCounts, is_too_deep, names_of, size_of, sub_places}
 use Rattle.ht_models.proofs.ModelLists.{one_list, same_length, same_names}
 use Rattle.ht_models.proofs.Shapes.{none_misshapen}
+use Rattle.ht_models.proofs.SizedTrees.{are_sized}
 use Rattle.ht_models.proofs.SubPlaces.{counted_size, some_size}
 use Rattle.ht_models.proofs.Zips.{length_zip}
 
@@ -129,8 +130,8 @@ sizes_kept t ms limit are place d within =
     let small = small_tree t limit place low in
     (omega arith, omega arith)
 
-pub kept : (t : List ModelEntry) (m : Inside) → 1 ≤ length t → Never t IsTooMuch → Never t IsTwice → AreModels t (map model_of m.models.items) → All IsKinded m.models.items → IsIndex m.places (names_of t) → IsKept m
-kept t m some limit twice models kinds index =
+pub kept : (t : List ModelEntry) (m : Inside) → 1 ≤ length t → Never t IsTooMuch → Never t IsTwice → Never t NamesUnknownModel → AreModels t (map model_of m.models.items) → All IsKinded m.models.items → IsIndex m.places (names_of t) → IsKept m
+kept t m some limit twice unknown models kinds index =
     let are = models.each in
     let few = few_models t limit in
     let names : names_of t ≡ kept_names m = same_names t m.models.items are in
@@ -139,6 +140,7 @@ kept t m some limit twice models kinds index =
       index = rw (← names) index;
       distinct = rw (← names) (λ place repeated. twice place (inl repeated));
       sizes = sizes_kept t m.models.items limit models;
+      trees = are_sized t (map model_of m.models.items) models unknown limit;
       kinds = kinds;
       some = omega arith;
       few = omega arith;

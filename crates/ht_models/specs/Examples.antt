@@ -1,12 +1,16 @@
 -- Worked examples of what a document says. A wrong reading of one fails the check.
-use Rattle.std.specs.Prelude.{◌≡◌, ℕ, refl, List, [], ◌∷◌, length, Some, codes, true, false}
-use Rattle.std.proofs.Common.{inr, lit<}
+use Rattle.std.specs.Prelude.{◌≡◌, ℕ, refl, List, [], ◌∷◌, length, Some, codes, true, false, nat_eq}
+use Rattle.std.proofs.Common.{ap, inr, lit<, true≢false}
+use Rattle.std.proofs.lemmas.Bool.{false≢true}
 use Rattle.toml.specs.Data.{Data, Members, Items, array, boolean, item, member, no_items, no_members, string, table}
 use Rattle.ht_base.specs.Places.{IsRepeated}
-use Rattle.ht_models.specs.BuiltIn.{built_in_text}
+use Rattle.ht_models.specs.BuiltIn.{built_in_text, plain_model}
 use Rattle.ht_models.specs.EntryExamples.{bare}
+use Rattle.ht_models.specs.Model.{ModelOf}
 use Rattle.ht_models.specs.ModelsText.{is_top, IsMisshapen, models_text}
+use Rattle.ht_models.specs.SubEntries.{SubEntry, sub_entry}
 use Rattle.ht_models.specs.SubTrees.{names_of}
+use Rattle.ht_models.specs.TreeSizes.{IsSized, entries_size, entry_size}
 
 -- ---- the document
 
@@ -38,6 +42,32 @@ second_misshapen = inr (boolean true, refl, refl)
 
 third_repeated : IsRepeated (names_of (bare (codes "a") ∷ bare (codes "b") ∷ bare (codes "a") ∷ [])) 2
 third_repeated = (0, lit< tt, codes "a", refl, refl)
+
+-- ---- trees of models
+
+-- a sub entry of this model
+abbrev entry : List ℕ → SubEntry
+entry model = sub_entry (codes "x") model []
+
+-- a, of two b and a c, of which each b has two c
+abbrev tree : List ModelOf
+tree =
+    record (plain_model (codes "a")) { subs = entry (codes "b") ∷ entry (codes "b") ∷ entry (codes "c") ∷ []; size = 8 }
+    ∷ record (plain_model (codes "b")) { subs = entry (codes "c") ∷ entry (codes "c") ∷ []; size = 3 }
+    ∷ plain_model (codes "c") ∷ []
+
+each_entry_counts : entries_size tree (entry (codes "b") ∷ entry (codes "b") ∷ entry (codes "c") ∷ []) ≡ 7
+each_entry_counts = refl
+
+no_model_of_this_name : entry_size tree (entry (codes "d")) ≡ 0
+no_model_of_this_name = refl
+
+-- a model of one b, which alone has three tasks
+a_task_too_few : IsSized tree (record (plain_model (codes "d")) { subs = entry (codes "b") ∷ []; size = 3 }) → ⊥
+a_task_too_few sized = true≢false (ap (λ n. nat_eq n 3) sized.counted)
+
+an_entry_of_no_model : IsSized tree (record (plain_model (codes "d")) { subs = entry (codes "e") ∷ []; size = 1 }) → ⊥
+an_entry_of_no_model sized = false≢true (sized.known 0 (entry (codes "e")) refl)
 
 -- ---- the built-in text
 

@@ -5,6 +5,8 @@ use Rattle.ht_base.specs.Places.{IsRepeated}
 use Rattle.ht_models.specs.declared.models.Models.TheInside.{Inside}
 use Rattle.ht_models.specs.Kinded.{IsKinded}
 use Rattle.ht_models.specs.Refusals.{most}
+use Rattle.ht_models.specs.Shown.{model_of}
+use Rattle.ht_models.specs.TreeSizes.{AreSized}
 
 abbrev pub kept_names : Inside → List (List ℕ)
 kept_names m = map (λ m. m.name) m.models.items
@@ -13,6 +15,7 @@ pub record IsKept (m : Inside) : Type 0 where
   pub index : IsIndex m.places (kept_names m)
   pub distinct : (place : ℕ) → IsRepeated (kept_names m) place → ⊥
   pub sizes : All (λ m. (1 ≤ m.size) × (m.size ≤ 256)) m.models.items
+  pub trees : AreSized (map model_of m.models.items)
   pub kinds : All IsKinded m.models.items
   pub some : 1 ≤ length m.models.items
   pub few : length m.models.items ≤ most

@@ -25,3 +25,4 @@ pub mod Shown
 pub mod SubEntries
 pub mod SubTrees
 pub mod Times
+pub mod TreeSizes

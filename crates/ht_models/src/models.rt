@@ -7,6 +7,7 @@ ghost use Rattle.ht_models.specs.Model.{ModelOf, names};
 ghost use Rattle.ht_models.specs.Reading.{AreModels, Reads};
 ghost use Rattle.ht_models.specs.Refusals.{model_refusals};
 ghost use Rattle.ht_models.specs.Shown.{model_of};
+ghost use Rattle.ht_models.specs.TreeSizes.{AreSized};
 
 use crate::contradictions::first_contradicted;
 use crate::entries::entries_of;
@@ -103,6 +104,7 @@ impl Models {
         ensures found { place_in result.now.name (names self.now) ≡ Some place }
         ensures size { (1 ≤ result.now.size) × (result.now.size ≤ 256) }
         ensures kinds { IsKinded result.now }
+        ensures trees { AreSized self.now }
     {
         &self.models[place as usize]
     }
@@ -113,6 +115,7 @@ impl Models {
         ensures some { 1 ≤ result }
         ensures few { result ≤ 256 }
         ensures sizes { (place : ℕ) (m : ModelOf) → slice_get self.now place ≡ Some m → (1 ≤ m.size) × (m.size ≤ 256) }
+        ensures trees { AreSized self.now }
     {
         self.models.len() as u32
     }

@@ -59,11 +59,12 @@ pub invariant_of-result : goal.invariant_of-result
 invariant_of-result c =
     let t = c.args.entries.items in
     let twice = rw c.deref.ensures.value at c.in_ok-places.ensures.passes in
+    let unknown = rw c.deref-2.ensures.value at c.in_ok-check_known.ensures in
     let graph = c.in_ok-graph.ensures ∙ ap sub_places c.deref-3.ensures.value in
     let limit = rw c.deref-4.ensures.value at (rw c.in-None-None.is-0 at c.first_too_much-too_much.ensures) in
     let counted = rw graph at c.in_ok-trees.ensures in
     let models = sized t _ _ c.in_ok-models.ensures.models counted limit c.in_ok-models.ensures.sizes in
-    kept t _ c.requires limit twice models c.in_ok-models.ensures.kinds (rw c.deref.ensures.value at c.in_ok-places.ensures.ok)
+    kept t _ c.requires limit twice unknown models c.in_ok-models.ensures.kinds (rw c.deref.ensures.value at c.in_ok-places.ensures.ok)
 
 pub returns-in-None-None : goal.returns-in-None-None
 returns-in-None-None c =
