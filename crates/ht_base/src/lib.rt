@@ -4,6 +4,8 @@
 
 mod bytes;
 mod event;
+#[cfg(test)]
+mod event_tests;
 mod how;
 mod indexes;
 mod kind;

@@ -1,10 +1,12 @@
+ghost use Rattle.ht_base.specs.Persons.{AllBelow};
+
 use crate::{
-    Bytes, Command, Event, How, IndexFault, Kind, LAST, Memory, Moment, Name, Names, Op, Parts,
-    Person, Persons, Query, Record, Retry, Role, RoleList, Roles, Scalar, ShownComment,
-    ShownComments, State, StateSet, TaskId, Txt, Value, ValueList, Values, index, name_places,
-    number, period,
+    Bytes, How, IndexFault, Kind, LAST, Moment, Name, Names, Person, Persons, Role, Roles,
+    ShownComment, ShownComments, State, StateSet, Txt, Value, ValueList, Values, index,
+    name_places, number, period,
 };
 use std::alloc::{AllocError, Global};
+use std::process::Abort;
 use std::test::Fail;
 
 const NAMES: &str = "\
@@ -21,24 +23,40 @@ a/b
 caf\u{e9}
 a\0";
 
+fn is_name(text: &str) -> bool {
+    match Name::of(text.as_bytes()) {
+        Some(name) => name.as_bytes() == text.as_bytes() && name.as_str() == text,
+        None => false,
+    }
+}
+
 #[test]
-fn names_are_read(rt: HostRuntime) -> Result<(), Fail> {
+fn names_are_read(rt: HostRuntime) {
     for text in NAMES.lines() {
-        match Name::of(text.as_bytes()) {
-            Some(name) => {
-                assert_eq!(rt; name.as_bytes(), text.as_bytes());
-                assert_eq!(rt; name.as_str(), text);
-            }
-            None => return Err(Fail::new(text)),
-        }
+        assert!(rt; is_name(text), "{text}");
     }
     for text in NO_NAMES.lines() {
         assert!(rt; Name::of(text.as_bytes()).is_none(), "{text}");
     }
     assert!(rt; Name::of(b"").is_none());
+}
+
+#[test]
+fn names_are_ordered_by_their_bytes(rt: HostRuntime) {
     let (first, second) = (Name::of(b"p1"), Name::of(b"p10"));
     assert!(rt; first < second);
     assert!(rt; first != second);
+}
+
+fn is_copied_before_it_changes(
+    rt: &impl Abort,
+    bytes: &mut Bytes,
+    copy: &Bytes,
+) -> Result<(), Fail> {
+    bytes.clear();
+    bytes.extend(b"s")?;
+    assert_eq!(rt; bytes.as_slice(), b"s".as_slice());
+    assert_eq!(rt; copy.as_slice(), b"task".as_slice());
     Ok(())
 }
 
@@ -48,10 +66,11 @@ fn bytes_grow_and_are_copied(rt: HostRuntime) -> Result<(), Fail> {
     bytes.reserve(16)?;
     bytes.extend(b"task")?;
     let copy = bytes.copy(rt.alloc())?;
-    bytes.clear();
-    bytes.extend(b"s")?;
-    assert_eq!(rt; bytes.as_slice(), b"s".as_slice());
-    assert_eq!(rt; copy.as_slice(), b"task".as_slice());
+    is_copied_before_it_changes(&rt, &mut bytes, &copy)
+}
+
+#[test]
+fn bytes_are_lent(rt: HostRuntime) -> Result<(), Fail> {
     let mut of = Bytes::of(rt.alloc(), b"row")?;
     let mut lent = of.lend(rt.alloc());
     assert_eq!(rt; lent.as_slice(), b"row".as_slice());
@@ -158,15 +177,37 @@ fn want_of_memory_is_told(rt: HostRuntime) -> Result<(), Fail> {
     Ok(())
 }
 
+fn two_names(alloc: Global) -> Result<Names, Fail> {
+    let mut names = Names::new(alloc);
+    names.push(Name::of(b"anna").ok_or("a name")?)?;
+    names.push(Name::of(b"ben").ok_or("a name")?)?;
+    Ok(names)
+}
+
 #[test]
 fn lists_of_names_grow_and_are_copied(rt: HostRuntime) -> Result<(), Fail> {
-    let mut names = Names::new(rt.alloc());
-    for text in ["anna", "ben"] {
-        names.push(Name::of(text.as_bytes()).ok_or("a name")?)?;
-    }
+    let names = two_names(rt.alloc())?;
     let copy = names.copy(rt.alloc())?;
     assert_eq!(rt; copy.as_slice().len(), 2);
     assert!(rt; copy.as_slice().first().copied() == Name::of(b"anna"));
+    Ok(())
+}
+
+fn are_there(rt: &impl Abort, persons: &Persons) {
+    let table = [(0, false), (3, true), (5, false), (7, true), (8, false)];
+    for (place, is_there) in table {
+        assert_eq!(rt; persons.contains(Person(place)), is_there, "{place}");
+    }
+}
+
+// A copy to which another person comes, which the copied set doesn't have then.
+fn is_grown_copy(rt: &impl Abort, alloc: Global, persons: &Persons) -> Result<(), Fail>
+    requires { AllBelow 7 persons.now }
+{
+    let mut copy = persons.copy(alloc)?;
+    copy.push(Person(7))?;
+    are_there(rt, &copy);
+    assert_eq!(rt; persons.as_slice(), [Person(3)].as_slice());
     Ok(())
 }
 
@@ -175,14 +216,7 @@ fn sets_of_persons_grow_and_are_copied(rt: HostRuntime) -> Result<(), Fail> {
     let mut persons = Persons::with_capacity(rt.alloc(), 1)?;
     assert_eq!(rt; persons.as_slice(), Persons::new(rt.alloc()).as_slice());
     persons.push(Person(3))?;
-    let mut copy = persons.copy(rt.alloc())?;
-    copy.push(Person(7))?;
-    let table = [(0, false), (3, true), (5, false), (7, true), (8, false)];
-    for (place, is_there) in table {
-        assert_eq!(rt; copy.contains(Person(place)), is_there, "{place}");
-    }
-    assert_eq!(rt; persons.as_slice(), [Person(3)].as_slice());
-    Ok(())
+    is_grown_copy(&rt, rt.alloc(), &persons)
 }
 
 #[test]
@@ -194,18 +228,32 @@ fn texts_are_copied(rt: HostRuntime) -> Result<(), Fail> {
     Ok(())
 }
 
+fn push_comment(
+    alloc: Global,
+    comments: &mut ShownComments,
+    at: u64,
+    text: &str,
+) -> Result<(), Fail> {
+    let person = Name::of(b"anna").ok_or("a name")?;
+    let text = Txt::of(alloc, text)?;
+    comments.push(ShownComment {
+        moment: Moment(at),
+        person,
+        text,
+    })?;
+    Ok(())
+}
+
+fn copied_comments(alloc: Global) -> Result<ShownComments, Fail> {
+    let mut comments = ShownComments::new(alloc);
+    push_comment(alloc, &mut comments, 5, "first")?;
+    push_comment(alloc, &mut comments, 4, "second")?;
+    Ok(comments.copy(alloc)?)
+}
+
 #[test]
 fn comments_are_shown_in_order(rt: HostRuntime) -> Result<(), Fail> {
-    let person = Name::of(b"anna").ok_or("a name")?;
-    let mut comments = ShownComments::new(rt.alloc());
-    for (at, text) in [(5, "first"), (4, "second")] {
-        comments.push(ShownComment {
-            moment: Moment(at),
-            person,
-            text: Txt::of(rt.alloc(), text)?,
-        })?;
-    }
-    let copy = comments.copy(rt.alloc())?;
+    let copy = copied_comments(rt.alloc())?;
     let last = copy.as_slice().last().ok_or("a comment")?;
     assert_eq!(rt; last.moment, Moment(4));
     assert_eq!(rt; last.text.as_str(), "second");
@@ -223,49 +271,62 @@ fn aggregates_are_copied(rt: HostRuntime) -> Result<(), Fail> {
     Ok(())
 }
 
+// Whether values with this one show it when they are copied, and the copied value is its copy.
+fn is_copied(alloc: Global, value: &Value) -> Result<bool, Fail> {
+    let mut values = Values::new(alloc);
+    values.push(Name::of(b"due").ok_or("a name")?, value.copy(alloc)?)?;
+    let copy = values.copy(alloc)?;
+    Ok(is_alone(&copy, value))
+}
+
+fn is_alone(values: &Values, value: &Value) -> bool {
+    match values.as_slice().first() {
+        Some((key, copied)) => Some(*key) == Name::of(b"due") && is_same(copied, value),
+        None => false,
+    }
+}
+
 #[test]
 fn values_grow_and_are_copied(rt: HostRuntime) -> Result<(), Fail> {
-    let name = Name::of(b"due").ok_or("a name")?;
-    let text = Txt::of(rt.alloc(), "soon")?;
-    let table = [
-        Value::Text(text),
-        Value::Int(-1),
-        Value::Truth(true),
-        Value::Person(Person(3)),
-        Value::Instant(Moment(1000)),
-    ];
-    for value in table {
-        let mut values = Values::new(rt.alloc());
-        values.push(name, value.copy(rt.alloc())?)?;
-        let copy = values.copy(rt.alloc())?;
-        let (key, copied) = copy.as_slice().first().ok_or("a value")?;
-        assert!(rt; *key == name);
-        assert!(rt; is_same(copied, &value));
-    }
+    let text = Value::Text(Txt::of(rt.alloc(), "soon")?);
+    assert!(rt; is_copied(rt.alloc(), &text)?);
+    assert!(rt; is_copied(rt.alloc(), &Value::Int(-1))?);
+    assert!(rt; is_copied(rt.alloc(), &Value::Truth(true))?);
+    assert!(rt; is_copied(rt.alloc(), &Value::Person(Person(3)))?);
+    assert!(rt; is_copied(rt.alloc(), &Value::Instant(Moment(1000)))?);
     Ok(())
+}
+
+fn put_number(values: &mut Values, text: &str, number: i64) -> Result<(), Fail> {
+    let name = Name::of(text.as_bytes()).ok_or("a name")?;
+    values.put(name, Value::Int(number))?;
+    Ok(())
+}
+
+// Two numbers, each under its name.
+fn numbers_of(alloc: Global, first: (&str, i64), second: (&str, i64)) -> Result<Values, Fail> {
+    let mut values = Values::new(alloc);
+    put_number(&mut values, first.0, first.1)?;
+    put_number(&mut values, second.0, second.1)?;
+    Ok(values)
+}
+
+fn number_under(values: &Values, text: &str) -> Option<i64> {
+    int_of(values.value_of(&Name::of(text.as_bytes())?))
+}
+
+fn updated(alloc: Global) -> Result<Values, Fail> {
+    let values = numbers_of(alloc, ("d", 2), ("b", 1))?;
+    let given = numbers_of(alloc, ("a", 7), ("d", 8))?;
+    Ok(values.updated(given)?)
 }
 
 #[test]
 fn values_are_put_under_their_names(rt: HostRuntime) -> Result<(), Fail> {
-    let mut values = Values::new(rt.alloc());
-    for (text, number) in [("d", 2), ("b", 1)] {
-        values.put(
-            Name::of(text.as_bytes()).ok_or("a name")?,
-            Value::Int(number),
-        )?;
-    }
-    let mut given = Values::new(rt.alloc());
-    for (text, number) in [("a", 7), ("d", 8)] {
-        given.put(
-            Name::of(text.as_bytes()).ok_or("a name")?,
-            Value::Int(number),
-        )?;
-    }
-    let values = values.updated(given)?;
+    let values = updated(rt.alloc())?;
     let numbers = [("a", Some(7)), ("b", Some(1)), ("c", None), ("d", Some(8))];
     for (text, number) in numbers {
-        let name = Name::of(text.as_bytes()).ok_or("a name")?;
-        assert!(rt; int_of(values.value_of(&name)) == number, "{text}");
+        assert!(rt; number_under(&values, text) == number, "{text}");
     }
     assert_eq!(rt; values.as_slice().len(), 3);
     Ok(())
@@ -301,181 +362,35 @@ fn is_same(one: &Value, other: &Value) -> bool {
     }
 }
 
-#[test]
-fn names_have_their_places(rt: HostRuntime) -> Result<(), Fail> {
-    let mut names = Vec::new(rt.alloc());
+// Names of which some stand twice.
+fn five_names(alloc: Global) -> Result<Vec<Name>, Fail> {
+    let mut names = Vec::new(alloc);
     for text in ["cora", "anna", "ben", "anna", "cora"] {
         names.push(Name::of(text.as_bytes()).ok_or("a name")?)?;
     }
-    assert_eq!(rt; names.len(), 5);
-    let places = name_places(rt.alloc(), &names[..3])?;
-    let ben = Name::of(b"ben").ok_or("a name")?;
-    let dan = Name::of(b"dan").ok_or("a name")?;
-    assert_eq!(rt; places.get(&ben).copied(), Some(2));
-    assert_eq!(rt; places.get(&dan).copied(), None);
-    let repeated = index(rt.alloc(), &names);
-    assert_eq!(rt; repeated.err(), Some(IndexFault::Repeated(3)));
-    Ok(())
-}
-
-#[test]
-fn events_and_records_are_copied(rt: HostRuntime) -> Result<(), Fail> {
-    let anna = Name::of(b"anna").ok_or("a name")?;
-    for op in [
-        Op::Create,
-        Op::Claim,
-        Op::Start,
-        Op::Stop,
-        Op::Release,
-        Op::Delegate,
-        Op::Forward,
-        Op::Nominate,
-        Op::Activate,
-        Op::SetRole,
-        Op::SetPriority,
-        Op::Suspend,
-        Op::Resume,
-        Op::SetOutput,
-        Op::Complete,
-        Op::Fail,
-        Op::Skip,
-        Op::Exit,
-        Op::Error,
-        Op::AddComment,
-    ] {
-        let command = command_of(rt.alloc(), op, anna)?;
-        let retry = Some(Retry {
-            device: 3,
-            number: 7,
-        });
-        let asked = Event::Ask {
-            at: Moment(1000),
-            caller: anna,
-            retry,
-            task: TaskId(1),
-            command: command.copy(rt.alloc())?,
-        };
-        let kept = Record::Asked {
-            at: Moment(1000),
-            caller: anna,
-            retry,
-            task: TaskId(1),
-            command,
-        };
-        assert_eq!(rt; op_asked(&asked.copy(rt.alloc())?), Some((op, retry)));
-        let Record::Asked { retry, command, .. } = kept.copy(rt.alloc())?;
-        assert_eq!(rt; command.op(), op);
-        assert_eq!(rt;
-            retry,
-            Some(Retry {
-                device: 3,
-                number: 7
-            })
-        );
-    }
-    let read = Event::Read {
-        caller: anna,
-        query: Query::Sheet(TaskId(1)),
-    };
-    assert_eq!(rt; op_asked(&read.copy(rt.alloc())?), None);
-    Ok(())
-}
-
-// A command of this operation, which names this person.
-fn command_of(alloc: Global, op: Op, name: Name) -> Result<Command, Fail> {
-    match plain_command(op) {
-        Some(command) => Ok(command),
-        None => command_with(alloc, op, name),
-    }
-}
-
-fn plain_command(op: Op) -> Option<Command> {
-    Some(match op {
-        Op::Claim => Command::Claim,
-        Op::Start => Command::Start,
-        Op::Stop => Command::Stop,
-        Op::Release => Command::Release,
-        Op::Activate => Command::Activate,
-        Op::SetPriority => Command::SetPriority { priority: 10 },
-        Op::Suspend => Command::Suspend,
-        Op::Resume => Command::Resume,
-        Op::Skip => Command::Skip,
-        Op::Exit => Command::Exit,
-        Op::Error => Command::Error,
-        _ => return None,
-    })
-}
-
-fn command_with(alloc: Global, op: Op, name: Name) -> Result<Command, Fail> {
-    Ok(match op {
-        Op::Create => Command::Create {
-            model: Some(name),
-            input: one_part(alloc, name)?,
-        },
-        Op::Delegate => Command::Delegate { person: name },
-        Op::Forward => Command::Forward {
-            persons: one_name(alloc, name)?,
-        },
-        Op::Nominate => Command::Nominate {
-            persons: one_name(alloc, name)?,
-        },
-        Op::SetRole => Command::SetRole {
-            role: RoleList::Stakeholders,
-            persons: one_name(alloc, name)?,
-        },
-        Op::SetOutput => Command::SetOutput {
-            output: one_part(alloc, name)?,
-        },
-        Op::Complete => Command::Complete {
-            output: one_part(alloc, name)?,
-        },
-        Op::Fail => Command::Fail { fault: Some(name) },
-        Op::AddComment => Command::AddComment {
-            text: Txt::of(alloc, "soon")?,
-        },
-        _ => return Err(Fail::from("no such command")),
-    })
-}
-
-fn one_name(alloc: Global, name: Name) -> Result<Names, Memory> {
-    let mut names = Names::new(alloc);
-    names.push(name)?;
     Ok(names)
 }
 
-fn one_part(alloc: Global, name: Name) -> Result<Parts, Memory> {
-    let mut parts = Parts::new(alloc);
-    parts.push(name, Scalar::Text(Txt::of(alloc, "soon")?))?;
-    Ok(parts)
-}
-
-#[test]
-fn what_is_given_is_copied(rt: HostRuntime) -> Result<(), Fail> {
-    let name = Name::of(b"due").ok_or("a name")?;
-    let text = Txt::of(rt.alloc(), "soon")?;
-    for scalar in [Scalar::Text(text), Scalar::Int(-1), Scalar::Truth(true)] {
-        let mut parts = Parts::new(rt.alloc());
-        parts.push(name, scalar.copy(rt.alloc())?)?;
-        let copy = parts.copy(rt.alloc())?;
-        let (key, copied) = copy.as_slice().first().ok_or("a part")?;
-        assert!(rt; *key == name);
-        assert!(rt; is_same_scalar(copied, &scalar));
-    }
+fn have_places(rt: &impl Abort, alloc: Global, names: &[Name]) -> Result<(), Fail> {
+    let ben = Name::of(b"ben").ok_or("a name")?;
+    let dan = Name::of(b"dan").ok_or("a name")?;
+    let places = name_places(alloc, names)?;
+    assert_eq!(rt; places.get(&ben).copied(), Some(2));
+    assert_eq!(rt; places.get(&dan).copied(), None);
     Ok(())
 }
 
-fn is_same_scalar(one: &Scalar, other: &Scalar) -> bool {
-    match (one, other) {
-        (Scalar::Text(a), Scalar::Text(b)) => a.as_str() == b.as_str(),
-        (Scalar::Int(a), Scalar::Int(b)) => a == b,
-        (Scalar::Truth(a), Scalar::Truth(b)) => a == b,
-        _ => false,
-    }
+#[test]
+fn names_have_their_places(rt: HostRuntime) -> Result<(), Fail> {
+    let names = five_names(rt.alloc())?;
+    assert_eq!(rt; names.len(), 5);
+    have_places(&rt, rt.alloc(), &names[..3])
 }
 
-fn op_asked(event: &Event) -> Option<(Op, Option<Retry>)> {
-    match event {
-        Event::Ask { retry, command, .. } => Some((command.op(), *retry)),
-        Event::Read { .. } => None,
-    }
+#[test]
+fn a_name_that_stands_twice_is_told(rt: HostRuntime) -> Result<(), Fail> {
+    let names = five_names(rt.alloc())?;
+    let repeated = index(rt.alloc(), &names).err();
+    assert_eq!(rt; repeated, Some(IndexFault::Repeated(3)));
+    Ok(())
 }

@@ -4,7 +4,7 @@ use crate::{
 };
 use ht_base::{Kind, Memory, Name};
 use std::alloc::Global;
-use std::process::Abort;
+use std::fmt::Debug;
 use std::test::Fail;
 
 // Parts of which the texts of these tests speak.
@@ -38,41 +38,47 @@ fn read_expr(alloc: Global, text: &str) -> Result<Expr, ExprRefusal> {
     Expr::read(alloc, text, &declared(alloc)?)
 }
 
-fn repeated(alloc: Global, text: &str, times: usize) -> Result<String, Fail> {
-    let mut all = String::new(alloc);
-    for _ in 0..times {
-        all.push_str(text)?;
-    }
-    Ok(all)
+fn shown<T: Debug>(alloc: Global, value: &T) -> Result<String, Fail> {
+    Ok(format!(in alloc; "{value:?}")?)
 }
 
-/// What the text is read to, or why it is refused.
+/// What an assignment is read to, or why it is refused.
+fn assignment(alloc: Global, text: &str) -> Result<String, Fail> {
+    match &read(alloc, text) {
+        Ok(assign) => shown(alloc, assign),
+        Err(refusal) => shown(alloc, refusal),
+    }
+}
+
+/// The same of an expression.
+fn expression(alloc: Global, text: &str) -> Result<String, Fail> {
+    match &read_expr(alloc, text) {
+        Ok(expr) => shown(alloc, expr),
+        Err(refusal) => shown(alloc, refusal),
+    }
+}
+
 fn answer(alloc: Global, text: &str, is_assignment: bool) -> Result<String, Fail> {
     if is_assignment {
-        return match read(alloc, text) {
-            Ok(assign) => Ok(format!(in alloc; "{assign:?}")?),
-            Err(refusal) => Ok(format!(in alloc; "{refusal:?}")?),
-        };
+        return assignment(alloc, text);
     }
-    match read_expr(alloc, text) {
-        Ok(expr) => Ok(format!(in alloc; "{expr:?}")?),
-        Err(refusal) => Ok(format!(in alloc; "{refusal:?}")?),
-    }
+    expression(alloc, text)
 }
 
-/// In each line a text stands before its answer.
-fn are_answered(
-    rt: &impl Abort,
+fn is_answered(
     alloc: Global,
     is_assignment: bool,
-    lines: &str,
-) -> Result<(), Fail> {
-    for line in lines.lines() {
-        let (text, expected) = line.split_once(" => ").ok_or("a text and its answer")?;
-        let answer = answer(alloc, text, is_assignment)?;
-        assert_eq!(rt; answer.as_str(), expected, "{text}");
-    }
-    Ok(())
+    text: &str,
+    expected: &str,
+) -> Result<bool, Fail> {
+    let answer = answer(alloc, text, is_assignment)?;
+    Ok(answer.as_str() == expected)
+}
+
+/// In a line a text stands before its answer.
+fn has_answer(alloc: Global, is_assignment: bool, line: &str) -> Result<bool, Fail> {
+    let (text, expected) = line.split_once(" => ").ok_or("a text and its answer")?;
+    is_answered(alloc, is_assignment, text, expected)
 }
 
 const ASSIGNMENTS: &str = "\
@@ -134,11 +140,18 @@ except(nobody, => Shape(14)";
 
 #[test]
 fn assignments_are_read(rt: HostRuntime) -> Result<(), Fail> {
-    are_answered(&rt, rt.alloc(), true, ASSIGNMENTS)?;
-    are_answered(&rt, rt.alloc(), true, NO_ASSIGNMENTS)?;
+    for lines in [ASSIGNMENTS, NO_ASSIGNMENTS] {
+        for line in lines.lines() {
+            assert!(rt; has_answer(rt.alloc(), true, line)?, "{line}");
+        }
+    }
+    Ok(())
+}
+
+#[test]
+fn a_text_has_one_line(rt: HostRuntime) {
     let broken = read(rt.alloc(), "user('a\nb')").err();
     assert_eq!(rt; broken, Some(ExprRefusal::Token(5)));
-    Ok(())
 }
 
 // Each form, and each level beside its neighbour.
@@ -229,25 +242,35 @@ user('anna') => Shape(0)";
 
 #[test]
 fn expressions_are_read(rt: HostRuntime) -> Result<(), Fail> {
-    are_answered(&rt, rt.alloc(), false, EXPRESSIONS)?;
-    are_answered(&rt, rt.alloc(), false, NO_EXPRESSIONS)
-}
-
-// Each text is cut behind each of its tokens: there it ends too early.
-fn are_cut(rt: &impl Abort, alloc: Global, is_assignment: bool, lines: &str) -> Result<(), Fail> {
-    for line in lines.lines() {
-        let mut front = String::new(alloc);
-        for token in line.split(" | ") {
-            let expected = format!(in alloc; "Shape({})", front.len())?;
-            let answer = answer(alloc, front.as_str(), is_assignment)?;
-            assert_eq!(rt; answer.as_str(), expected.as_str(), "{line}");
-            front.push_str(" ")?;
-            front.push_str(token)?;
+    for lines in [EXPRESSIONS, NO_EXPRESSIONS] {
+        for line in lines.lines() {
+            assert!(rt; has_answer(rt.alloc(), false, line)?, "{line}");
         }
-        let answer = answer(alloc, front.as_str(), is_assignment)?;
-        assert!(rt; !answer.as_str().contains("Shape"), "{line}");
     }
     Ok(())
+}
+
+// A text ends too early: where its end is, more must stand.
+fn is_too_short(alloc: Global, is_assignment: bool, text: &str) -> Result<bool, Fail> {
+    let expected = shown(alloc, &ExprRefusal::Shape(text.len()))?;
+    is_answered(alloc, is_assignment, text, expected.as_str())
+}
+
+fn is_whole(alloc: Global, is_assignment: bool, text: &str) -> Result<bool, Fail> {
+    let answer = answer(alloc, text, is_assignment)?;
+    Ok(!answer.as_str().contains("Shape"))
+}
+
+// A text is cut behind each of its tokens: there it ends too early.
+fn is_cut(alloc: Global, is_assignment: bool, line: &str) -> Result<bool, Fail> {
+    let mut front = String::new(alloc);
+    for token in line.split(" | ") {
+        if !is_too_short(alloc, is_assignment, front.as_str())? {
+            return Ok(false);
+        }
+        write!(front, " {token}")?;
+    }
+    is_whole(alloc, is_assignment, front.as_str())
 }
 
 const WHOLE_EXPRESSIONS: &str = "\
@@ -274,68 +297,102 @@ when | ( | true | , | nobody | , | everybody | )";
 
 #[test]
 fn cut_texts_end_too_early(rt: HostRuntime) -> Result<(), Fail> {
-    are_cut(&rt, rt.alloc(), false, WHOLE_EXPRESSIONS)?;
-    are_cut(&rt, rt.alloc(), true, WHOLE_ASSIGNMENTS)
-}
-
-// An assignment takes 5 tokens for each `union` in it and 1 for the last operand, and 3 more for
-// each user.
-fn nested(alloc: Global, unions: usize, users: usize) -> Result<String, Fail> {
-    let mut text = repeated(alloc, "union(user('a'), ", users)?;
-    for _ in users..unions {
-        text.push_str("union(nobody, ")?;
+    for line in WHOLE_EXPRESSIONS.lines() {
+        assert!(rt; is_cut(rt.alloc(), false, line)?, "{line}");
     }
-    text.push_str("nobody")?;
-    text.push_str(repeated(alloc, ")", unions)?.as_str())?;
-    Ok(text)
+    for line in WHOLE_ASSIGNMENTS.lines() {
+        assert!(rt; is_cut(rt.alloc(), true, line)?, "{line}");
+    }
+    Ok(())
 }
 
-// 1 and `others` more numbers with a sign before each: 1 + 2 * `others` tokens.
-fn sum_of(alloc: Global, others: usize) -> Result<String, Fail> {
-    let signs = repeated(alloc, " + 1", others)?;
-    Ok(format!(in alloc; "1{}", signs.as_str())?)
+// Why an expression of 1 and so many more numbers, each with a sign before it, and some text before
+// all of them is refused, if it is. There are 1 + 2 * `others` tokens behind that text.
+fn refusal_of_a_sum(
+    alloc: Global,
+    before: &str,
+    others: usize,
+) -> Result<Option<ExprRefusal>, Fail> {
+    let signs = " + 1".repeat(alloc, others)?;
+    let text = format!(in alloc; "{before}1{signs}")?;
+    Ok(read_expr(alloc, text.as_str()).err())
 }
 
 #[test]
 fn expressions_of_128_tokens_are_read(rt: HostRuntime) -> Result<(), Fail> {
-    let most = sum_of(rt.alloc(), 63)?;
-    let longest = format!(in rt.alloc(); "-{}", most.as_str())?;
-    assert!(rt; read_expr(rt.alloc(), longest.as_str()).is_ok());
-    let too_long = sum_of(rt.alloc(), 64)?;
+    assert_eq!(rt; refusal_of_a_sum(rt.alloc(), "-", 63)?, None);
     assert_eq!(rt;
-        read_expr(rt.alloc(), too_long.as_str()).err(),
+        refusal_of_a_sum(rt.alloc(), "", 64)?,
         Some(ExprRefusal::TooLong)
     );
     Ok(())
 }
 
+// An assignment takes 5 tokens for each `union` in it and 1 for the last operand, and 3 more for
+// each user.
+fn nested(alloc: Global, unions: usize, users: usize) -> Result<String, Fail> {
+    let mut text = String::new(alloc);
+    put_times(&mut text, "union(user('a'), ", users)?;
+    put_times(&mut text, "union(nobody, ", unions.saturating_sub(users))?;
+    text.push_str("nobody")?;
+    put_times(&mut text, ")", unions)?;
+    Ok(text)
+}
+
+fn put_times(text: &mut String, piece: &str, times: usize) -> Result<(), Fail> {
+    for _ in 0..times {
+        text.push_str(piece)?;
+    }
+    Ok(())
+}
+
+fn refusal_of_unions(
+    alloc: Global,
+    unions: usize,
+    users: usize,
+) -> Result<Option<ExprRefusal>, Fail> {
+    let text = nested(alloc, unions, users)?;
+    Ok(read(alloc, text.as_str()).err())
+}
+
 #[test]
-fn texts_of_128_tokens_are_read(rt: HostRuntime) -> Result<(), Fail> {
+fn assignments_of_128_tokens_are_read(rt: HostRuntime) -> Result<(), Fail> {
     // 5 * 23 + 1 + 3 * 4 tokens.
-    let longest = nested(rt.alloc(), 23, 4)?;
-    assert!(rt; read(rt.alloc(), longest.as_str()).is_ok());
+    assert_eq!(rt; refusal_of_unions(rt.alloc(), 23, 4)?, None);
     // 5 * 25 + 1 + 3 * 1 tokens.
-    let too_long = nested(rt.alloc(), 25, 1)?;
     assert_eq!(rt;
-        read(rt.alloc(), too_long.as_str()).err(),
+        refusal_of_unions(rt.alloc(), 25, 1)?,
         Some(ExprRefusal::TooLong)
     );
-    let signs = repeated(rt.alloc(), "(", 128)?;
-    assert_eq!(rt;
-        read(rt.alloc(), signs.as_str()).err(),
-        Some(ExprRefusal::Shape(0))
-    );
-    let signs = repeated(rt.alloc(), "(", 129)?;
-    assert_eq!(rt;
-        read(rt.alloc(), signs.as_str()).err(),
-        Some(ExprRefusal::TooLong)
-    );
-    // Where no token begins is told first.
-    let signs = format!(in rt.alloc(); "{}#", signs.as_str())?;
-    assert_eq!(rt;
-        read(rt.alloc(), signs.as_str()).err(),
-        Some(ExprRefusal::Token(129))
-    );
+    Ok(())
+}
+
+// Why so many brackets before some text are refused.
+fn refusal_of_brackets(
+    alloc: Global,
+    count: usize,
+    behind: &str,
+) -> Result<Option<ExprRefusal>, Fail> {
+    let mut text = "(".repeat(alloc, count)?;
+    text.push_str(behind)?;
+    Ok(read(alloc, text.as_str()).err())
+}
+
+#[test]
+fn too_many_tokens_are_told_before_their_shape(rt: HostRuntime) -> Result<(), Fail> {
+    let table = [
+        (128, "", ExprRefusal::Shape(0)),
+        (129, "", ExprRefusal::TooLong),
+        // Where no token begins is told first.
+        (129, "#", ExprRefusal::Token(129)),
+    ];
+    for (count, behind, refusal) in table {
+        assert_eq!(rt;
+            refusal_of_brackets(rt.alloc(), count, behind)?,
+            Some(refusal),
+            "{count} brackets and {behind}"
+        );
+    }
     Ok(())
 }
 
@@ -357,26 +414,37 @@ union(user('anna'), group('clerks'))
 except(everybody, user('anna'))
 intersect(nobody, union(initiator, except(nobody, group('clerks'))))";
 
+fn is_individual(alloc: Global, text: &str) -> Result<bool, Fail> {
+    let assign = read(alloc, text)?;
+    Ok(assign.individual())
+}
+
 #[test]
 fn groups_and_everybody_are_not_individual(rt: HostRuntime) -> Result<(), Fail> {
-    for (lines, individual) in [(INDIVIDUAL, true), (COLLECTIVE, false)] {
-        for text in lines.lines() {
-            assert_eq!(rt; read(rt.alloc(), text)?.individual(), individual, "{text}");
-        }
+    for text in INDIVIDUAL.lines() {
+        assert!(rt; is_individual(rt.alloc(), text)?, "{text}");
+    }
+    for text in COLLECTIVE.lines() {
+        assert!(rt; !is_individual(rt.alloc(), text)?, "{text}");
     }
     Ok(())
+}
+
+fn shown_copy(alloc: Global, assign: &Assign) -> Result<String, Fail> {
+    let copy = assign.copy(alloc)?;
+    shown(alloc, &copy)
+}
+
+fn copied_assignment(alloc: Global, text: &str) -> Result<String, Fail> {
+    let assign = read(alloc, text)?;
+    shown_copy(alloc, &assign)
 }
 
 #[test]
 fn assignments_are_copied(rt: HostRuntime) -> Result<(), Fail> {
     let text = "union(intersect(initiator, everybody), except(user('anna'), group('clerks')))";
-    let assign = read(rt.alloc(), text)?;
-    let copy = assign.copy(rt.alloc())?;
-    let (shown, copied) = (
-        format!(in rt.alloc(); "{assign:?}")?,
-        format!(in rt.alloc(); "{copy:?}")?,
-    );
-    assert_eq!(rt; copied.as_str(), shown.as_str());
+    let copied = copied_assignment(rt.alloc(), text)?;
+    assert!(rt; is_answered(rt.alloc(), true, text, copied.as_str())?);
     assert!(rt;
         copied
             .as_str()
@@ -385,17 +453,22 @@ fn assignments_are_copied(rt: HostRuntime) -> Result<(), Fail> {
     Ok(())
 }
 
+fn shown_copy_of_expression(alloc: Global, expr: &Expr) -> Result<String, Fail> {
+    let copy = expr.copy(alloc)?;
+    shown(alloc, &copy)
+}
+
+fn copied_expression(alloc: Global, text: &str) -> Result<String, Fail> {
+    let expr = read_expr(alloc, text)?;
+    shown_copy_of_expression(alloc, &expr)
+}
+
 #[test]
 fn expressions_are_copied(rt: HostRuntime) -> Result<(), Fail> {
     let text =
         "if not in.a == in.b or set(in.a) then -(made() + countText('p', 't')) else countTrue('p') * priority";
-    let expr = read_expr(rt.alloc(), text)?;
-    let copy = expr.copy(rt.alloc())?;
-    let (shown, copied) = (
-        format!(in rt.alloc(); "{expr:?}")?,
-        format!(in rt.alloc(); "{copy:?}")?,
-    );
-    assert_eq!(rt; copied.as_str(), shown.as_str());
+    let copied = copied_expression(rt.alloc(), text)?;
+    assert!(rt; is_answered(rt.alloc(), false, text, copied.as_str())?);
     Ok(())
 }
 

@@ -1,3 +1,6 @@
+ghost use Rattle.std.specs.Prelude.{◌≡◌, IfOk, IsSome};
+ghost use Rattle.ht_expr.specs.KindTable.{kind_of};
+
 use crate::{Assign, Env, Expr, ExprRefusal, Kinds, Side, Subs};
 use ht_base::{Kind, Memory, Moment, Name, Person, State, Txt, Value, Values};
 use std::alloc::Global;
@@ -38,19 +41,33 @@ made() + finished() + done() => Int
 countText('v', 'yes') + countTrue('v') => Int
 not (in.m < out.m) or in.p == initiator => Truth";
 
+// In a line a text stands before its kind.
+fn has_kind(alloc: Global, kinds: &Kinds, line: &str) -> Result<bool, Fail> {
+    let (text, kind) = line.split_once(" => ").ok_or("a text and its kind")?;
+    let expr = Expr::read(alloc, text, kinds)?;
+    is_shown(alloc, expr.kind(), kind)
+}
+
+fn is_shown(alloc: Global, kind: Kind, want: &str) -> Result<bool, Fail> {
+    let shown = format!(in alloc; "{kind:?}")?;
+    Ok(shown.as_str() == want)
+}
+
 #[test]
 fn kinds_are_told(rt: HostRuntime) -> Result<(), Fail> {
+    let kinds = declared(rt.alloc())?.copy(rt.alloc())?;
+    for line in KINDS.lines() {
+        assert!(rt; has_kind(rt.alloc(), &kinds, line)?, "{line}");
+    }
+    Ok(())
+}
+
+#[test]
+fn parts_are_declared_on_a_side(rt: HostRuntime) -> Result<(), Fail> {
     let kinds = declared(rt.alloc())?;
     assert_eq!(rt; kinds.as_slice().len(), 8);
     assert!(rt; kinds.kind(Side::Output, b"i") == Some(Kind::Int));
     assert!(rt; kinds.kind(Side::Output, b"t").is_none());
-    let copy = kinds.copy(rt.alloc())?;
-    for line in KINDS.lines() {
-        let (text, kind) = line.split_once(" => ").ok_or("a text and its kind")?;
-        let expr = Expr::read(rt.alloc(), text, &copy)?;
-        let told = format!(in rt.alloc(); "{:?}", expr.kind())?;
-        assert_eq!(rt; told.as_str(), kind, "{text}");
-    }
     Ok(())
 }
 
@@ -91,14 +108,30 @@ fn wrong_kinds_are_refused(rt: HostRuntime) -> Result<(), Fail> {
         let refusal = Expr::read(rt.alloc(), text, &kinds).err();
         assert_eq!(rt; refusal, Some(ExprRefusal::BadKind), "{text}");
     }
-    // Shape is told first.
+    Ok(())
+}
+
+#[test]
+fn a_wrong_shape_is_told_before_a_wrong_kind(rt: HostRuntime) -> Result<(), Fail> {
+    let kinds = declared(rt.alloc())?;
     let refusal = Expr::read(rt.alloc(), "1 == 'a' == 2", &kinds).err();
     assert_eq!(rt; refusal, Some(ExprRefusal::Shape(9)));
+    Ok(())
+}
+
+// In a line an assignment stands before why it is refused, if it is.
+fn is_refused(alloc: Global, kinds: &Kinds, line: &str) -> Result<bool, Fail> {
+    let (text, expected) = line.split_once(" => ").ok_or("a text and its refusal")?;
+    let refusal = Assign::read(alloc, text, kinds).err();
+    let refusal = format!(in alloc; "{refusal:?}")?;
+    Ok(refusal.as_str() == expected)
+}
+
+#[test]
+fn assignments_of_wrong_kinds_are_refused(rt: HostRuntime) -> Result<(), Fail> {
+    let kinds = declared(rt.alloc())?;
     for line in ASSIGNMENTS.lines() {
-        let (text, expected) = line.split_once(" => ").ok_or("a text and its refusal")?;
-        let refusal = Assign::read(rt.alloc(), text, &kinds).err();
-        let refusal = format!(in rt.alloc(); "{refusal:?}")?;
-        assert_eq!(rt; refusal.as_str(), expected, "{text}");
+        assert!(rt; is_refused(rt.alloc(), &kinds, line)?, "{line}");
     }
     Ok(())
 }
@@ -114,8 +147,10 @@ fn bare(alloc: Global) -> Env {
 }
 
 // The value, where the expression is of this kind and its parts are there.
-fn int(alloc: Global, text: &str, kinds: &Kinds, env: &Env) -> Result<i64, Fail> {
-    let expr = Expr::read(alloc, text, kinds)?;
+fn number_of(expr: &Expr, kinds: &Kinds, env: &Env) -> Result<i64, Fail>
+    requires kinds { expr.now.kinds ≡ kinds.now }
+    requires kind { IsSome (kind_of expr.now.kinds expr.now.tree) }
+{
     if !env.has_parts(kinds) {
         return Err("another kind".into());
     }
@@ -125,8 +160,16 @@ fn int(alloc: Global, text: &str, kinds: &Kinds, env: &Env) -> Result<i64, Fail>
     }
 }
 
-fn truth(alloc: Global, text: &str, kinds: &Kinds, env: &Env) -> Result<bool, Fail> {
-    let expr = Expr::read(alloc, text, kinds)?.copy(alloc)?;
+fn int(alloc: Global, text: &str, kinds: &Kinds, env: &Env) -> Result<i64, Fail> {
+    let expr = Expr::read(alloc, text, kinds)?;
+    number_of(&expr, kinds, env)
+}
+
+// The same of a truth.
+fn truth_of(expr: &Expr, kinds: &Kinds, env: &Env) -> Result<bool, Fail>
+    requires kinds { expr.now.kinds ≡ kinds.now }
+    requires kind { IsSome (kind_of expr.now.kinds expr.now.tree) }
+{
     if !env.has_parts(kinds) {
         return Err("another kind".into());
     }
@@ -136,17 +179,33 @@ fn truth(alloc: Global, text: &str, kinds: &Kinds, env: &Env) -> Result<bool, Fa
     }
 }
 
+fn copied(alloc: Global, text: &str, kinds: &Kinds) -> Result<Expr, Fail>
+    ensures kinds { IfOk result (λ e. e.kinds ≡ kinds.now) }
+    ensures kind { IfOk result (λ e. IsSome (kind_of e.kinds e.tree)) }
+{
+    let expr = Expr::read(alloc, text, kinds)?;
+    Ok(expr.copy(alloc)?)
+}
+
+fn truth(alloc: Global, text: &str, kinds: &Kinds, env: &Env) -> Result<bool, Fail> {
+    let expr = copied(alloc, text, kinds)?;
+    truth_of(&expr, kinds, env)
+}
+
 const LEAST: &str = "(-9223372036854775807 - 1)";
 
-// In each line a text, in which `LEAST` stands for that, stands before its number.
+// In a line a text, in which `LEAST` stands for that, stands before its number.
+fn has_number(alloc: Global, kinds: &Kinds, env: &Env, line: &str) -> Result<bool, Fail> {
+    let (text, expected) = line.split_once(" => ").ok_or("a text and its number")?;
+    let text = text.replace(alloc, "LEAST", LEAST)?;
+    let number = int(alloc, text.as_str(), kinds, env)?;
+    Ok(number == expected.parse::<i64>()?)
+}
+
 fn have_numbers(rt: &impl Abort, alloc: Global, env: &Env, lines: &str) -> Result<(), Fail> {
     let kinds = declared(alloc)?;
     for line in lines.lines() {
-        let (text, expected) = line.split_once(" => ").ok_or("a text and its number")?;
-        let text = text.replace(alloc, "LEAST", LEAST)?;
-        let number = int(alloc, text.as_str(), &kinds, env)?;
-        let number = format!(in alloc; "{number}")?;
-        assert_eq!(rt; number.as_str(), expected, "{text}");
+        assert!(rt; has_number(alloc, &kinds, env, line)?, "{line}");
     }
     Ok(())
 }
@@ -183,31 +242,42 @@ fn one(alloc: Global, part: &str, value: Option<Value>) -> Result<Values, Fail> 
     Ok(values)
 }
 
-// In each line a text stands before whether it is true without values of parts, and with these of
-// the part of this name.
-fn are(
-    rt: &impl Abort,
+// An environment with these values of the part of this name.
+fn with(
     alloc: Global,
     part: &str,
     input: Option<Value>,
     output: Option<Value>,
-    lines: &str,
-) -> Result<(), Fail> {
+) -> Result<Env, Fail> {
+    let mut env = bare(alloc);
+    env.input = one(alloc, part, input)?;
+    env.output = one(alloc, part, output)?;
+    Ok(env)
+}
+
+fn in_words(without: bool, with: bool) -> &'static str {
+    match (without, with) {
+        (false, false) => "false false",
+        (false, true) => "false true",
+        (true, false) => "true false",
+        (true, true) => "true true",
+    }
+}
+
+// In a line a text stands before whether it is true in the one environment, and in the other.
+fn is_so(alloc: Global, kinds: &Kinds, unset: &Env, set: &Env, line: &str) -> Result<bool, Fail> {
+    let (text, expected) = line.split_once(" => ").ok_or("a text and two truths")?;
+    let without = truth(alloc, text, kinds, unset)?;
+    let with = truth(alloc, text, kinds, set)?;
+    Ok(expected == in_words(without, with))
+}
+
+// In each line a text stands before whether it is true without values of parts, and with these.
+fn are(rt: &impl Abort, alloc: Global, set: &Env, lines: &str) -> Result<(), Fail> {
     let kinds = declared(alloc)?;
     let unset = bare(alloc);
-    let set = Env {
-        input: one(alloc, part, input)?,
-        output: one(alloc, part, output)?,
-        priority: 4,
-        initiator: Person(7),
-        subs: Subs::new(alloc),
-    };
     for line in lines.lines() {
-        let (text, expected) = line.split_once(" => ").ok_or("a text and two truths")?;
-        let without = truth(alloc, text, &kinds, &unset)?;
-        let with = truth(alloc, text, &kinds, &set)?;
-        let truths = format!(in alloc; "{without} {with}")?;
-        assert_eq!(rt; truths.as_str(), expected, "{text}");
+        assert!(rt; is_so(alloc, &kinds, &unset, set, line)?, "{line}");
     }
     Ok(())
 }
@@ -226,17 +296,15 @@ in.i == 0 and out.i == 0 => true false
 in.i == -5 => false true";
 
 #[test]
-fn texts_and_numbers_have_values(rt: HostRuntime) -> Result<(), Fail> {
-    let x = text(rt.alloc(), "x")?;
-    are(&rt, rt.alloc(), "t", x, None, OF_A_TEXT)?;
-    are(
-        &rt,
-        rt.alloc(),
-        "i",
-        Some(Value::Int(-5)),
-        None,
-        OF_A_NUMBER,
-    )
+fn texts_have_values(rt: HostRuntime) -> Result<(), Fail> {
+    let env = with(rt.alloc(), "t", text(rt.alloc(), "x")?, None)?;
+    are(&rt, rt.alloc(), &env, OF_A_TEXT)
+}
+
+#[test]
+fn numbers_have_values(rt: HostRuntime) -> Result<(), Fail> {
+    let env = with(rt.alloc(), "i", Some(Value::Int(-5)), None)?;
+    are(&rt, rt.alloc(), &env, OF_A_NUMBER)
 }
 
 const OF_A_TRUTH: &str = "\
@@ -249,14 +317,8 @@ if in.b then 1 < 2 else false => false true";
 
 #[test]
 fn truths_have_values(rt: HostRuntime) -> Result<(), Fail> {
-    are(
-        &rt,
-        rt.alloc(),
-        "b",
-        Some(Value::Truth(true)),
-        None,
-        OF_A_TRUTH,
-    )
+    let env = with(rt.alloc(), "b", Some(Value::Truth(true)), None)?;
+    are(&rt, rt.alloc(), &env, OF_A_TRUTH)
 }
 
 const OF_PERSONS: &str = "\
@@ -270,7 +332,8 @@ initiator == initiator => true true";
 #[test]
 fn persons_have_values(rt: HostRuntime) -> Result<(), Fail> {
     let (input, output) = (Value::Person(Person(7)), Value::Person(Person(8)));
-    are(&rt, rt.alloc(), "p", Some(input), Some(output), OF_PERSONS)
+    let env = with(rt.alloc(), "p", Some(input), Some(output))?;
+    are(&rt, rt.alloc(), &env, OF_PERSONS)
 }
 
 const OF_INSTANTS: &str = "\
@@ -284,18 +347,34 @@ in.m > out.m => false false";
 #[test]
 fn instants_have_values(rt: HostRuntime) -> Result<(), Fail> {
     let (input, output) = (Value::Instant(Moment(5)), Value::Instant(Moment(6)));
-    are(&rt, rt.alloc(), "m", Some(input), Some(output), OF_INSTANTS)
+    let env = with(rt.alloc(), "m", Some(input), Some(output))?;
+    are(&rt, rt.alloc(), &env, OF_INSTANTS)
+}
+
+// An environment in which the part `m` of the output is an instant.
+fn timed(alloc: Global) -> Result<Env, Fail> {
+    with(alloc, "m", None, Some(Value::Instant(Moment(6))))
 }
 
 #[test]
 fn an_environment_tells_its_parts(rt: HostRuntime) -> Result<(), Fail> {
-    let mut env = bare(rt.alloc());
-    env.output = one(rt.alloc(), "m", Some(Value::Instant(Moment(6))))?;
+    let env = timed(rt.alloc())?;
     assert!(rt; env.given(Side::Output, "m").is_some());
     assert!(rt; env.given(Side::Input, "m").is_none());
+    Ok(())
+}
+
+fn timed_has_parts(alloc: Global, kinds: &Kinds) -> Result<bool, Fail> {
+    let env = timed(alloc)?;
+    Ok(env.has_parts(kinds))
+}
+
+#[test]
+fn parts_are_of_their_kinds(rt: HostRuntime) -> Result<(), Fail> {
     let mut wrong = Kinds::new(rt.alloc());
     wrong.push(Side::Output, name("m")?, Kind::Text)?;
-    assert!(rt; !env.has_parts(&wrong) && bare(rt.alloc()).has_parts(&wrong));
+    assert!(rt; !timed_has_parts(rt.alloc(), &wrong)?);
+    assert!(rt; bare(rt.alloc()).has_parts(&wrong));
     Ok(())
 }
 
@@ -313,25 +392,30 @@ countText('w', 'yes') => 0
 countTrue('v') => 1
 countTrue('w') => 0";
 
+// Two sub tasks of each state.
+fn push_all(alloc: Global, subs: &mut Subs) -> Result<(), Fail> {
+    for state in State::ALL {
+        subs.push(state, one(alloc, "v", text(alloc, "yes")?)?)?;
+        subs.push(state, one(alloc, "v", Some(Value::Truth(true)))?)?;
+    }
+    Ok(())
+}
+
+fn push_completed(alloc: Global, subs: &mut Subs) -> Result<(), Fail> {
+    subs.push(State::Completed, one(alloc, "v", text(alloc, "no")?)?)?;
+    subs.push(
+        State::Completed,
+        one(alloc, "v", Some(Value::Truth(false)))?,
+    )?;
+    subs.push(State::Completed, one(alloc, "v", None)?)?;
+    Ok(())
+}
+
 #[test]
 fn sub_tasks_are_counted(rt: HostRuntime) -> Result<(), Fail> {
     let mut env = bare(rt.alloc());
-    for state in State::ALL {
-        env.subs
-            .push(state, one(rt.alloc(), "v", text(rt.alloc(), "yes")?)?)?;
-        env.subs
-            .push(state, one(rt.alloc(), "v", Some(Value::Truth(true)))?)?;
-    }
-    env.subs.push(
-        State::Completed,
-        one(rt.alloc(), "v", text(rt.alloc(), "no")?)?,
-    )?;
-    env.subs.push(
-        State::Completed,
-        one(rt.alloc(), "v", Some(Value::Truth(false)))?,
-    )?;
-    env.subs
-        .push(State::Completed, one(rt.alloc(), "v", None)?)?;
+    push_all(rt.alloc(), &mut env.subs)?;
+    push_completed(rt.alloc(), &mut env.subs)?;
     assert_eq!(rt; env.subs.as_slice().len(), 27);
     have_numbers(&rt, rt.alloc(), &env, COUNTS)
 }

@@ -7,6 +7,8 @@ mod choices;
 mod contradictions;
 mod deadlines;
 mod declaring;
+#[cfg(test)]
+mod document_tests;
 mod entries;
 mod expressions;
 mod finishes;

@@ -12,6 +12,12 @@ fn text_of(alloc: Global, keys: &str) -> Result<String, AllocError> {
     )
 }
 
+/// Why the model with these keys is refused, if it is.
+fn refusal_of(alloc: Global, keys: &str) -> Result<Option<ModelsRefusal>, Fail> {
+    let text = text_of(alloc, keys)?;
+    Ok(Models::read(alloc, text.as_bytes()).err())
+}
+
 /// In each line, the model with the keys on the left is refused so, and that with the keys on the
 /// right is read.
 fn are_refused(
@@ -22,14 +28,12 @@ fn are_refused(
 ) -> Result<(), Fail> {
     for line in lines.lines() {
         let (refused, read) = line.split_once('|').ok_or("two models")?;
-        let text = text_of(alloc, refused.trim())?;
         assert_eq!(rt;
-            Models::read(alloc, text.as_bytes()).err(),
+            refusal_of(alloc, refused.trim())?,
             Some(refusal),
             "{refused}"
         );
-        let text = text_of(alloc, read.trim())?;
-        assert_eq!(rt; Models::read(alloc, text.as_bytes()).err(), None, "{read}");
+        assert_eq!(rt; refusal_of(alloc, read.trim())?, None, "{read}");
     }
     Ok(())
 }
@@ -202,39 +206,60 @@ fn tables(alloc: Global, count: u32, keys: &str) -> Result<String, AllocError> {
     Ok(text)
 }
 
+/// Why a model is refused, if it is, that has under a key so many tables of these keys.
+fn refusal_of_tables(
+    alloc: Global,
+    key: &str,
+    count: u32,
+    keys: &str,
+) -> Result<Option<ModelsRefusal>, Fail> {
+    let list = tables(alloc, count, keys)?;
+    let keys = format!(in alloc; ", {key} = [{list}]")?;
+    refusal_of(alloc, keys.as_str())
+}
+
+/// A key, how many tables it may hold at most, and keys of theirs.
+const MOST: [(&str, u32, &str); 5] = [
+    ("input", 8, "kind = 'text'"),
+    ("output", 8, "kind = 'text'"),
+    ("sub", 8, "model = 'a'"),
+    ("deadline", 2, "kind = 'start', for = 'PT1S'"),
+    ("deadline", 2, "kind = 'completion', for = 'PT1S'"),
+];
+
 #[test]
 fn a_model_holds_so_much(rt: HostRuntime) -> Result<(), Fail> {
-    let alloc = rt.alloc();
-    let table = [
-        ("input", 8, "kind = 'text'"),
-        ("output", 8, "kind = 'text'"),
-        ("sub", 8, "model = 'a'"),
-        ("deadline", 2, "kind = 'start', for = 'PT1S'"),
-        ("deadline", 2, "kind = 'completion', for = 'PT1S'"),
-    ];
-    for (key, most, keys) in table {
-        for (count, refusal) in [(most, None), (most + 1, Some(ModelsRefusal::Limit(1)))] {
-            let list = tables(alloc, count, keys)?;
-            let keys = format!(in alloc; ", {key} = [{list}]")?;
-            let text = text_of(alloc, keys.as_str())?;
-            assert_eq!(rt;
-                Models::read(alloc, text.as_bytes()).err(),
-                refusal,
-                "{text}"
-            );
-        }
+    for (key, most, keys) in &MOST {
+        let read = refusal_of_tables(rt.alloc(), key, *most, keys)?;
+        assert_eq!(rt; read, None, "{key} {keys}");
+        let refused = refusal_of_tables(rt.alloc(), key, most.saturating_add(1), keys)?;
+        assert_eq!(rt; refused, Some(ModelsRefusal::Limit(1)), "{key} {keys}");
     }
-    for (count, refusal) in [(4, None), (5, Some(ModelsRefusal::Limit(1)))] {
-        let list = tables(alloc, count, "notify = 'nobody'")?;
-        let keys = format!(in alloc;
-            ", deadline = [{{name = 'a', kind = 'start', for = 'PT1S', escalation = [{list}]}}]"
-        )?;
-        let text = text_of(alloc, keys.as_str())?;
-        assert_eq!(rt;
-            Models::read(alloc, text.as_bytes()).err(),
-            refusal,
-            "{text}"
-        );
+    Ok(())
+}
+
+/// Why a model is refused, if it is, that has a deadline with so many escalations.
+fn refusal_of_escalations(alloc: Global, count: u32) -> Result<Option<ModelsRefusal>, Fail> {
+    let list = tables(alloc, count, "notify = 'nobody'")?;
+    let keys = format!(in alloc;
+        ", deadline = [{{name = 'a', kind = 'start', for = 'PT1S', escalation = [{list}]}}]"
+    )?;
+    refusal_of(alloc, keys.as_str())
+}
+
+#[test]
+fn a_deadline_has_so_many_escalations(rt: HostRuntime) -> Result<(), Fail> {
+    assert_eq!(rt; refusal_of_escalations(rt.alloc(), 4)?, None);
+    assert_eq!(rt;
+        refusal_of_escalations(rt.alloc(), 5)?,
+        Some(ModelsRefusal::Limit(1))
+    );
+    Ok(())
+}
+
+fn put_subs(text: &mut String, count: u32, next: usize) -> Result<(), AllocError> {
+    for number in 0..count {
+        write!(text, "{{name = 'x{number}', model = 'm{next}'}}, ")?;
     }
     Ok(())
 }
@@ -243,14 +268,21 @@ fn a_model_holds_so_much(rt: HostRuntime) -> Result<(), Fail> {
 fn chain(alloc: Global, subs: &[u32]) -> Result<String, AllocError> {
     let mut text = String::new(alloc);
     for (place, count) in subs.iter().enumerate() {
-        let next = place + 1;
         write!(text, "[[model]]\nname = 'm{place}'\nsub = [")?;
-        for number in 0..*count {
-            write!(text, "{{name = 'x{number}', model = 'm{next}'}}, ")?;
-        }
-        write!(text, "]\n")?;
+        put_subs(&mut text, *count, place + 1)?;
+        text.push_str("]\n")?;
     }
     Ok(text)
+}
+
+fn read_chain(alloc: Global, subs: &[u32]) -> Result<Models, Fail> {
+    let text = chain(alloc, subs)?;
+    Ok(Models::read(alloc, text.as_bytes())?)
+}
+
+fn refusal_of_chain(alloc: Global, subs: &[u32]) -> Result<Option<ModelsRefusal>, Fail> {
+    let text = chain(alloc, subs)?;
+    Ok(Models::read(alloc, text.as_bytes()).err())
 }
 
 /// The tasks of the tree of the model with this name.
@@ -261,24 +293,24 @@ fn size(models: &Models, name: &str) -> Result<u32, Fail> {
 }
 
 #[test]
-fn a_tree_has_so_many_levels_and_tasks(rt: HostRuntime) -> Result<(), Fail> {
-    let alloc = rt.alloc();
-    let five = chain(alloc, &[1, 1, 1, 1, 0])?;
-    let models = Models::read(alloc, five.as_bytes())?;
+fn a_tree_has_so_many_levels(rt: HostRuntime) -> Result<(), Fail> {
+    let models = read_chain(rt.alloc(), &[1, 1, 1, 1, 0])?;
     assert_eq!(rt; size(&models, "m0")?, 5);
-    let six = chain(alloc, &[1, 1, 1, 1, 1, 0])?;
     assert_eq!(rt;
-        Models::read(alloc, six.as_bytes()).err(),
+        refusal_of_chain(rt.alloc(), &[1, 1, 1, 1, 1, 0])?,
         Some(ModelsRefusal::Limit(0))
     );
-    let most = chain(alloc, &[3, 4, 4, 4, 0])?;
-    let models = Models::read(alloc, most.as_bytes())?;
+    Ok(())
+}
+
+#[test]
+fn a_tree_has_so_many_tasks(rt: HostRuntime) -> Result<(), Fail> {
+    let models = read_chain(rt.alloc(), &[3, 4, 4, 4, 0])?;
     assert_eq!(rt; size(&models, "m0")?, 256);
     assert_eq!(rt; size(&models, "m1")?, 85);
     assert_eq!(rt; size(&models, "m4")?, 1);
-    let more = chain(alloc, &[4, 3, 4, 4, 0])?;
     assert_eq!(rt;
-        Models::read(alloc, more.as_bytes()).err(),
+        refusal_of_chain(rt.alloc(), &[4, 3, 4, 4, 0])?,
         Some(ModelsRefusal::Limit(0))
     );
     Ok(())

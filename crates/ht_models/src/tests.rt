@@ -1,11 +1,10 @@
 use crate::{
-    Composition, DeadlineKind, Delegation, Models, ModelsRefusal, Trigger,
+    Composition, Deadline, DeadlineKind, Delegation, Model, Models, ModelsRefusal, Trigger,
     a_models_text_has_one_answer, built_in_text_reads, instant,
 };
 use ht_base::{How, Kind, Moment, Name};
 use ht_expr::Assign;
 use ht_samples::MODELS;
-use std::alloc::{AllocError, Global};
 use std::process::Abort;
 use std::test::Fail;
 
@@ -34,13 +33,7 @@ fn is_group(assignment: &Assign, name: &str) -> bool {
     }
 }
 
-#[test]
-fn one_model_is_read(rt: HostRuntime) -> Result<(), Fail> {
-    let models = Models::read(rt.alloc(), SHUT)?;
-    assert_eq!(rt; models.count(), 1);
-    assert_eq!(rt; models.find(name("shut")?), Some(0));
-    assert_eq!(rt; models.find(name("shu")?), None);
-    let shut = models.model(0);
+fn says_who(rt: &impl Abort, shut: &Model) -> Result<(), Fail> {
     assert!(rt; shut.name == name("shut")?);
     assert!(rt; is_user(&shut.potential_owners, "anna"));
     assert!(rt; is_user(&shut.excluded_owners, "anna"));
@@ -50,6 +43,10 @@ fn one_model_is_read(rt: HostRuntime) -> Result<(), Fail> {
             .is_some_and(|a| is_user(a, "cora"))
     );
     assert!(rt; shut.stakeholders.is_none());
+    Ok(())
+}
+
+fn says_nothing_else(rt: &impl Abort, shut: &Model) {
     assert!(rt; shut.priority.is_none());
     assert!(rt; !shut.skipable);
     assert!(rt; shut.owner_required);
@@ -58,6 +55,22 @@ fn one_model_is_read(rt: HostRuntime) -> Result<(), Fail> {
     assert_eq!(rt; shut.instantiation, Trigger::Manual);
     assert_eq!(rt; shut.completion, Trigger::Manual);
     assert_eq!(rt; shut.size, 1);
+}
+
+#[test]
+fn one_model_is_read(rt: HostRuntime) -> Result<(), Fail> {
+    let models = Models::read(rt.alloc(), SHUT)?;
+    assert_eq!(rt; models.count(), 1);
+    says_who(&rt, models.model(0))?;
+    says_nothing_else(&rt, models.model(0));
+    Ok(())
+}
+
+#[test]
+fn a_model_is_found_by_its_name(rt: HostRuntime) -> Result<(), Fail> {
+    let models = Models::read(rt.alloc(), SHUT)?;
+    assert_eq!(rt; models.find(name("shut")?), Some(0));
+    assert_eq!(rt; models.find(name("shu")?), None);
     Ok(())
 }
 
@@ -94,11 +107,7 @@ when = \"done() > 0\"
 set = [{part = \"sum\", from = \"n\", with = \"sum\"}]
 ";
 
-#[test]
-fn every_key_is_read(rt: HostRuntime) -> Result<(), Fail> {
-    let models = Models::read(rt.alloc(), WHOLE.as_bytes())?;
-    let place = models.find(name("whole")?).ok_or("a model")?;
-    let whole = models.model(place);
+fn has_choices(rt: &impl Abort, whole: &Model) {
     assert!(rt; whole.priority.is_some());
     assert!(rt; whole.skipable);
     assert_eq!(rt; whole.delegation, Delegation::Other);
@@ -106,15 +115,26 @@ fn every_key_is_read(rt: HostRuntime) -> Result<(), Fail> {
     assert_eq!(rt; whole.composition, Composition::Parallel);
     assert_eq!(rt; whole.instantiation, Trigger::Automatic);
     assert_eq!(rt; whole.completion, Trigger::Automatic);
+    assert_eq!(rt; whole.size, 2);
+}
+
+fn has_parts(rt: &impl Abort, whole: &Model) -> Result<(), Fail> {
     let urgent = whole.input.first().ok_or("a part")?;
     assert!(rt; urgent.name == name("urgent")? && urgent.optional);
     assert_eq!(rt; urgent.kind, Kind::Truth);
     assert_eq!(rt; whole.output.first().ok_or("a part")?.kind, Kind::Int);
+    Ok(())
+}
+
+fn has_a_sub_entry(rt: &impl Abort, whole: &Model) -> Result<(), Fail> {
     let sub = whole.subs.first().ok_or("a sub entry")?;
     assert!(rt; sub.name == name("x")? && sub.model == name("child")?);
     let (theirs, ours) = sub.input.first().ok_or("a pair")?;
     assert!(rt; theirs.0 == name("about")? && ours.0 == name("topic")?);
-    assert_eq!(rt; whole.size, 2);
+    Ok(())
+}
+
+fn has_a_finish(rt: &impl Abort, whole: &Model) -> Result<(), Fail> {
     let finish = whole.finishes.first().ok_or("a finish")?;
     assert!(rt; finish.when.is_some());
     let setting = finish.settings.first().ok_or("a setting")?;
@@ -123,12 +143,23 @@ fn every_key_is_read(rt: HostRuntime) -> Result<(), Fail> {
     Ok(())
 }
 
-#[test]
-fn deadlines_are_read(rt: HostRuntime) -> Result<(), Fail> {
-    let models = Models::read(rt.alloc(), WHOLE.as_bytes())?;
+// The model that the text of every key has behind another.
+fn whole_of(models: &Models) -> Result<&Model, Fail> {
     let place = models.find(name("whole")?).ok_or("a model")?;
-    let deadlines = &models.model(place).deadlines;
-    let one = deadlines.first().ok_or("a deadline")?;
+    Ok(models.model(place))
+}
+
+#[test]
+fn every_key_is_read(rt: HostRuntime) -> Result<(), Fail> {
+    let models = Models::read(rt.alloc(), WHOLE.as_bytes())?;
+    let whole = whole_of(&models)?;
+    has_choices(&rt, whole);
+    has_parts(&rt, whole)?;
+    has_a_sub_entry(&rt, whole)?;
+    has_a_finish(&rt, whole)
+}
+
+fn is_the_first(rt: &impl Abort, one: &Deadline) -> Result<(), Fail> {
     assert!(rt; one.name == name("one")?);
     assert_eq!(rt; one.kind, DeadlineKind::Completion);
     assert_eq!(rt; one.period, Some(10_000));
@@ -138,29 +169,46 @@ fn deadlines_are_read(rt: HostRuntime) -> Result<(), Fail> {
     let moves = one.escalations.get(1).ok_or("an escalation")?;
     assert!(rt; moves.when.is_none() && moves.notify.is_none());
     assert!(rt; moves.reassign.as_ref().is_some_and(|a| is_user(a, "cora")));
-    let two = deadlines.get(1).ok_or("a deadline")?;
+    Ok(())
+}
+
+fn is_the_second(rt: &impl Abort, two: &Deadline) {
     assert_eq!(rt; two.kind, DeadlineKind::Start);
     assert_eq!(rt; two.at, Some(Moment(1_772_442_000_000)));
     assert!(rt; two.part.is_none() && two.escalations.is_empty());
+}
+
+#[test]
+fn deadlines_are_read(rt: HostRuntime) -> Result<(), Fail> {
+    let models = Models::read(rt.alloc(), WHOLE.as_bytes())?;
+    let deadlines = &whole_of(&models)?.deadlines;
+    is_the_first(&rt, deadlines.first().ok_or("a deadline")?)?;
+    is_the_second(&rt, deadlines.get(1).ok_or("a deadline")?);
     Ok(())
+}
+
+// Each model with how many tasks the tree of a task has.
+const SIZES: [(&str, u32); 7] = [
+    ("unit", 1),
+    ("both", 3),
+    ("seq", 3),
+    ("ballot", 1),
+    ("vote", 4),
+    ("timed", 1),
+    ("late", 1),
+];
+
+fn size(models: &Models, model: &str) -> Result<u32, Fail> {
+    let place = models.find(name(model)?).ok_or("a model")?;
+    Ok(models.model(place).size)
 }
 
 #[test]
 fn the_models_of_an_office_are_read(rt: HostRuntime) -> Result<(), Fail> {
     let models = Models::read(rt.alloc(), MODELS.as_bytes())?;
     assert_eq!(rt; models.count(), 10);
-    let table = [
-        ("unit", 1),
-        ("both", 3),
-        ("seq", 3),
-        ("ballot", 1),
-        ("vote", 4),
-        ("timed", 1),
-        ("late", 1),
-    ];
-    for (model, size) in table {
-        let place = models.find(name(model)?).ok_or(model)?;
-        assert_eq!(rt; models.model(place).size, size, "{model}");
+    for (model, want) in &SIZES {
+        assert_eq!(rt; size(&models, model)?, *want, "{model}");
     }
     Ok(())
 }
@@ -177,21 +225,17 @@ fn the_built_in_text_is_read(rt: HostRuntime) -> Result<(), Fail> {
     Ok(())
 }
 
-#[test]
-fn missing_keys_are_nobody_or_none(rt: HostRuntime) -> Result<(), Fail> {
-    let text =
-        b"model = [{name = 'b'}, {stakeholders = \"group('clerks')\", administrators = 'nobody', name = 'a'}]";
-    let models = Models::read(rt.alloc(), text)?;
-    assert_eq!(rt; models.count(), 2);
-    assert_eq!(rt; models.find(name("a")?), Some(1));
-    assert_eq!(rt; models.find(name("b")?), Some(0));
-    let first = models.model(0);
+const TWO: &[u8] =
+    b"model = [{name = 'b'}, {stakeholders = \"group('clerks')\", administrators = 'nobody', name = 'a'}]";
+
+fn is_bare(rt: &impl Abort, first: &Model) {
     assert!(rt; matches!(&first.potential_owners, Assign::Nobody));
     assert!(rt; matches!(&first.excluded_owners, Assign::Nobody));
     assert!(rt; first.administrators.is_none());
     assert!(rt; first.stakeholders.is_none());
-    assert_eq!(rt; models.count(), 2);
-    let second = models.model(1);
+}
+
+fn has_stakeholders(rt: &impl Abort, second: &Model) -> Result<(), Fail> {
     assert!(rt; second.name == name("a")?);
     assert!(rt; matches!(&second.administrators, Some(Assign::Nobody)));
     assert!(rt;
@@ -203,189 +247,19 @@ fn missing_keys_are_nobody_or_none(rt: HostRuntime) -> Result<(), Fail> {
     Ok(())
 }
 
-/// Each text is refused so.
-fn are_refused(rt: &impl Abort, alloc: Global, table: &[(&str, ModelsRefusal)]) {
-    for (text, refusal) in table {
-        let answer = Models::read(alloc, text.as_bytes()).err();
-        assert_eq!(rt; answer, Some(*refusal), "{text}");
-    }
+#[test]
+fn missing_keys_are_nobody_or_none(rt: HostRuntime) -> Result<(), Fail> {
+    let models = Models::read(rt.alloc(), TWO)?;
+    assert_eq!(rt; models.count(), 2);
+    is_bare(&rt, models.model(0));
+    has_stakeholders(&rt, models.model(1))
 }
 
 #[test]
-fn what_is_no_document_is_refused(rt: HostRuntime) {
-    let table = [
-        ("model = ", ModelsRefusal::Syntax),
-        ("[[model]]\nname = 'a'\nname = 'b'\n", ModelsRefusal::Syntax),
-        ("[[model]]\nname = 'a'\n[[model]\n", ModelsRefusal::Syntax),
-    ];
-    are_refused(&rt, rt.alloc(), &table);
-    let no_text = Models::read(rt.alloc(), b"[[model]]\nname = 'a\xe9'\n");
-    assert_eq!(rt; no_text.err(), Some(ModelsRefusal::Syntax));
-}
-
-#[test]
-fn documents_of_another_shape_are_refused(rt: HostRuntime) {
-    let table = [
-        ("", ModelsRefusal::Field(0)),
-        ("model = []", ModelsRefusal::Field(0)),
-        ("model = 1", ModelsRefusal::Field(0)),
-        ("[model]\nname = 'a'\n", ModelsRefusal::Field(0)),
-        ("[[models]]\nname = 'a'\n", ModelsRefusal::Field(0)),
-        (
-            "model = [{name = 'a'}, 1]\nperson = []\n",
-            ModelsRefusal::Field(0),
-        ),
-    ];
-    are_refused(&rt, rt.alloc(), &table);
-}
-
-#[test]
-fn a_model_has_a_name(rt: HostRuntime) {
-    let table = [
-        ("model = [1, {name = 'a'}]", ModelsRefusal::Field(0)),
-        ("model = [{name = 'a'}, {}]", ModelsRefusal::Field(1)),
-        ("model = [{name = 1}]", ModelsRefusal::Field(0)),
-        ("model = [{name = 'a b'}]", ModelsRefusal::Field(0)),
-        (
-            "model = [{name = 'a'}, {name = ''}]",
-            ModelsRefusal::Field(1),
-        ),
-    ];
-    are_refused(&rt, rt.alloc(), &table);
-}
-
-#[test]
-fn repeated_names_are_refused(rt: HostRuntime) {
-    let table = [
-        (
-            "model = [{name = 'a'}, {name = 'a'}]",
-            ModelsRefusal::Twice(1),
-        ),
-        (
-            "model = [{name = 'a'}, {name = 'b'}, {name = 'b'}, {name = 'a'}]",
-            ModelsRefusal::Twice(2),
-        ),
-    ];
-    are_refused(&rt, rt.alloc(), &table);
-}
-
-// Two faults of two numbers at two places, both ways round.
-#[test]
-fn the_first_refusal_is_told(rt: HostRuntime) {
-    let table = [
-        (
-            "model = [{name = 'a'}, {name = 'a'}, {name = 'b', sub = 1}]",
-            ModelsRefusal::Field(2),
-        ),
-        (
-            "model = [{name = 'b', sub = 1}, {name = 'a'}, {name = 'a'}]",
-            ModelsRefusal::Field(0),
-        ),
-        (
-            "model = [{name = 'b', sub = [{name = 'x', model = 'c'}]}, {name = 'a'}, {name = 'a'}]",
-            ModelsRefusal::Twice(2),
-        ),
-        (
-            "model = [{name = 'a'}, {name = 'a'}, {name = 'b', sub = [{name = 'x', model = 'c'}]}]",
-            ModelsRefusal::Twice(1),
-        ),
-        (
-            "model = [{name = 'a', sub = [{name = 'x', model = 'a'}]}, {name = 'b', sub = [{name = 'x', model = 'c'}]}]",
-            ModelsRefusal::UnknownModel(1),
-        ),
-        (
-            "model = [{name = 'b', sub = [{name = 'x', model = 'c'}]}, {name = 'a', sub = [{name = 'x', model = 'a'}]}]",
-            ModelsRefusal::UnknownModel(0),
-        ),
-        (
-            "model = [{name = 'b', stakeholders = '?'}, {name = 'a', sub = [{name = 'x', model = 'a'}]}]",
-            ModelsRefusal::Cycle(1),
-        ),
-        (
-            "model = [{name = 'a', sub = [{name = 'x', model = 'a'}]}, {name = 'b', stakeholders = '?'}]",
-            ModelsRefusal::Cycle(0),
-        ),
-        (
-            "model = [{name = 'a', finish = [{}, {}]}, {name = 'b', stakeholders = '?'}]",
-            ModelsRefusal::Expression(1),
-        ),
-        (
-            "model = [{name = 'b', stakeholders = '?'}, {name = 'a', finish = [{}, {}]}]",
-            ModelsRefusal::Expression(0),
-        ),
-        (
-            "model = [{name = 'a'}, {name = 'b', stakeholders = '?'}, {name = 'c', potentialOwners = '?'}]",
-            ModelsRefusal::Expression(1),
-        ),
-    ];
-    are_refused(&rt, rt.alloc(), &table);
-}
-
-// Three deadlines of one kind, which is one too many.
-const LATE: &str =
-    "deadline = [{name = 'a', kind = 'start', for = 'PT1S'}, {name = 'b', kind = 'start', for = 'PT1S'}, {name = 'c', kind = 'start', for = 'PT1S'}]";
-
-#[test]
-fn a_limit_is_told_between_expressions_and_contradictions(rt: HostRuntime) -> Result<(), Fail> {
-    let table = [
-        (
-            "stakeholders = '?'",
-            ModelsRefusal::Expression(1),
-            ModelsRefusal::Expression(0),
-        ),
-        (
-            "finish = [{}, {}]",
-            ModelsRefusal::Limit(0),
-            ModelsRefusal::Limit(1),
-        ),
-    ];
-    for (keys, behind, in_front) in table {
-        let text = format!(in rt.alloc();
-            "model = [{{name = 'a', {LATE}}}, {{name = 'b', {keys}}}]"
-        )?;
-        are_refused(&rt, rt.alloc(), &[(text.as_str(), behind)]);
-        let text = format!(in rt.alloc();
-            "model = [{{name = 'b', {keys}}}, {{name = 'a', {LATE}}}]"
-        )?;
-        are_refused(&rt, rt.alloc(), &[(text.as_str(), in_front)]);
-    }
-    Ok(())
-}
-
-/// As many models, and behind them some text.
-fn many(alloc: Global, count: u32, behind: &str) -> Result<String, AllocError> {
-    let mut text = String::new(alloc);
-    for number in 0..count {
-        write!(text, "[[model]]\nname = \"m{number}\"\n")?;
-    }
-    text.push_str(behind)?;
-    Ok(text)
-}
-
-#[test]
-fn there_are_at_most_256_models(rt: HostRuntime) -> Result<(), Fail> {
-    let text = many(rt.alloc(), 256, "")?;
-    let models = Models::read(rt.alloc(), text.as_bytes())?;
-    assert_eq!(rt; models.count(), 256);
-    assert_eq!(rt; models.find(name("m255")?), Some(255));
-    assert_eq!(rt; models.find(name("m256")?), None);
-    let table = [
-        ("[[model]]\nname = \"n\"\n", ModelsRefusal::Limit(0)),
-        (
-            "[[model]]\nname = \"n\"\n[[model]]\nname = \"o\"\n",
-            ModelsRefusal::Limit(0),
-        ),
-        ("[[model]]\nname = \"m0\"\n", ModelsRefusal::Twice(256)),
-        (
-            "[[model]]\nname = \"n\"\nadministrators = \"?\"\n",
-            ModelsRefusal::Expression(256),
-        ),
-        ("[[model]]\n", ModelsRefusal::Field(256)),
-    ];
-    for (behind, refusal) in table {
-        let text = many(rt.alloc(), 256, behind)?;
-        are_refused(&rt, rt.alloc(), &[(text.as_str(), refusal)]);
-    }
+fn models_are_found_wherever_they_stand(rt: HostRuntime) -> Result<(), Fail> {
+    let models = Models::read(rt.alloc(), TWO)?;
+    assert_eq!(rt; models.find(name("a")?), Some(1));
+    assert_eq!(rt; models.find(name("b")?), Some(0));
     Ok(())
 }
 

@@ -4,6 +4,7 @@ use crate::{
 };
 use ht_base::{Name, Txt};
 use std::alloc::{AllocError, Global};
+use std::process::Abort;
 use std::test::Fail;
 use toml::{Table, Value};
 
@@ -15,114 +16,136 @@ fn sample(alloc: Global) -> Result<Table, Fail> {
     Ok(document(alloc, text)?)
 }
 
+fn flags_are_required(rt: &impl Abort, alloc: Global, table: &Table) {
+    assert_eq!(rt; required::<bool>(alloc, table, "flag"), Ok(true));
+    assert_eq!(rt; required::<bool>(alloc, table, "flags"), Err(Misfit::Shape));
+    assert_eq!(rt; required::<bool>(alloc, table, "name"), Err(Misfit::Shape));
+}
+
+fn flags_are_optional(rt: &impl Abort, alloc: Global, table: &Table) {
+    assert_eq!(rt; optional::<bool>(alloc, table, "flag"), Ok(Some(true)));
+    assert_eq!(rt; optional::<bool>(alloc, table, "flags"), Ok(None));
+    assert_eq!(rt; optional::<bool>(alloc, table, "name"), Err(Misfit::Shape));
+}
+
+fn flags_are_otherwise_false(rt: &impl Abort, alloc: Global, table: &Table) {
+    assert_eq!(rt; otherwise(alloc, table, "flag", false), Ok(true));
+    assert_eq!(rt; otherwise(alloc, table, "flags", false), Ok(false));
+    assert_eq!(rt; otherwise(alloc, table, "name", false), Err(Misfit::Shape));
+}
+
 #[test]
 fn keys_are_read_by_their_shape(rt: HostRuntime) -> Result<(), Fail> {
     let table = sample(rt.alloc())?;
-    let flags = [
-        ("flag", Ok(true)),
-        ("flags", Err(Misfit::Shape)),
-        ("name", Err(Misfit::Shape)),
-    ];
-    for (key, flag) in flags {
-        assert_eq!(rt; required::<bool>(rt.alloc(), &table, key), flag);
-    }
-    let flags = [
-        ("flag", Ok(Some(true))),
-        ("flags", Ok(None)),
-        ("name", Err(Misfit::Shape)),
-    ];
-    for (key, flag) in flags {
-        assert_eq!(rt; optional::<bool>(rt.alloc(), &table, key), flag);
-    }
-    let flags = [
-        ("flag", Ok(true)),
-        ("flags", Ok(false)),
-        ("name", Err(Misfit::Shape)),
-    ];
-    for (key, flag) in flags {
-        assert_eq!(rt; otherwise(rt.alloc(), &table, key, false), flag);
-    }
-    assert!(rt;
-        required::<Name>(rt.alloc(), &table, "name")? == Name::of(b"anna").ok_or("a name")?
-    );
+    flags_are_required(&rt, rt.alloc(), &table);
+    flags_are_optional(&rt, rt.alloc(), &table);
+    flags_are_otherwise_false(&rt, rt.alloc(), &table);
+    assert!(rt; required::<Name>(rt.alloc(), &table, "name")?.as_bytes() == b"anna".as_slice());
     Ok(())
+}
+
+fn words_are_required(rt: &impl Abort, table: &Table) {
+    assert_eq!(rt; word(table, "size", &SIZES), Ok(2));
+    assert_eq!(rt; word(table, "sizes", &SIZES), Err(Misfit::Shape));
+    assert_eq!(rt; word(table, "name", &SIZES), Err(Misfit::Shape));
+}
+
+fn words_are_optional(rt: &impl Abort, table: &Table) {
+    assert_eq!(rt; word_if_any(table, "size", &SIZES), Ok(Some(2)));
+    assert_eq!(rt; word_if_any(table, "sizes", &SIZES), Ok(None));
+    assert_eq!(rt; word_if_any(table, "flag", &SIZES), Err(Misfit::Shape));
+}
+
+fn words_are_otherwise_small(rt: &impl Abort, table: &Table) {
+    assert_eq!(rt; word_or(table, "size", 1, &SIZES), Ok(2));
+    assert_eq!(rt; word_or(table, "sizes", 1, &SIZES), Ok(1));
+    assert_eq!(rt; word_or(table, "name", 1, &SIZES), Err(Misfit::Shape));
 }
 
 #[test]
 fn words_are_read_by_their_list(rt: HostRuntime) -> Result<(), Fail> {
     let table = sample(rt.alloc())?;
-    let sizes = [
-        ("size", Ok(2)),
-        ("sizes", Err(Misfit::Shape)),
-        ("name", Err(Misfit::Shape)),
-    ];
-    for (key, size) in sizes {
-        assert_eq!(rt; word(&table, key, &SIZES), size);
-    }
-    let sizes = [
-        ("size", Ok(Some(2))),
-        ("sizes", Ok(None)),
-        ("flag", Err(Misfit::Shape)),
-    ];
-    for (key, size) in sizes {
-        assert_eq!(rt; word_if_any(&table, key, &SIZES), size);
-    }
-    let sizes = [
-        ("size", Ok(2)),
-        ("sizes", Ok(1)),
-        ("name", Err(Misfit::Shape)),
-    ];
-    for (key, size) in sizes {
-        assert_eq!(rt; word_or(&table, key, 1, &SIZES), size);
-    }
+    words_are_required(&rt, &table);
+    words_are_optional(&rt, &table);
+    words_are_otherwise_small(&rt, &table);
     let value = table.get("size").ok_or("a value")?;
     assert_eq!(rt; word_of(value, &SIZES), Some(2));
     Ok(())
 }
 
-#[test]
-fn lists_and_tables_are_read(rt: HostRuntime) -> Result<(), Fail> {
-    let table = sample(rt.alloc())?;
-    let texts = list::<Txt>(rt.alloc(), &table, "texts")?;
+fn texts_are_listed(rt: &impl Abort, alloc: Global, table: &Table) -> Result<(), Fail> {
+    let texts = list::<Txt>(alloc, table, "texts")?;
     assert_eq!(rt; texts.len(), 2);
     assert!(rt; texts.first().is_some_and(|text| text.as_str() == "b"));
-    assert_eq!(rt; list::<Txt>(rt.alloc(), &table, "text")?.len(), 0);
-    assert_eq!(rt;
-        list::<bool>(rt.alloc(), &table, "texts").err(),
-        Some(Misfit::Shape)
-    );
-    let pairs = pairs_at::<Name, bool>(rt.alloc(), &table, "table")?;
+    Ok(())
+}
+
+fn no_texts_are_listed(rt: &impl Abort, alloc: Global, table: &Table) -> Result<(), Fail> {
+    let texts = list::<Txt>(alloc, table, "text")?;
+    assert_eq!(rt; texts.len(), 0);
+    Ok(())
+}
+
+#[test]
+fn lists_are_read(rt: HostRuntime) -> Result<(), Fail> {
+    let table = sample(rt.alloc())?;
+    texts_are_listed(&rt, rt.alloc(), &table)?;
+    no_texts_are_listed(&rt, rt.alloc(), &table)?;
+    let misfit = list::<bool>(rt.alloc(), &table, "texts").err();
+    assert_eq!(rt; misfit, Some(Misfit::Shape));
+    Ok(())
+}
+
+fn flags_are_paired(rt: &impl Abort, alloc: Global, table: &Table) -> Result<(), Fail> {
+    let pairs = pairs_at::<Name, bool>(alloc, table, "table")?;
     assert_eq!(rt; pairs.len(), 2);
     let (key, flag) = pairs.first().ok_or("a pair")?;
-    assert!(rt; *key == Name::of(b"a").ok_or("a name")?);
+    assert!(rt; key.as_bytes() == b"a".as_slice());
     assert!(rt; !*flag);
-    assert_eq!(rt;
-        pairs_at::<Name, bool>(rt.alloc(), &table, "tables")?.len(),
-        0
-    );
-    assert_eq!(rt;
-        pairs_at::<Name, bool>(rt.alloc(), &table, "texts").err(),
-        Some(Misfit::Shape)
-    );
     Ok(())
+}
+
+fn no_flags_are_paired(rt: &impl Abort, alloc: Global, table: &Table) -> Result<(), Fail> {
+    let pairs = pairs_at::<Name, bool>(alloc, table, "tables")?;
+    assert_eq!(rt; pairs.len(), 0);
+    Ok(())
+}
+
+#[test]
+fn tables_are_read(rt: HostRuntime) -> Result<(), Fail> {
+    let table = sample(rt.alloc())?;
+    flags_are_paired(&rt, rt.alloc(), &table)?;
+    no_flags_are_paired(&rt, rt.alloc(), &table)?;
+    let misfit = pairs_at::<Name, bool>(rt.alloc(), &table, "texts").err();
+    assert_eq!(rt; misfit, Some(Misfit::Shape));
+    Ok(())
+}
+
+// The values of a list under this key.
+fn values_of<'a>(table: &'a Table, key: &str) -> Result<&'a [Value], Fail> {
+    let value = table.get(key).ok_or("a value")?;
+    Ok(value.as_array().ok_or("an array")?.as_slice())
+}
+
+fn have_ranges(rt: &impl Abort, values: &[Value]) {
+    let numbers = [None, Some(3), Some(5), None, None, None, None];
+    for (value, number) in values.iter().zip(numbers) {
+        assert_eq!(rt; whole_of(value, 3, 5), number);
+    }
 }
 
 #[test]
 fn numbers_have_a_range(rt: HostRuntime) -> Result<(), Fail> {
     let table = document(rt.alloc(), b"n = [2, 3, 5, 6, -4, 4.0, '4']")?;
-    let values = table
-        .get("n")
-        .ok_or("a value")?
-        .as_array()
-        .ok_or("an array")?;
-    let numbers = [None, Some(3), Some(5), None, None, None, None];
-    for (value, number) in values.as_slice().iter().zip(numbers) {
-        assert_eq!(rt; whole_of(value, 3, 5), number);
-    }
+    have_ranges(&rt, values_of(&table, "n")?);
+    Ok(())
+}
+
+#[test]
+fn exactly_one_is_true(rt: HostRuntime) {
     assert!(rt; exactly_one(&[false, true, false]));
     assert!(rt; !exactly_one(&[true, true, false]));
     assert!(rt; !exactly_one(&[]));
-    Ok(())
 }
 
 #[derive(Drop)]
@@ -157,18 +180,17 @@ impl TableShape for Flagged {
     }
 }
 
-#[test]
-fn tables_are_read_by_their_shape(rt: HostRuntime) -> Result<(), Fail> {
-    let table = document(rt.alloc(), b"t = [{flag = true}, {}, 1]")?;
-    let values = table
-        .get("t")
-        .ok_or("a value")?
-        .as_array()
-        .ok_or("an array")?;
+fn have_flags(rt: &impl Abort, alloc: Global, values: &[Value]) -> Result<(), Fail> {
     let flags = [Some(true), None, None];
-    for (value, flag) in values.as_slice().iter().zip(flags) {
-        let read = Flagged::read(rt.alloc(), value)?;
+    for (value, flag) in values.iter().zip(flags) {
+        let read = Flagged::read(alloc, value)?;
         assert_eq!(rt; read.map(|flagged| flagged.flag), flag);
     }
     Ok(())
+}
+
+#[test]
+fn tables_are_read_by_their_shape(rt: HostRuntime) -> Result<(), Fail> {
+    let table = document(rt.alloc(), b"t = [{flag = true}, {}, 1]")?;
+    have_flags(&rt, rt.alloc(), values_of(&table, "t")?)
 }

@@ -4,8 +4,9 @@ use crate::{
 };
 use ht_base::Name;
 use std::alloc::{AllocError, Global};
+use std::process::Abort;
 use std::test::Fail;
-use toml::Value;
+use toml::{Table, Value};
 
 #[derive(Debug, PartialEq, Drop)]
 struct Flag(bool);
@@ -24,58 +25,87 @@ impl Shape for Flag {
     }
 }
 
+// Each text and what is wrong with it.
+const DOCUMENTS: [(&[u8], Option<DocumentFault>); 5] = [
+    (b"", None),
+    (b"name = \"caf\xc3\xa9\"\n", None),
+    (b"name = \"caf\xc3\"\n", Some(DocumentFault::Syntax)),
+    (b"name = anna\n", Some(DocumentFault::Syntax)),
+    (b"a = 1\na = 2\n", Some(DocumentFault::Syntax)),
+];
+
 #[test]
-fn documents_are_read(rt: HostRuntime) -> Result<(), Fail> {
-    let table: [(&[u8], Option<DocumentFault>); 5] = [
-        (b"", None),
-        (b"name = \"caf\xc3\xa9\"\n", None),
-        (b"name = \"caf\xc3\"\n", Some(DocumentFault::Syntax)),
-        (b"name = anna\n", Some(DocumentFault::Syntax)),
-        (b"a = 1\na = 2\n", Some(DocumentFault::Syntax)),
-    ];
-    for (text, fault) in table {
-        assert_eq!(rt; document(rt.alloc(), text).err(), fault, "{text:?}");
+fn documents_are_read(rt: HostRuntime) {
+    for (text, fault) in &DOCUMENTS {
+        assert_eq!(rt; document(rt.alloc(), text).err(), *fault, "{text:?}");
     }
-    Ok(())
+}
+
+fn sample(alloc: Global) -> Result<Table, Fail> {
+    let text = b"name = \"anna\"\noperator = true\nlist = [1, \"b\"]\n[[person]]\n";
+    Ok(document(alloc, text)?)
+}
+
+fn texts_are_found(rt: &impl Abort, table: &Table) {
+    assert_eq!(rt; text_at(table, "name"), Some("anna"));
+    assert_eq!(rt; text_at(table, "operator"), None);
+    assert_eq!(rt; text_at(table, "nam"), None);
+    assert!(rt; name_at(table, "name") == Name::of(b"anna"));
+    assert!(rt; name_at(table, "operator").is_none());
+}
+
+fn truths_are_found(rt: &impl Abort, table: &Table) {
+    assert_eq!(rt; truth_at(table, "operator", false), Some(true));
+    assert_eq!(rt; truth_at(table, "other", false), Some(false));
+    assert_eq!(rt; truth_at(table, "name", false), None);
 }
 
 #[test]
 fn values_are_found_by_their_shape(rt: HostRuntime) -> Result<(), Fail> {
-    let text = b"name = \"anna\"\noperator = true\nlist = [1, \"b\"]\n[[person]]\n";
-    let table = document(rt.alloc(), text)?;
+    let table = sample(rt.alloc())?;
     assert!(rt; has_only(&table, &["operator", "name", "list", "person"]));
     assert!(rt; !has_only(&table, &["operator", "name", "list"]));
-    assert_eq!(rt; text_at(&table, "name"), Some("anna"));
-    assert_eq!(rt; text_at(&table, "operator"), None);
-    assert_eq!(rt; text_at(&table, "nam"), None);
-    assert!(rt; name_at(&table, "name") == Name::of(b"anna"));
-    assert!(rt; name_at(&table, "operator").is_none());
-    assert_eq!(rt; truth_at(&table, "operator", false), Some(true));
-    assert_eq!(rt; truth_at(&table, "other", false), Some(false));
-    assert_eq!(rt; truth_at(&table, "name", false), None);
-    let counts = [
-        (array_at(&table, "list"), Some(2)),
-        (array_at(&table, "person"), Some(1)),
-        (array_at(&table, "group"), None),
-        (entries_at(&table, "group"), Some(0)),
-        (entries_at(&table, "list"), Some(2)),
-        (entries_at(&table, "name"), None),
-    ];
-    for (entries, count) in counts {
-        assert_eq!(rt; entries.map(|entries| entries.len()), count);
-    }
+    texts_are_found(&rt, &table);
+    truths_are_found(&rt, &table);
+    Ok(())
+}
+
+fn count(entries: Option<&[Value]>) -> Option<usize> {
+    entries.map(|entries| entries.len())
+}
+
+fn entries_are_found(rt: &impl Abort, table: &Table) {
+    assert_eq!(rt; count(array_at(table, "list")), Some(2));
+    assert_eq!(rt; count(array_at(table, "person")), Some(1));
+    assert_eq!(rt; count(array_at(table, "group")), None);
+    assert_eq!(rt; count(entries_at(table, "group")), Some(0));
+    assert_eq!(rt; count(entries_at(table, "list")), Some(2));
+    assert_eq!(rt; count(entries_at(table, "name")), None);
+}
+
+#[test]
+fn entries_are_found_by_their_shape(rt: HostRuntime) -> Result<(), Fail> {
+    let table = sample(rt.alloc())?;
+    entries_are_found(&rt, &table);
+    Ok(())
+}
+
+fn flags(alloc: Global) -> Result<Table, Fail> {
+    let text = b"good = [true, false]\nbad = [true, 1, \"b\"]\n";
+    Ok(document(alloc, text)?)
+}
+
+fn good_entries_are_read(rt: &impl Abort, alloc: Global, table: &Table) -> Result<(), Fail> {
+    let good = each::<Flag>(alloc, array_at(table, "good").ok_or("an array")?)?;
+    assert_eq!(rt; good.as_slice(), [Flag(true), Flag(false)].as_slice());
     Ok(())
 }
 
 #[test]
 fn every_entry_is_read(rt: HostRuntime) -> Result<(), Fail> {
-    let table = document(
-        rt.alloc(),
-        b"good = [true, false]\nbad = [true, 1, \"b\"]\n",
-    )?;
-    let good = each::<Flag>(rt.alloc(), array_at(&table, "good").ok_or("an array")?)?;
-    assert_eq!(rt; good.as_slice(), [Flag(true), Flag(false)].as_slice());
-    let bad = each::<Flag>(rt.alloc(), array_at(&table, "bad").ok_or("an array")?);
-    assert_eq!(rt; bad.err(), Some(EntriesFault::Misshapen(1)));
+    let table = flags(rt.alloc())?;
+    good_entries_are_read(&rt, rt.alloc(), &table)?;
+    let bad = each::<Flag>(rt.alloc(), array_at(&table, "bad").ok_or("an array")?).err();
+    assert_eq!(rt; bad, Some(EntriesFault::Misshapen(1)));
     Ok(())
 }
