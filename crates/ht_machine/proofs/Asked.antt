@@ -59,7 +59,7 @@ acts_on_it u caller moment task c v about = at (gate u (op_of c) caller task)
     by (refuses why) a = absurd cc
 
     at : (g : Gate) → BehindGate u caller moment task c g (accepted v about) → about ≡ task
-    at (opens row) a = by (effect (directory u) a.0 caller (record { 0 = moment }) c row) a.2
+    at (opens row) a = by (effect (directory u) u.rows a.0 caller (record { 0 = moment }) c row) a.2
     at (shuts why) a = absurd cc
 
 -- and names it, or none for a create

@@ -5,22 +5,21 @@ use Rattle.ht_base.specs.declared.moment.Moment.{Moment}
 use Rattle.ht_base.specs.declared.operation.Op.{Op}
 use Rattle.ht_base.specs.declared.task_id.TaskId.{TaskId}
 use Rattle.ht_base.specs.Events.{op_of}
-use Rattle.ht_machine.specs.Commands.{ActsOn, AfterEffect, BehindGate, Spreads, accepted, refused}
+use Rattle.ht_machine.specs.Commands.{ActsOn, AfterEffect, BehindGate, accepted, refused}
 use Rattle.ht_base.specs.declared.reply.Refusal.{Refusal}
 use Rattle.ht_machine.specs.Gate.{Answers, Gate, gate, gate_at, judged, opens}
 use Rattle.ht_machine.specs.Planning.{Does, Tries}
-use Rattle.ht_machine.specs.Following.{Follows, IsFollowed, IsTask, followed}
-use Rattle.ht_machine.proofs.Followed.{spreads}
+use Rattle.ht_compose.specs.Reaching.{IsTask}
+use Rattle.ht_machine.specs.Following.{IsFollowed, Spreads}
 use Rattle.ht_machine.proofs.Rows.{one}
 use Rattle.ht_owner.specs.declared.follow.Follow.{Follow}
-use Rattle.ht_owner.specs.declared.follow.Follow.TheVariants.{Nothing}
 use Rattle.ht_owner.specs.declared.refusal.ActRefusal.{ActRefusal}
 use Rattle.ht_owner.specs.declared.refusal.ActRefusal.TheVariants as why
 use Rattle.ht_owner.specs.Acting.{Acts, IsAllowed, Makes, Refuses}
 use Rattle.ht_owner.specs.Effects.{Effect}
 use Rattle.ht_rules.specs.declared.judging.Verdict.{Verdict}
 use Rattle.ht_tree.specs.Plans.{PlanOf, planned}
-use Rattle.ht_tree.specs.Soundness.{IsSound, KeepsSound}
+use Rattle.ht_tree.specs.Soundness.{IsSound}
 use Rattle.ht_tree.specs.Tables.{TablesOf, task_row, with_row}
 use Rattle.ht_tree.proofs.PublicLaws.{goes_then}
 
@@ -37,18 +36,6 @@ comes t old new caller at task command follow v allowed makes spread =
     let E : Effect → Type 0 = λ e. AfterEffect u task.0 e (accepted v task.0) in
     subst G (sym opened) (makes.model, makes.of_model, subst E (sym makes.effect_is) (spread, refl))
 
-pub acted : (t : TablesOf) (old new : PlanOf) (caller : ℕ) (at : Moment) (task : TaskId) (command : Command) → IsAllowed (planned t old) (op_of command) caller task.0 → Makes t old new task.0 caller at command Nothing → Does t old new (ActsOn (planned t old) caller at.0 task.0 command) task
-acted t old new caller at task command allowed makes =
-    let v = with_row (planned t old) makes.after in
-    record {
-      after = v;
-      comes = comes t old new caller at task command Nothing v allowed makes refl;
-      goes = makes.goes;
-      sound = makes.sound;
-      row = makes.after;
-      there = makes.found;
-    }
-
 -- the task is there on which something follows
 pub task_acted : (t : TablesOf) (old mid : PlanOf) (caller : ℕ) (at : Moment) (task : TaskId) (command : Command) (follow : Follow) → IsSound (planned t old) → Makes t old mid task.0 caller at command follow → IsTask (planned t mid) task.0
 task_acted t old mid caller at task command follow sound makes =
@@ -56,23 +43,23 @@ task_acted t old mid caller at task command follow sound makes =
     subst P (sym (makes.goes).to) (record { row = makes.after; there = makes.found; number = (makes.sound sound).numbered task.0 makes.after makes.found })
 
 -- and it follows behind the command
-pub followed_after : (t : TablesOf) (old mid new : PlanOf) (caller : ℕ) (at : Moment) (task : TaskId) (command : Command) (follow : Follow) → (follow ≡ Nothing → ⊥) → IsAllowed (planned t old) (op_of command) caller task.0 → Makes t old mid task.0 caller at command follow → IsFollowed t mid new task.0 follow → Does t old new (ActsOn (planned t old) caller at.0 task.0 command) task
-followed_after t old mid new caller at task command follow some allowed makes plans =
+pub followed_after : (t : TablesOf) (old mid new : PlanOf) (caller : ℕ) (at : Moment) (task : TaskId) (command : Command) (follow : Follow) → IsAllowed (planned t old) (op_of command) caller task.0 → Makes t old mid task.0 caller at command follow → IsFollowed t mid new task.0 follow → Does t old new (ActsOn (planned t old) caller at.0 task.0 command) task
+followed_after t old mid new caller at task command follow allowed makes plans =
     let u = planned t old in
     let v = with_row u makes.after in
-    let w = with_row (planned t mid) (followed follow plans.row) in
-    let F : TablesOf → Type 0 = λ x. Follows follow task.0 x w in
-    let K : TablesOf → Type 0 = λ x. KeepsSound x w in
-    let after : Follows follow task.0 v w = subst F (makes.goes).to (plans.row, plans.there, refl) in
-    let keeps : KeepsSound v w = subst K (makes.goes).to plans.sound in
+    let F : TablesOf → Type 0 = λ x. Spreads follow task.0 x plans.after in
     record {
-      after = w;
-      comes = comes t old mid caller at task command follow w allowed makes (spreads follow task.0 v w some after);
-      goes = goes_then t old mid new u v w makes.goes plans.goes;
-      sound = λ sound. keeps (makes.sound sound);
-      row = followed follow plans.row;
-      there = plans.found;
+      after = plans.after;
+      comes = comes t old mid caller at task command follow plans.after allowed makes (subst F (makes.goes).to plans.spreads);
+      goes = goes_then t old mid new u v plans.after makes.goes plans.goes;
+      sound = λ sound. plans.sound;
+      row = plans.row;
+      there = plans.there;
     }
+
+-- what the command makes is sound
+pub sound_acted : (t : TablesOf) (old mid : PlanOf) (caller : ℕ) (at : Moment) (task : TaskId) (command : Command) (follow : Follow) → IsSound (planned t old) → Makes t old mid task.0 caller at command follow → IsSound (planned t mid)
+sound_acted t old mid caller at task command follow sound makes = let P : TablesOf → Type 0 = λ u. IsSound u in subst P (sym (makes.goes).to) (makes.sound sound)
 
 -- a refusal of what the command names comes behind the gate
 act_refused : (t : TablesOf) (old new : PlanOf) (caller : ℕ) (at : Moment) (task : TaskId) (command : Command) (why : Refusal) → IsAllowed (planned t old) (op_of command) caller task.0 → Refuses t old new task.0 caller at command why → ActsOn (planned t old) caller at.0 task.0 command (refused why) × (new ≡ old)

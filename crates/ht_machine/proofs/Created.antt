@@ -5,7 +5,8 @@ use Rattle.ht_base.specs.declared.reply.Limit.TheVariants.{Tasks}
 use Rattle.ht_base.specs.declared.reply.Refusal.{Refusal}
 use Rattle.ht_base.specs.declared.reply.Refusal.TheVariants as refusal
 use Rattle.ht_base.specs.declared.task_id.TaskId.{TaskId}
-use Rattle.ht_machine.specs.Activating.{Activates, Becomes, IsCreated, activated}
+use Rattle.ht_machine.specs.Activating.{Activates, Becomes, activated_once}
+use Rattle.ht_compose.specs.Reaching.{IsTask}
 use Rattle.ht_machine.specs.Commands.{Creates, CreatesAt, CreatesNamed, CreatesOf, CreatesUnless, Outcome, accepted, new_task, refused, why_not_created}
 use Rattle.ht_machine.specs.Planning.{Does, Finds, Tries, refusal_of}
 use Rattle.ht_models.specs.Model.{ModelOf}
@@ -33,9 +34,9 @@ unless_none u caller moment place input m o none creates = let P : Option Refusa
 
 -- ---- it is created, and activated
 
--- the new task is there, and only created
-pub is_created : (u : TablesOf) (caller moment place : ℕ) (input : Parts) (m : ModelOf) (task : ℕ) → task ≡ length u.rows + 1 → IsCreated (with_row u (new_task u caller moment place input m)) task
-is_created u caller moment place input m task number =
+-- the new task is there
+pub is_there : (u : TablesOf) (caller moment place : ℕ) (input : Parts) (m : ModelOf) (task : ℕ) → task ≡ length u.rows + 1 → IsTask (with_row u (new_task u caller moment place input m)) task
+is_there u caller moment place input m task number =
     let row = new_task u caller moment place input m in
     let next : IsNext u.rows row = (omega arith, omega arith) in
     let same : row.task.0 ≡ task = sym number in
@@ -43,22 +44,22 @@ is_created u caller moment place input m task number =
       row = row;
       there = row_at-put_in u.rows row task next ∙ ap (λ (b : Bool). if b then Some row else row_at task u.rows) (eq-eqb row.task.0 task same);
       number = same;
-      created = refl;
     }
 
 pub created : (t : TablesOf) (old mid new : PlanOf) (caller moment place : ℕ) (input : Parts) (named : Option (List ℕ)) (m : ModelOf) (task : TaskId) → Finds t named (Ok place) → model_at t place ≡ Some m → why_not_created (directory t) m input ≡ None → (IsFull (planned t old) place → ⊥) → task.0 ≡ length (planned t old).rows + 1 → Goes t old mid (planned t old) (with_row (planned t old) (new_task (planned t old) caller moment place input m)) → KeepsSound (planned t old) (planned t mid) → Becomes t mid new task.0 → Does t old new (Creates (planned t old) caller moment named input) task
 created t old mid new caller moment place input named m task finds at fine room number first keeps becomes =
     let u = planned t old in
     let u1 = with_row u (new_task u caller moment place input m) in
-    let w = with_row (planned t mid) (activated becomes.row) in
+    let after = activated_once (becomes.model).owner_required becomes.row in
+    let w = with_row (planned t mid) after in
     let A : TablesOf → Type 0 = λ x. Activates x task.0 w in
-    let activates : Activates u1 task.0 w = subst A first.to (becomes.row, becomes.there, refl) in
+    let activates : Activates u1 task.0 w = subst A first.to (becomes.row, becomes.model, becomes.there, becomes.of_model, refl) in
     record {
       after = w;
       comes = at_place t u caller moment place input named (accepted w task.0) refl finds (m, at, unless_none u caller moment place input m (accepted w task.0) fine (room, number, activates));
       goes = goes_then t old mid new u u1 w first becomes.goes;
       sound = λ sound. becomes.sound (keeps sound);
-      row = activated becomes.row;
+      row = after;
       there = becomes.found;
     }
 

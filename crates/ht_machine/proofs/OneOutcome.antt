@@ -14,19 +14,19 @@ use Rattle.ht_base.specs.declared.operation.Op.{Op}
 use Rattle.ht_base.specs.declared.retry.Retry.{Retry}
 use Rattle.ht_base.specs.declared.task_id.TaskId.{TaskId}
 use Rattle.ht_base.specs.Events.{op_of}
-use Rattle.ht_machine.specs.Activating.{Activates, activated}
+use Rattle.ht_machine.specs.Activating.{Activates, activated_once}
 use Rattle.ht_machine.specs.Commands.{ActsOn, AfterEffect, BehindGate, Comes, Creates, CreatesAt, CreatesNamed, CreatesOf, CreatesUnless, Outcome, accepted, new_task, refused, why_not_created}
 use Rattle.ht_machine.specs.declared.sending.Sending.{Sending}
 use Rattle.ht_machine.specs.declared.sending.Sending.TheVariants as sending
 use Rattle.ht_machine.specs.declared.sending.Sending.TheVariants.{New, Answered}
 use Rattle.ht_machine.specs.Deciding.{AsksAs, Leads, Settles, Shows, done, effective}
 use Rattle.ht_machine.specs.Gate.{Gate, gate, opens, shuts}
-use Rattle.ht_machine.specs.Following.{Follows, followed}
+use Rattle.ht_machine.specs.Following.{Spreads, begun}
 use Rattle.ht_machine.specs.Sending.{ByCaller, ByLast, BySlot, answer_of, with_reply}
 use Rattle.ht_machine.proofs.Rows.{one}
 use Rattle.ht_models.specs.Model.{ModelOf}
 use Rattle.ht_owner.specs.declared.follow.Follow.{Follow}
-use Rattle.ht_owner.specs.declared.follow.Follow.TheVariants.{Began, Close, Nothing}
+use Rattle.ht_owner.specs.declared.follow.Follow.TheVariants.{Activate, Began, Close, Freed, Held, Nothing}
 use Rattle.ht_owner.specs.Effects.{Effect, does, effect, refuses}
 use Rattle.ht_people.specs.Directory.{find}
 use Rattle.ht_tree.specs.declared.row.Row.{Row}
@@ -40,7 +40,13 @@ both u v m n e f = ap (λ x. accepted x m) e ∙ ap (λ k. accepted v k) f
 -- ---- creates
 
 same_activation : (u : TablesOf) (task : ℕ) (v w : TablesOf) → Activates u task v → Activates u task w → v ≡ w
-same_activation u task v w a b = a.2 ∙ ap (λ (r : Row). with_row u (activated r)) (one (task_row u task) a.0 b.0 a.1 b.1) ∙ sym b.2
+same_activation u task v w (r, m, there, of_model, is) (s, n, found, named, as_well) =
+    let row : r ≡ s = one (task_row u task) r s there found in
+    let model : m ≡ n = one (model_of u s) m n (ap (λ (x : Row). model_of u x) (sym row) ∙ of_model) named in
+    is
+    ∙ ap (λ (x : Row). with_row u (activated_once m.owner_required x)) row
+    ∙ ap (λ (x : ModelOf). with_row u (activated_once x.owner_required s)) model
+    ∙ sym as_well
 
 same_new : (u : TablesOf) (caller moment place : ℕ) (input : Parts) (m : ModelOf) (o p : Outcome) → CreatesOf u caller moment place input m o → CreatesOf u caller moment place input m p → o ≡ p
 same_new u caller moment place input m (accepted v j) (accepted w k) a b =
@@ -71,13 +77,16 @@ same_create u caller moment (Some name) input o p a b = at (model_named u name) 
 
 -- ---- the other commands
 
-same_follow : (f : Follow) (u : TablesOf) (task : ℕ) (v w : TablesOf) → Follows f task u v → Follows f task u w → v ≡ w
-same_follow f u task v w a b = a.2 ∙ ap (λ (r : Row). with_row u (followed f r)) (one (task_row u task) a.0 b.0 a.1 b.1) ∙ sym b.2
+same_spread : (f : Follow) (u : TablesOf) (task : ℕ) (v w : TablesOf) → Spreads f task u v → Spreads f task u w → v ≡ w
+same_spread Nothing u task v w a b = a ∙ sym b
+same_spread Began u task v w a b = a.2 ∙ ap (λ (r : Row). with_row u (begun r)) (one (task_row u task) a.0 b.0 a.1 b.1) ∙ sym b.2
+same_spread Activate u task v w a b = same_activation u task v w a b
+same_spread Held u task v w a b = a ∙ sym b
+same_spread Freed u task v w a b = a ∙ sym b
+same_spread (Close end) u task v w a b = a ∙ sym b
 
 same_effect : (u : TablesOf) (task : ℕ) (e : Effect) (o p : Outcome) → AfterEffect u task e o → AfterEffect u task e p → o ≡ p
-same_effect u task (does row Nothing) (accepted v j) (accepted w k) a b = both v w j k (a.0 ∙ sym b.0) (a.1 ∙ sym b.1)
-same_effect u task (does row Began) (accepted v j) (accepted w k) a b = both v w j k (same_follow Began (with_row u row) task v w a.0 b.0) (a.1 ∙ sym b.1)
-same_effect u task (does row (Close end)) (accepted v j) (accepted w k) a b = both v w j k (same_follow (Close end) (with_row u row) task v w a.0 b.0) (a.1 ∙ sym b.1)
+same_effect u task (does row follow) (accepted v j) (accepted w k) a b = both v w j k (same_spread follow (with_row u row) task v w a.0 b.0) (a.1 ∙ sym b.1)
 same_effect u task (does row follow) (accepted v j) (refused why) a b = absurd b
 same_effect u task (does row follow) (refused why) p a b = absurd a
 same_effect u task (refuses why) o p a b = a ∙ sym b
@@ -87,8 +96,8 @@ same_act u caller moment task c o p = at (gate u (op_of c) caller task)
   where
     at : (g : Gate) → BehindGate u caller moment task c g o → BehindGate u caller moment task c g p → o ≡ p
     at (opens row) a b =
-        let E : ModelOf → Type 0 = λ m. AfterEffect u task (effect (directory u) m caller (record { 0 = moment }) c row) o in
-        same_effect u task (effect (directory u) b.0 caller (record { 0 = moment }) c row) o p (subst E (one (model_of u row) a.0 b.0 a.1 b.1) a.2) b.2
+        let E : ModelOf → Type 0 = λ m. AfterEffect u task (effect (directory u) u.rows m caller (record { 0 = moment }) c row) o in
+        same_effect u task (effect (directory u) u.rows b.0 caller (record { 0 = moment }) c row) o p (subst E (one (model_of u row) a.0 b.0 a.1 b.1) a.2) b.2
     at (shuts why) a b = a ∙ sym b
 
 same_outcome : (t : TablesOf) (person moment task : ℕ) (c : Command) (o p : Outcome) → Comes t person moment task c o → Comes t person moment task c p → o ≡ p

@@ -24,13 +24,12 @@ use Rattle.ht_machine.specs.declared.sending.Sending.TheVariants as sending
 use Rattle.ht_machine.specs.declared.sending.Sending.TheVariants.{New, Answered}
 use Rattle.ht_machine.specs.Commands.{ActsOn, AfterEffect, BehindGate, Comes, Creates, CreatesAt, CreatesNamed, CreatesOf, CreatesUnless, Outcome, accepted, refused, why_not_created}
 use Rattle.ht_machine.specs.Deciding.{Asks, AsksAs, Decides, IsIdle, Leads, Settles, effective}
-use Rattle.ht_machine.specs.Following.{Follows}
 use Rattle.ht_machine.specs.Gate.{Gate, gate, opens, shuts}
 use Rattle.ht_machine.specs.History.{History, IsHistory, IsStep, memory_reply}
 use Rattle.ht_machine.specs.Once.{ActsOnce, IsAccepted, IsLast, IsOf, IsRepeat, IsSame, IsSince, Remembers}
 use Rattle.ht_machine.specs.Sending.{ByCaller, ByLast, ByNumber, BySlot, IsSent, answer_of, slot_of, with_reply}
 use Rattle.ht_models.specs.Model.{ModelOf}
-use Rattle.ht_owner.specs.declared.follow.Follow.TheVariants.{Nothing, Began, Close}
+use Rattle.ht_owner.specs.declared.follow.Follow.TheVariants.{Activate, Began, Close, Freed, Held, Nothing}
 use Rattle.ht_owner.specs.Effects.{Effect, does, effect, refuses}
 use Rattle.ht_people.specs.Directory.{find}
 use Rattle.ht_tree.specs.declared.slot.Kept.{Kept}
@@ -91,20 +90,23 @@ create_keeps : (u : TablesOf) (caller moment place : ℕ) (input : Parts) (v : T
 create_keeps u caller moment place input v about made = at (why_not_created (directory u) made.0 input) made.2
   where
     at : (why : Option Refusal) → CreatesUnless u caller moment place input made.0 why (accepted v about) → v.slots ≡ u.slots
-    at None is = ap (λ (x : TablesOf). x.slots) is.2.2
+    at None is = ap (λ (x : TablesOf). x.slots) is.2.4
     at (Some why) is = absurd cc
 
 acts_keeps : (u : TablesOf) (caller moment task : ℕ) (c : Command) (v : TablesOf) (about : ℕ) → ActsOn u caller moment task c (accepted v about) → v.slots ≡ u.slots
 acts_keeps u caller moment task c v about = at (gate u (op_of c) caller task)
   where
     by : (e : Effect) → AfterEffect u task e (accepted v about) → v.slots ≡ u.slots
-    by (does row Nothing) a = ap (λ (x : TablesOf). x.slots) a.0
     by (does row Began) a = ap (λ (x : TablesOf). x.slots) a.0.2
-    by (does row (Close end)) a = ap (λ (x : TablesOf). x.slots) a.0.2
+    by (does row Activate) a = ap (λ (x : TablesOf). x.slots) a.0.4
+    by (does row Nothing) a = ap (λ (x : TablesOf). x.slots) a.0
+    by (does row Held) a = ap (λ (x : TablesOf). x.slots) a.0
+    by (does row Freed) a = ap (λ (x : TablesOf). x.slots) a.0
+    by (does row (Close end)) a = ap (λ (x : TablesOf). x.slots) a.0
     by (refuses why) a = absurd cc
 
     at : (g : Gate) → BehindGate u caller moment task c g (accepted v about) → v.slots ≡ u.slots
-    at (opens row) a = by (effect (directory u) a.0 caller (record { 0 = moment }) c row) a.2
+    at (opens row) a = by (effect (directory u) u.rows a.0 caller (record { 0 = moment }) c row) a.2
     at (shuts why) a = absurd cc
 
 comes_keeps : (u : TablesOf) (caller moment task : ℕ) (c : Command) (v : TablesOf) (about : ℕ) → Comes u caller moment task c (accepted v about) → v.slots ≡ u.slots

@@ -9,8 +9,6 @@ use Rattle.ht_base.specs.declared.reply.Refusal.TheVariants as refusal
 use Rattle.ht_base.specs.declared.reply.Unknown.TheVariants as unknown
 use Rattle.ht_base.specs.Events.{op_of}
 use Rattle.ht_models.specs.Model.{ModelOf}
-use Rattle.ht_owner.specs.declared.follow.Follow.{Follow}
-use Rattle.ht_owner.specs.declared.follow.Follow.TheVariants as follow
 use Rattle.ht_owner.specs.Effects.{Effect, does, effect, refuses}
 use Rattle.ht_people.specs.Directory.{DirectoryOf}
 use Rattle.ht_tree.specs.declared.row.Row.{Row}
@@ -18,7 +16,7 @@ use Rattle.ht_tree.specs.Creating.{IsFull, new_row}
 use Rattle.ht_tree.specs.Giving.{refused_part, values_given}
 use Rattle.ht_tree.specs.Tables.{TablesOf, directory, model_at, model_named, model_of, with_row}
 use Rattle.ht_machine.specs.Activating.{Activates}
-use Rattle.ht_machine.specs.Following.{Follows}
+use Rattle.ht_machine.specs.Following.{Spreads}
 use Rattle.ht_machine.specs.Gate.{Gate, gate, opens, shuts}
 
 -- It is accepted: the tables after it, and the task that it is about. Or it is refused.
@@ -64,19 +62,14 @@ Creates u caller moment (Some name) input o = CreatesNamed u caller moment name 
 
 -- ---- the other commands
 
--- what follows, from the tables after the effect on
-abbrev pub Spreads : Follow → ℕ → TablesOf → TablesOf → Type 0
-Spreads follow.Nothing task u v = v ≡ u
-Spreads follow.Began task u v = Follows follow.Began task u v
-Spreads (follow.Close end) task u v = Follows (follow.Close end) task u v
-
+-- from the tables after the effect on
 abbrev pub AfterEffect : TablesOf → ℕ → Effect → Outcome → Type 0
 AfterEffect u task (does row follow) (accepted v number) = Spreads follow task (with_row u row) v × (number ≡ task)
 AfterEffect u task (does row follow) (refused why) = ⊥
 AfterEffect u task (refuses why) o = o ≡ refused why
 
 abbrev pub BehindGate : TablesOf → ℕ → ℕ → ℕ → Command → Gate → Outcome → Type 0
-BehindGate u caller moment task command (opens row) o = (m : ModelOf) × (model_of u row ≡ Some m) × AfterEffect u task (effect (directory u) m caller (record { 0 = moment }) command row) o
+BehindGate u caller moment task command (opens row) o = (m : ModelOf) × (model_of u row ≡ Some m) × AfterEffect u task (effect (directory u) u.rows m caller (record { 0 = moment }) command row) o
 BehindGate u caller moment task command (shuts why) o = o ≡ refused why
 
 abbrev pub ActsOn : TablesOf → ℕ → ℕ → ℕ → Command → Outcome → Type 0

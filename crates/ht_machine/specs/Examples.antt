@@ -20,13 +20,13 @@ use Rattle.ht_base.specs.declared.scalar.Scalar.TheVariants as scalar
 use Rattle.ht_base.specs.declared.task_id.TaskId.{TaskId}
 use Rattle.ht_base.specs.declared.state.State.TheVariants.{Created, Ready, Reserved, InProgress, SuspendedReady, SuspendedReserved, SuspendedInProgress, Exited, Obsolete}
 use Rattle.ht_expr.specs.Assignments.{user}
-use Rattle.ht_machine.specs.Activating.{activated}
+use Rattle.ht_compose.specs.Downward.{closed}
+use Rattle.ht_machine.specs.Activating.{activated, activated_once}
 use Rattle.ht_machine.specs.Commands.{accepted, refused, why_not_created}
 use Rattle.ht_machine.specs.declared.sending.Sending.TheVariants as sending
 use Rattle.ht_machine.specs.declared.sending.Sending.TheVariants.{New, Answered}
 use Rattle.ht_machine.specs.Deciding.{Decides, reply_of}
 use Rattle.ht_machine.specs.Sending.{IsSent}
-use Rattle.ht_machine.specs.Following.{closed}
 use Rattle.ht_machine.specs.Gate.{gate, shuts}
 use Rattle.ht_machine.specs.Sheets.{sheet_of}
 use Rattle.ht_models.specs.declared.deadlines.DeadlineKind.TheVariants.{Start}
@@ -102,15 +102,23 @@ a_task_with_a_deadline = refl
 
 -- ---- activation
 
-several_owners : activated (task_of unit 0) ≡ record (task_of unit 0) { state = Ready }
+several_owners : activated true (task_of unit 0) ≡ record (task_of unit 0) { state = Ready }
 several_owners = refl
 
-one_owner : activated (task_of solo 1) ≡ record (task_of solo 1) { state = Reserved; owner = Some 0 }
+one_owner : activated true (task_of solo 1) ≡ record (task_of solo 1) { state = Reserved; owner = Some 0 }
 one_owner = refl
 
 -- its only potential owner is excluded
-no_owner : activated (task_of shut 2) ≡ task_of shut 2
+no_owner : activated true (task_of shut 2) ≡ task_of shut 2
 no_owner = refl
+
+-- a task that never has an owner
+nobodys : activated false (task_of unit 0) ≡ record (task_of unit 0) { state = InProgress; started = true }
+nobodys = refl
+
+-- nothing comes of a second activation
+activated_before : activated_once true (record (task_of unit 0) { state = Ready }) ≡ record (task_of unit 0) { state = Ready }
+activated_before = refl
 
 -- ---- a create
 
@@ -126,7 +134,7 @@ a_create = (
     sent = refl;
     asks = (
       accepted (record nothing_yet { rows = record (task_of unit 0) { state = Ready } ∷ [] }) 1,
-      (unit, refl, ((λ full. absurd (omega arith)), refl, (task_of unit 0, refl, refl))),
+      (unit, refl, ((λ full. absurd (omega arith)), refl, (task_of unit 0, unit, refl, refl, refl))),
       (reply.Done (record { 0 = 1 }) Ready None, (record (task_of unit 0) { state = Ready }, refl, refl), refl, refl, refl),
     );
   },
@@ -237,7 +245,7 @@ abbrev exited_at : ℕ → TablesOf
 exited_at moment = record nothing_yet { rows = exited ∷ []; last = moment }
 
 an_exit : Decides (claimed_at 2000) (asks (codes "root") 3000 1 Exit) (kept (codes "root") 3000 1 Exit) (reply_of (Done (record { 0 = 1 }) Exited None)) (exited_at 3000)
-an_exit = (refl, record { sending = New 4; sent = refl; asks = (accepted (exited_at 2000) 1, (unit, refl, ((claimed, refl, refl), refl)), (reply.Done (record { 0 = 1 }) Exited None, (exited, refl, refl), refl, refl, refl)) })
+an_exit = (refl, record { sending = New 4; sent = refl; asks = (accepted (exited_at 2000) 1, (unit, refl, (refl, refl)), (reply.Done (record { 0 = 1 }) Exited None, (exited, refl, refl), refl, refl, refl)) })
 
 -- all states that are not final are told
 a_second_exit : gate (exited_at 3000) op.Exit 4 1 ≡ shuts (State (states_of (Created ∷ Ready ∷ Reserved ∷ InProgress ∷ SuspendedReady ∷ SuspendedReserved ∷ SuspendedInProgress ∷ [])) Exited)

@@ -10,7 +10,7 @@ use crate::creating::create;
 use crate::following::follow;
 use crate::gating::refusal_at_gate;
 use ht_base::{Command, Moment, Person, TaskId};
-use ht_owner::{ActRefusal, Follow, act};
+use ht_owner::{ActRefusal, act};
 use ht_tree::{Plan, Tables};
 use std::alloc::Global;
 
@@ -59,11 +59,7 @@ fn act_on(
     if let Some(refusal) = refusal_at_gate(tables, plan, caller, task, command.op()) {
         return Err(ActRefusal::Refused(refusal));
     }
-    match act(alloc, tables, plan, task, caller, command, at)? {
-        Follow::Nothing => Ok(task),
-        next => {
-            follow(alloc, tables, plan, task, next)?;
-            Ok(task)
-        }
-    }
+    let next = act(alloc, tables, plan, task, caller, command, at)?;
+    follow(alloc, tables, plan, task, next)?;
+    Ok(task)
 }

@@ -32,11 +32,11 @@ pub record IsLeft (u : TablesOf) (task : ℕ) (row new : Row) (follow : Follow) 
   pub fits : Fits u new
   pub ends : Ends follow
 
-pub made : (u : TablesOf) (m : ModelOf) (caller task : ℕ) (at : Moment) (command : Command) (row new : Row) (follow : Follow) → IsSound u → task_row u task ≡ Some row → model_of u row ≡ Some m → caller < length u.people.persons → at.0 ≤ last_moment → IsCommand command → verdict (op_of command) row.state (roles_in u row caller) ≡ Yes → effect (directory u) m caller at command row ≡ does new follow → IsLeft u task row new follow
+pub made : (u : TablesOf) (m : ModelOf) (caller task : ℕ) (at : Moment) (command : Command) (row new : Row) (follow : Follow) → IsSound u → task_row u task ≡ Some row → model_of u row ≡ Some m → caller < length u.people.persons → at.0 ≤ last_moment → IsCommand command → verdict (op_of command) row.state (roles_in u row caller) ≡ Yes → effect (directory u) u.rows m caller at command row ≡ does new follow → IsLeft u task row new follow
 made u m caller task at command row new follow sound there of_model known within valid may is =
     let after = effect_makes u m caller at row (sound.rows_sound task row there) of_model known within command new follow valid may is in
     record {
-      again = put_again_of u task row new there (sound.numbered task row there) after.same (λ fine. after.sound);
+      again = put_again_of u task row new there (sound.numbered task row there) after.same after.final (λ fine. after.sound);
       fits = sound_row_fits u.models (length u.people.persons) new after.sound;
       ends = after.ends;
     }

@@ -1,9 +1,10 @@
 -- That the effects of commands keep rows sound.
-use Rattle.std.proofs.Common.{◌≡◌, ℕ, ◌<◌, nat_lt, Bool, true, false, ◌&&◌, ◌||◌, not, ◌+◌, ◌≤◌, if◌then◌else◌, List, [], ◌∷◌, ◌++◌, filter, Option, Some, None, IfSome, IsTrue, unwrap_or, length, get_or, zero, suc, refl, ap, sym, ◌∙◌, subst, arith}
+use Rattle.std.proofs.Common.{◌≡◌, ℕ, ◌<◌, nat_lt, Bool, true, false, ◌&&◌, ◌||◌, not, ◌+◌, ◌≤◌, if◌then◌else◌, List, [], ◌∷◌, ◌++◌, filter, Option, Some, None, IfSome, IsTrue, unwrap_or, length, get_or, slice_get, zero, suc, refl, ap, sym, ◌∙◌, subst, arith}
 use Rattle.std.proofs.lemmas.Bool.Decides.{nat_tests}
 use Rattle.std.proofs.lemmas.List.{length-append}
 use Rattle.std.proofs.lemmas.List.Elements.{All-append}
 use Rattle.std.specs.List.{range_with_len}
+use Rattle.std.specs.Option.{option_map_or}
 use Rattle.ht_base.specs.declared.event.Command.{Command}
 use Rattle.ht_base.specs.declared.event.Command.TheVariants as command
 use Rattle.ht_base.specs.declared.moment.Moment.{Moment}
@@ -27,11 +28,11 @@ use Rattle.ht_models.specs.Model.{ModelOf}
 use Rattle.ht_owner.specs.declared.follow.Follow.{Follow}
 use Rattle.ht_owner.specs.declared.follow.Follow.TheVariants as follow
 use Rattle.ht_owner.specs.Acting.{Ends}
-use Rattle.ht_owner.specs.Effects.{Effect, does, effect, following, is_forwarder, leaves, named_owner, prepared, prepared_leaves, refuses, unless, with_comment, with_output, with_role}
-use Rattle.ht_owner.specs.Faults.{fully_commented, excluded, fault, faults, first_fault, no_output, owned, role_faults, told, unknown_person}
+use Rattle.ht_owner.specs.Effects.{Effect, does, effect, following, is_forwarder, leaves, moved_now, named_owner, prepared, prepared_leaves, refuses, unless, with_comment, with_output, with_role}
+use Rattle.ht_owner.specs.Faults.{fully_commented, excluded, fault, faults, first_fault, no_output, owned, ownerless, role_faults, told, unknown_person}
 use Rattle.ht_owner.specs.Moving.{end_of, ending, is_final, moved}
 use Rattle.ht_owner.specs.Naming.{is_named, persons_named}
-use Rattle.ht_owner.proofs.Moved.{MayOwn, moved_sound}
+use Rattle.ht_owner.proofs.Moved.{MayOwn, moved_sound, no_end, serves_ownerless}
 use Rattle.ht_owner.proofs.Named.{found_person, known_name, named_alone, no_fault, none_excluded, owner_unnamed}
 use Rattle.ht_people.specs.Directory.{DirectoryOf, find}
 use Rattle.ht_rules.specs.declared.judging.Verdict.TheVariants.{Yes}
@@ -44,7 +45,7 @@ use Rattle.ht_tree.specs.declared.comments.Comment.{Comment}
 use Rattle.ht_tree.specs.declared.row.Row.{Row}
 use Rattle.ht_tree.specs.Giving.{values_given}
 use Rattle.ht_tree.specs.Roles.{roles_in}
-use Rattle.ht_tree.specs.Soundness.{AreApart, ArePeople, IsHeldBy, IsSoundRow}
+use Rattle.ht_tree.specs.Soundness.{AreApart, ArePeople, IsHeldBy, IsSoundRow, needs_owner}
 use Rattle.ht_tree.specs.Tables.{TablesOf, model_of}
 use Rattle.ht_tree.proofs.PublicLaws.{all_selected, filed_of, given_output_held, has_selected, selected_apart, selected_ascends, updated_held}
 
@@ -80,11 +81,17 @@ first_true : (a b : Bool) → (a && b) ≡ true → a ≡ true
 first_true true b h = refl
 first_true false b h = cc
 
--- what may be done leaves a sound row of the same task, with its parent and its model, and ends it only
--- in a final state
+-- whether it is moved now or not, it is the same task
+same_file_now : (next : Follow) (old new : Row) → filed_of new ≡ filed_of old → filed_of (moved_now next old new) ≡ filed_of old
+same_file_now follow.Activate old new h = refl
+same_file_now next old new h = h
+
+-- what may be done leaves a sound row of the same task, with its parent and its model, which has ended
+-- just where it had, and ends it only in a final state
 pub record IsMade (u : TablesOf) (row new : Row) (next : Follow) : Type 0 where
   pub sound : IsSoundRow u new
   pub same : filed_of new ≡ filed_of row
+  pub final : is_final row.state ≡ is_final new.state
   pub ends : Ends next
 
 -- what holds of one comment holds of each of a list of it
@@ -105,7 +112,7 @@ module _ (u : TablesOf) (m : ModelOf) (caller : ℕ) (moment : Moment) (row : Ro
     filed = sound.filed;
     held = sound.held;
     who = who;
-    whose = record { owned = (sound.whose).owned; known = (sound.whose).known; allowed = allowed };
+    whose = record { owned = (sound.whose).owned; ownerless = (sound.whose).ownerless; known = (sound.whose).known; allowed = allowed };
     when = sound.when;
     how = sound.how;
   }
@@ -207,15 +214,15 @@ module _ (u : TablesOf) (m : ModelOf) (caller : ℕ) (moment : Moment) (row : Ro
           few true low h = grind (arith, nat_tests)
           few false low h = cc
 
-  prepared_sound : (c : Command) → IsCommand c → fault d m row c ≡ None → IsSoundRow u (prepared d m caller moment c row)
+  prepared_sound : (c : Command) → IsCommand c → fault d u.rows m row c ≡ None → IsSoundRow u (prepared d m caller moment c row)
   prepared_sound (command.Delegate name) is none =
-      let out = no_fault (faults d m row (command.Delegate name)) none 2 (excluded d row.excluded_owners (name ∷ [])) refl in
+      let out = no_fault (faults d u.rows m row (command.Delegate name)) none 2 (excluded d row.excluded_owners (name ∷ [])) refl in
       with_owners (λ p. has p row.potential_owners || is_named d (name ∷ []) p) row.by_group (apart_of (λ p. has p row.potential_owners) (is_named d (name ∷ [])) n row.excluded_owners (sound.who).apart (none_excluded d row.excluded_owners (name ∷ []) out))
   prepared_sound (command.Forward names) is none =
-      let out = no_fault (faults d m row (command.Forward names)) none 3 (excluded d row.excluded_owners names) refl in
+      let out = no_fault (faults d u.rows m row (command.Forward names)) none 3 (excluded d row.excluded_owners names) refl in
       with_owners (λ p. (has p row.potential_owners && not (is_forwarder caller row.state row.owner p)) || is_named d names p) row.by_group (apart_of (λ p. has p row.potential_owners && not (is_forwarder caller row.state row.owner p)) (is_named d names) n row.excluded_owners (λ p h. (sound.who).apart p (first_true _ _ h)) (none_excluded d row.excluded_owners names out))
   prepared_sound (command.Nominate names) is none =
-      let out = no_fault (faults d m row (command.Nominate names)) none 2 (excluded d row.excluded_owners names) refl in
+      let out = no_fault (faults d u.rows m row (command.Nominate names)) none 2 (excluded d row.excluded_owners names) refl in
       with_owners (is_named d names) false (apart_one (is_named d names) n row.excluded_owners (none_excluded d row.excluded_owners names out))
   prepared_sound (command.SetRole role names) is none = role_sound role names none
   prepared_sound (command.SetPriority priority) is none =
@@ -231,7 +238,7 @@ module _ (u : TablesOf) (m : ModelOf) (caller : ℕ) (moment : Moment) (row : Ro
   prepared_sound (command.SetOutput output) is none = output_sound output is.0
   prepared_sound (command.Complete output) is none = output_sound output is
   prepared_sound (command.Fail name) is none = record { filed = sound.filed; held = sound.held; who = sound.who; whose = sound.whose; when = sound.when; how = sound.how }
-  prepared_sound (command.AddComment text) is none = comment_sound text is.0 is.1 (no_fault (faults d m row (command.AddComment text)) none 0 (fully_commented row) refl)
+  prepared_sound (command.AddComment text) is none = comment_sound text is.0 is.1 (no_fault (faults d u.rows m row (command.AddComment text)) none 0 (fully_commented row) refl)
   prepared_sound c is none = sound
 
   -- ---- whose it becomes
@@ -241,14 +248,14 @@ module _ (u : TablesOf) (m : ModelOf) (caller : ℕ) (moment : Moment) (row : Ro
   owns o h may = record { known = known; allowed = (sound.who).apart caller (caller_is_potential (roles_in u row caller) row.state o h may) }
 
   -- who is named as the owner
-  named_owns : (name : List ℕ) → fault d m row (command.Delegate name) ≡ None → MayOwn n (unwrap_or (find name d) caller) row.excluded_owners
+  named_owns : (name : List ℕ) → fault d u.rows m row (command.Delegate name) ≡ None → MayOwn n (unwrap_or (find name d) caller) row.excluded_owners
   named_owns name none = at (find name d) refl
     where
       out : excluded d row.excluded_owners (name ∷ []) ≡ None
-      out = no_fault (faults d m row (command.Delegate name)) none 2 (excluded d row.excluded_owners (name ∷ [])) refl
+      out = no_fault (faults d u.rows m row (command.Delegate name)) none 2 (excluded d row.excluded_owners (name ∷ [])) refl
 
       there : unknown_person d (name ∷ []) ≡ None
-      there = no_fault (faults d m row (command.Delegate name)) none 1 (unknown_person d (name ∷ [])) refl
+      there = no_fault (faults d u.rows m row (command.Delegate name)) none 1 (unknown_person d (name ∷ [])) refl
 
       at : (o : Option ℕ) → find name d ≡ o → MayOwn n (unwrap_or o caller) row.excluded_owners
       at None is = absurd (known_name d name there is)
@@ -270,15 +277,36 @@ module _ (u : TablesOf) (m : ModelOf) (caller : ℕ) (moment : Moment) (row : Ro
   not_named : (o : Op) (s : State) (persons p : ℕ) (others : List ℕ) → (o ≡ op.Delegate → ⊥) → IsNamed (changing s o).owner → MayOwn persons p others
   not_named o s persons p others other h = absurd (other (named_is_delegate s o h))
 
-  told_owns : (c : Command) → fault d m row c ≡ None → IsNamed (changing (prepared d m caller moment c row).state (op_of c)).owner → MayOwn n (named_owner d caller c) (prepared d m caller moment c row).excluded_owners
+  told_owns : (c : Command) → fault d u.rows m row c ≡ None → IsNamed (changing (prepared d m caller moment c row).state (op_of c)).owner → MayOwn n (named_owner d caller c) (prepared d m caller moment c row).excluded_owners
   told_owns (command.Delegate name) none h = named_owns name none
   told_owns (command.SetRole role names) none h = not_named op.SetRole (prepared d m caller moment (command.SetRole role names) row).state n caller _ (λ e. cc) h
   told_owns c none h = not_named (op_of c) row.state n caller _ (λ e. cc) h
 
   -- ---- the whole effect
 
-  moves_sound : (c : Command) → IsCommand c → verdict (op_of c) row.state (roles_in u row caller) ≡ Yes → fault d m row c ≡ None → IsSoundRow u (moved (op_of c) caller (named_owner d caller c) (prepared d m caller moment c row))
-  moves_sound c is may none = moved_sound u n caller (named_owner d caller c) (prepared d m caller moment c row) (prepared_sound c is none) (op_of c) (caller_owns c may) (told_owns c none)
+  -- a command whose first fault is that a task never has an owner is done on one that has
+  has_owner : (c : Command) → fault d u.rows m row c ≡ None → slice_get (faults d u.rows m row c) 0 ≡ Some (ownerless m) → needs_owner u.models row.model ≡ true
+  has_owner c none first = ap (λ (o : Option ModelOf). option_map_or (λ x. x.owner_required) o true) of_model ∙ required m.owner_required (no_fault (faults d u.rows m row c) none 0 (ownerless m) first)
+    where
+      required : (b : Bool) → told (not b) refusal.Ownerless ≡ None → b ≡ true
+      required true h = refl
+      required false h = cc
+
+  moves_sound : (c : Command) → IsCommand c → verdict (op_of c) row.state (roles_in u row caller) ≡ Yes → fault d u.rows m row c ≡ None → (serves_ownerless (op_of c) || needs_owner u.models (prepared d m caller moment c row).model) ≡ true → IsSoundRow u (moved (op_of c) caller (named_owner d caller c) (prepared d m caller moment c row))
+  moves_sound c is may none serves = moved_sound u n caller (named_owner d caller c) (prepared d m caller moment c row) (prepared_sound c is none) (op_of c) serves (caller_owns c may) (told_owns c none)
+
+  -- the row of a command that is no end
+  abbrev row_now : Command → Row
+  row_now c = moved_now (following c) (prepared d m caller moment c row) (moved (op_of c) caller (named_owner d caller c) (prepared d m caller moment c row))
+
+  now_sound : (c : Command) → IsCommand c → verdict (op_of c) row.state (roles_in u row caller) ≡ Yes → fault d u.rows m row c ≡ None → IsSoundRow u (row_now c)
+  now_sound command.Activate is may none = sound
+  now_sound command.Stop is may none = moves_sound command.Stop is may none (has_owner command.Stop none refl)
+  now_sound command.Release is may none = moves_sound command.Release is may none (has_owner command.Release none refl)
+  now_sound (command.Delegate name) is may none = moves_sound (command.Delegate name) is may none (has_owner (command.Delegate name) none refl)
+  now_sound (command.Forward names) is may none = moves_sound (command.Forward names) is may none (has_owner (command.Forward names) none refl)
+  now_sound (command.Nominate names) is may none = moves_sound (command.Nominate names) is may none (has_owner (command.Nominate names) none refl)
+  now_sound c is may none = moves_sound c is may none refl
 
   same_file : (c : Command) → filed_of (prepared d m caller moment c row) ≡ filed_of row
   same_file (command.SetRole list.PotentialOwners names) = refl
@@ -286,6 +314,23 @@ module _ (u : TablesOf) (m : ModelOf) (caller : ℕ) (moment : Moment) (row : Ro
   same_file (command.SetRole list.Administrators names) = refl
   same_file (command.SetRole list.Stakeholders names) = refl
   same_file c = refl
+
+  same_state : (c : Command) → (prepared d m caller moment c row).state ≡ row.state
+  same_state (command.SetRole list.PotentialOwners names) = refl
+  same_state (command.SetRole list.ExcludedOwners names) = refl
+  same_state (command.SetRole list.Administrators names) = refl
+  same_state (command.SetRole list.Stakeholders names) = refl
+  same_state c = refl
+
+  -- what a command itself changes is no end
+  final_before : (c : Command) → is_final row.state ≡ is_final (prepared d m caller moment c row).state
+  final_before c = ap is_final (sym (same_state c))
+
+  final_now : (c : Command) → ending (prepared d m caller moment c row).state (op_of c) ≡ None → is_final row.state ≡ is_final (row_now c).state
+  final_now command.Activate none = refl
+  final_now c none =
+      let before = prepared d m caller moment c row in
+      final_before c ∙ no_end before.state (op_of c) before.potential_owners none
 
   quiet : (c : Command) → Ends (following c)
   quiet command.Start = tt
@@ -299,25 +344,27 @@ module _ (u : TablesOf) (m : ModelOf) (caller : ℕ) (moment : Moment) (row : Ro
   follow_in (does r f) = f
   follow_in (refuses why) = follow.Nothing
 
-  left_by : (c : Command) (new : Row) (next : Follow) → IsCommand c → verdict (op_of c) row.state (roles_in u row caller) ≡ Yes → fault d m row c ≡ None → (o : Option State) → ending (prepared d m caller moment c row).state (op_of c) ≡ o → leaves d caller c (prepared d m caller moment c row) o ≡ does new next → IsMade u row new next
+  left_by : (c : Command) (new : Row) (next : Follow) → IsCommand c → verdict (op_of c) row.state (roles_in u row caller) ≡ Yes → fault d u.rows m row c ≡ None → (o : Option State) → ending (prepared d m caller moment c row).state (op_of c) ≡ o → leaves d caller c (prepared d m caller moment c row) o ≡ does new next → IsMade u row new next
   left_by c new next is may none None e h =
-      let R : Row → Type 0 = λ r. IsSoundRow u r × (filed_of r ≡ filed_of row) in
-      let made : R new = subst R (ap row_in h) (moves_sound c is may none, same_file c) in
+      let before = prepared d m caller moment c row in
+      let R : Row → Type 0 = λ r. IsSoundRow u r × (filed_of r ≡ filed_of row) × (is_final row.state ≡ is_final r.state) in
+      let file = same_file_now (following c) before (moved (op_of c) caller (named_owner d caller c) before) refl ∙ same_file c in
+      let made : R new = subst R (ap row_in h) (now_sound c is may none, file, final_now c e) in
       let F : Follow → Type 0 = λ f. Ends f in
-      record { sound = made.0; same = made.1; ends = subst F (ap follow_in h) (quiet c) }
+      record { sound = made.0; same = made.1; final = made.2; ends = subst F (ap follow_in h) (quiet c) }
   left_by c new next is may none (Some end) e h =
-      let R : Row → Type 0 = λ r. IsSoundRow u r × (filed_of r ≡ filed_of row) in
-      let made : R new = subst R (ap row_in h) (prepared_sound c is none, same_file c) in
+      let R : Row → Type 0 = λ r. IsSoundRow u r × (filed_of r ≡ filed_of row) × (is_final row.state ≡ is_final r.state) in
+      let made : R new = subst R (ap row_in h) (prepared_sound c is none, same_file c, final_before c) in
       let F : Follow → Type 0 = λ f. Ends f in
-      record { sound = made.0; same = made.1; ends = subst F (ap follow_in h) (ending_final (prepared d m caller moment c row).state (op_of c) end e) }
+      record { sound = made.0; same = made.1; final = made.2; ends = subst F (ap follow_in h) (ending_final (prepared d m caller moment c row).state (op_of c) end e) }
 
-  pub effect_makes : (c : Command) (new : Row) (next : Follow) → IsCommand c → verdict (op_of c) row.state (roles_in u row caller) ≡ Yes → effect d m caller moment c row ≡ does new next → IsMade u row new next
-  effect_makes c new next is may done = first (fault d m row c) refl done
+  pub effect_makes : (c : Command) (new : Row) (next : Follow) → IsCommand c → verdict (op_of c) row.state (roles_in u row caller) ≡ Yes → effect d u.rows m caller moment c row ≡ does new next → IsMade u row new next
+  effect_makes c new next is may done = first (fault d u.rows m row c) refl done
     where
-      second : (o : Option Refusal) → fault d m row c ≡ None → unless o (leaves d caller c (prepared d m caller moment c row) (ending (prepared d m caller moment c row).state (op_of c))) ≡ does new next → IsMade u row new next
+      second : (o : Option Refusal) → fault d u.rows m row c ≡ None → unless o (leaves d caller c (prepared d m caller moment c row) (ending (prepared d m caller moment c row).state (op_of c))) ≡ does new next → IsMade u row new next
       second (Some why) none h = cc
       second None none h = left_by c new next is may none (ending (prepared d m caller moment c row).state (op_of c)) refl h
 
-      first : (o : Option Refusal) → fault d m row c ≡ o → unless o (prepared_leaves d m caller c (prepared d m caller moment c row)) ≡ does new next → IsMade u row new next
+      first : (o : Option Refusal) → fault d u.rows m row c ≡ o → unless o (prepared_leaves d m caller c (prepared d m caller moment c row)) ≡ does new next → IsMade u row new next
       first (Some why) e h = cc
       first None none h = second (no_output m (prepared d m caller moment c row) c) none h

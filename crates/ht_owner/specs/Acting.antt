@@ -37,7 +37,7 @@ pub record Makes (t : TablesOf) (old new : PlanOf) (task caller : ℕ) (at : Mom
   pub after : Row
   pub there : task_row (planned t old) task ≡ Some before
   pub of_model : model_of (planned t old) before ≡ Some model
-  pub effect_is : effect (directory t) model caller at command before ≡ does after follow
+  pub effect_is : effect (directory t) (planned t old).rows model caller at command before ≡ does after follow
   pub ends : Ends follow
   pub goes : Goes t old new (planned t old) (with_row (planned t old) after)
   pub sound : KeepsSound (planned t old) (with_row (planned t old) after)
@@ -49,7 +49,7 @@ pub record Refuses (t : TablesOf) (old new : PlanOf) (task caller : ℕ) (at : M
   pub model : ModelOf
   pub there : task_row (planned t old) task ≡ Some before
   pub of_model : model_of (planned t old) before ≡ Some model
-  pub effect_is : effect (directory t) model caller at command before ≡ refuses refusal
+  pub effect_is : effect (directory t) (planned t old).rows model caller at command before ≡ refuses refusal
   pub same : new ≡ old
 
 abbrev pub Acts : TablesOf → PlanOf → PlanOf → ℕ → ℕ → Moment → Command → Result Follow ActRefusal → Type 0

@@ -82,12 +82,20 @@ named_owner d caller _ = caller
 
 abbrev pub following : Command → Follow
 following command.Start = follow.Began
+following command.Activate = follow.Activate
+following command.Suspend = follow.Held
+following command.Resume = follow.Freed
 following _ = follow.Nothing
 
--- an end is still to come, and everything else is as the table of changes says
+-- where an activation is still to come the row as it was, and else as it is moved
+abbrev pub moved_now : Follow → Row → Row → Row
+moved_now follow.Activate old new = old
+moved_now _ old new = new
+
+-- an end and an activation are still to come, and everything else is as the table of changes says
 abbrev pub leaves : DirectoryOf → ℕ → Command → Row → Option State → Effect
 leaves d caller c row (Some end) = does row (follow.Close end)
-leaves d caller c row None = does (moved (op_of c) caller (named_owner d caller c) row) (following c)
+leaves d caller c row None = does (moved_now (following c) row (moved (op_of c) caller (named_owner d caller c) row)) (following c)
 
 abbrev pub unless : Option Refusal → Effect → Effect
 unless None e = e
@@ -97,9 +105,9 @@ unless (Some why) e = refuses why
 abbrev pub prepared_leaves : DirectoryOf → ModelOf → ℕ → Command → Row → Effect
 prepared_leaves d m caller c row = unless (no_output m row c) (leaves d caller c row (ending row.state (op_of c)))
 
--- of a caller's command at a moment on a task of this model
-abbrev pub effect : DirectoryOf → ModelOf → ℕ → Moment → Command → Row → Effect
-effect d m caller at c row = unless (fault d m row c) (prepared_leaves d m caller c (prepared d m caller at c row))
+-- of a caller's command at a moment on a task of this model, among the rows of all tasks
+abbrev pub effect : DirectoryOf → List Row → ModelOf → ℕ → Moment → Command → Row → Effect
+effect d rows m caller at c row = unless (fault d rows m row c) (prepared_leaves d m caller c (prepared d m caller at c row))
 
 -- what is answered is what comes of it
 abbrev pub Gives : Effect → Result (Row × Follow) ActRefusal → Type 0

@@ -1,5 +1,6 @@
 -- Worked examples of rows that operations move. A wrong reading of one fails the check.
 use Rattle.std.specs.Prelude.{◌≡◌, refl, ℕ, List, replicate, [], ◌∷◌, Some, None, codes, true, false}
+use Rattle.ht_base.specs.declared.event.Command.{Command}
 use Rattle.ht_base.specs.declared.event.Command.TheVariants as command
 use Rattle.ht_base.specs.declared.kind.Kind.TheVariants as kind
 use Rattle.ht_base.specs.declared.moment.Moment.{Moment}
@@ -12,12 +13,15 @@ use Rattle.ht_base.specs.declared.scalar.Scalar.{Scalar}
 use Rattle.ht_base.specs.declared.scalar.Scalar.TheVariants as scalar
 use Rattle.ht_base.specs.declared.state.State.TheVariants as state
 use Rattle.ht_base.specs.declared.value.Value.TheVariants as values
-use Rattle.ht_expr.specs.Assignments.{user}
+use Rattle.ht_expr.specs.declared.node.Count.TheVariants.{Done}
+use Rattle.ht_expr.specs.declared.operator.Operator.TheVariants as operator
+use Rattle.ht_expr.specs.Trees.{binary, count, integer, nobody, user, when}
 use Rattle.ht_models.specs.declared.choices.Delegation.TheVariants as delegation
 use Rattle.ht_models.specs.Model.{ModelOf}
 use Rattle.ht_models.specs.Parts.{part}
-use Rattle.ht_owner.specs.declared.follow.Follow.TheVariants.{Began, Close, Nothing}
-use Rattle.ht_owner.specs.Effects.{does, effect, refuses}
+use Rattle.ht_owner.specs.declared.follow.Follow.TheVariants as follow
+use Rattle.ht_owner.specs.declared.follow.Follow.TheVariants.{Began, Close, Freed, Held, Nothing}
+use Rattle.ht_owner.specs.Effects.{Effect, does, effect, refuses}
 use Rattle.ht_owner.specs.Moving.{moved}
 use Rattle.ht_tree.specs.declared.comments.Comment.{Comment}
 use Rattle.ht_tree.specs.declared.row.Row.{Row}
@@ -45,75 +49,103 @@ held = record reserved { state = state.SuspendedReserved; until = Some (at 9000)
 abbrev started : Row
 started = record reserved { state = state.InProgress }
 
-a_claim : effect office unit 0 (at 2000) command.Claim ready ≡ does reserved Nothing
+-- what comes of a caller's command on the only task
+abbrev comes : ModelOf → ℕ → Command → Row → Effect
+comes m caller c row = effect office (row ∷ []) m caller (at 2000) c row
+
+a_claim : comes unit 0 command.Claim ready ≡ does reserved Nothing
 a_claim = refl
 
-a_start : effect office unit 1 (at 2000) command.Start ready ≡ does (record ready { state = state.InProgress; owner = Some 1 }) Began
+a_start : comes unit 1 command.Start ready ≡ does (record ready { state = state.InProgress; owner = Some 1 }) Began
 a_start = refl
 
-a_stop : effect office unit 0 (at 2000) command.Stop started ≡ does reserved Nothing
+a_stop : comes unit 0 command.Stop started ≡ does reserved Nothing
 a_stop = refl
 
-without_an_owner : effect office (record unit { owner_required = false }) 0 (at 2000) command.Stop started ≡ refuses refusal.Ownerless
+without_an_owner : comes (record unit { owner_required = false }) 0 command.Stop started ≡ refuses refusal.Ownerless
 without_an_owner = refl
 
-a_delegation_adds : effect office unit 0 (at 2000) (command.Delegate (codes "cora")) reserved ≡ does (record reserved { owner = Some 2; potential_owners = 0 ∷ 1 ∷ 2 ∷ [] }) Nothing
+a_delegation_adds : comes unit 0 (command.Delegate (codes "cora")) reserved ≡ does (record reserved { owner = Some 2; potential_owners = 0 ∷ 1 ∷ 2 ∷ [] }) Nothing
 a_delegation_adds = refl
 
-to_a_stranger : effect office unit 0 (at 2000) (command.Delegate (codes "eve")) reserved ≡ refuses (refusal.Unknown (unknown.Person (codes "eve")))
+to_a_stranger : comes unit 0 (command.Delegate (codes "eve")) reserved ≡ refuses (refusal.Unknown (unknown.Person (codes "eve")))
 to_a_stranger = refl
 
-to_nobody : effect office (record unit { delegation = delegation.Nobody }) 0 (at 2000) (command.Delegate (codes "ben")) reserved ≡ refuses (refusal.NotDelegatee (codes "ben"))
+to_nobody : comes (record unit { delegation = delegation.Nobody }) 0 (command.Delegate (codes "ben")) reserved ≡ refuses (refusal.NotDelegatee (codes "ben"))
 to_nobody = refl
 
 -- an excluded owner is told before one who is no delegatee
-excluded_first : effect office (record unit { delegation = delegation.Nobody }) 0 (at 2000) (command.Delegate (codes "cora")) (record reserved { excluded_owners = 2 ∷ [] }) ≡ refuses (refusal.Excluded (codes "cora"))
+excluded_first : comes (record unit { delegation = delegation.Nobody }) 0 (command.Delegate (codes "cora")) (record reserved { excluded_owners = 2 ∷ [] }) ≡ refuses (refusal.Excluded (codes "cora"))
 excluded_first = refl
 
 abbrev to_cora : ModelOf
 to_cora = record unit { delegation = delegation.Other; delegatees = Some (user (codes "cora")) }
 
-to_no_delegatee : effect office to_cora 0 (at 2000) (command.Delegate (codes "ben")) reserved ≡ refuses (refusal.NotDelegatee (codes "ben"))
+to_no_delegatee : comes to_cora 0 (command.Delegate (codes "ben")) reserved ≡ refuses (refusal.NotDelegatee (codes "ben"))
 to_no_delegatee = refl
 
+-- to cora once a sub task is completed
+abbrev to_cora_after_one : ModelOf
+to_cora_after_one = record to_cora { delegatees = Some (when (binary operator.Less (integer 0) (count Done)) (user (codes "cora")) nobody) }
+
+abbrev completed_below : ℕ → Row
+completed_below parent = record reserved { task = record { 0 = 9 }; parent = Some (record { 0 = parent }, 0); state = state.Completed; owner = None }
+
+to_cora_too_early : comes to_cora_after_one 0 (command.Delegate (codes "cora")) reserved ≡ refuses (refusal.NotDelegatee (codes "cora"))
+to_cora_too_early = refl
+
+after_a_sub_task : effect office (reserved ∷ completed_below 1 ∷ []) to_cora_after_one 0 (at 2000) (command.Delegate (codes "cora")) reserved ≡ does (record reserved { owner = Some 2; potential_owners = 0 ∷ 1 ∷ 2 ∷ [] }) Nothing
+after_a_sub_task = refl
+
+after_another_sub_task : effect office (reserved ∷ completed_below 2 ∷ []) to_cora_after_one 0 (at 2000) (command.Delegate (codes "cora")) reserved ≡ refuses (refusal.NotDelegatee (codes "cora"))
+after_another_sub_task = refl
+
 -- the owner hands it on, and then has nothing to do with it
-a_forward : effect office unit 0 (at 2000) (command.Forward (codes "cora" ∷ [])) started ≡ does (record ready { potential_owners = 1 ∷ 2 ∷ [] }) Nothing
+a_forward : comes unit 0 (command.Forward (codes "cora" ∷ [])) started ≡ does (record ready { potential_owners = 1 ∷ 2 ∷ [] }) Nothing
 a_forward = refl
 
 -- of a ready task the caller does
-a_forward_of_a_ready_task : effect office unit 1 (at 2000) (command.Forward (codes "cora" ∷ [])) ready ≡ does (record ready { potential_owners = 0 ∷ 2 ∷ [] }) Nothing
+a_forward_of_a_ready_task : comes unit 1 (command.Forward (codes "cora" ∷ [])) ready ≡ does (record ready { potential_owners = 0 ∷ 2 ∷ [] }) Nothing
 a_forward_of_a_ready_task = refl
 
-by_group_first : effect office unit 0 (at 2000) (command.Forward (codes "eve" ∷ [])) (record reserved { by_group = true }) ≡ refuses refusal.ByGroup
+by_group_first : comes unit 0 (command.Forward (codes "eve" ∷ [])) (record reserved { by_group = true }) ≡ refuses refusal.ByGroup
 by_group_first = refl
 
-a_nomination_of_two : effect office unit 4 (at 2000) (command.Nominate (codes "cora" ∷ codes "ben" ∷ [])) (record waiting { by_group = true }) ≡ does (record ready { potential_owners = 1 ∷ 2 ∷ [] }) Nothing
+a_nomination_of_two : comes unit 4 (command.Nominate (codes "cora" ∷ codes "ben" ∷ [])) (record waiting { by_group = true }) ≡ does (record ready { potential_owners = 1 ∷ 2 ∷ [] }) Nothing
 a_nomination_of_two = refl
 
-nobody_to_activate_for : effect office unit 4 (at 2000) command.Activate (record waiting { potential_owners = [] }) ≡ refuses refusal.NoOwners
+nobody_to_activate_for : comes unit 4 command.Activate (record waiting { potential_owners = [] }) ≡ refuses refusal.NoOwners
 nobody_to_activate_for = refl
 
+-- the task waits on: its activation is still to come
+an_activation_to_come : comes unit 4 command.Activate waiting ≡ does waiting follow.Activate
+an_activation_to_come = refl
+
+-- nobody need be a potential owner of a task that never has an owner
+an_activation_for_nobody : comes (record unit { owner_required = false }) 4 command.Activate (record waiting { potential_owners = [] }) ≡ does (record waiting { potential_owners = [] }) follow.Activate
+an_activation_for_nobody = refl
+
 -- whoever is excluded is no potential owner any more
-an_exclusion : effect office unit 2 (at 2000) (command.SetRole list.ExcludedOwners (codes "ben" ∷ [])) reserved ≡ does (record reserved { excluded_owners = 1 ∷ []; potential_owners = 0 ∷ [] }) Nothing
+an_exclusion : comes unit 2 (command.SetRole list.ExcludedOwners (codes "ben" ∷ [])) reserved ≡ does (record reserved { excluded_owners = 1 ∷ []; potential_owners = 0 ∷ [] }) Nothing
 an_exclusion = refl
 
-the_owner_excluded : effect office unit 2 (at 2000) (command.SetRole list.ExcludedOwners (codes "ben" ∷ codes "anna" ∷ [])) reserved ≡ refuses (refusal.Excluded (codes "anna"))
+the_owner_excluded : comes unit 2 (command.SetRole list.ExcludedOwners (codes "ben" ∷ codes "anna" ∷ [])) reserved ≡ refuses (refusal.Excluded (codes "anna"))
 the_owner_excluded = refl
 
 -- the state stays, whoever may own it
-others_may_own : effect office unit 2 (at 2000) (command.SetRole list.PotentialOwners (codes "dan" ∷ [])) (record reserved { by_group = true }) ≡ does (record reserved { potential_owners = 3 ∷ [] }) Nothing
+others_may_own : comes unit 2 (command.SetRole list.PotentialOwners (codes "dan" ∷ [])) (record reserved { by_group = true }) ≡ does (record reserved { potential_owners = 3 ∷ [] }) Nothing
 others_may_own = refl
 
-another_priority : effect office unit 2 (at 2000) (command.SetPriority 0) reserved ≡ does (record reserved { priority = 0 }) Nothing
+another_priority : comes unit 2 (command.SetPriority 0) reserved ≡ does (record reserved { priority = 0 }) Nothing
 another_priority = refl
 
 -- ---- suspensions
 
-a_suspension : effect office unit 0 (at 2000) command.Suspend started ≡ does (record started { state = state.SuspendedInProgress }) Nothing
+a_suspension : comes unit 0 command.Suspend started ≡ does (record started { state = state.SuspendedInProgress }) Held
 a_suspension = refl
 
 -- it goes on in the state before, and has no end of its suspension
-a_resumption : effect office unit 0 (at 2000) command.Resume held ≡ does reserved Nothing
+a_resumption : comes unit 0 command.Resume held ≡ does reserved Freed
 a_resumption = refl
 
 -- ---- the output
@@ -132,46 +164,46 @@ yes = (codes "vote", scalar.Text (codes "yes"))
 abbrev voted : Row
 voted = record started { output = (codes "vote", values.Text (codes "yes")) ∷ [] }
 
-an_output : effect office ballot 0 (at 2000) (command.SetOutput (yes ∷ [])) started ≡ does voted Nothing
+an_output : comes ballot 0 (command.SetOutput (yes ∷ [])) started ≡ does voted Nothing
 an_output = refl
 
 -- what isn't given stays, and what is given again is replaced
-an_output_again : effect office ballot 0 (at 2000) (command.SetOutput ((codes "vote", scalar.Text (codes "no")) ∷ (codes "witness", scalar.Text (codes "ben")) ∷ [])) (record started { output = (codes "agreed", values.Truth true) ∷ (codes "vote", values.Text (codes "yes")) ∷ [] }) ≡ does (record started { output = (codes "agreed", values.Truth true) ∷ (codes "vote", values.Text (codes "no")) ∷ (codes "witness", values.Person 1) ∷ [] }) Nothing
+an_output_again : comes ballot 0 (command.SetOutput ((codes "vote", scalar.Text (codes "no")) ∷ (codes "witness", scalar.Text (codes "ben")) ∷ [])) (record started { output = (codes "agreed", values.Truth true) ∷ (codes "vote", values.Text (codes "yes")) ∷ [] }) ≡ does (record started { output = (codes "agreed", values.Truth true) ∷ (codes "vote", values.Text (codes "no")) ∷ (codes "witness", values.Person 1) ∷ [] }) Nothing
 an_output_again = refl
 
 -- a part of the input is none of the output
-an_output_of_the_input : effect office ballot 0 (at 2000) (command.SetOutput ((codes "question", scalar.Text (codes "why")) ∷ yes ∷ [])) started ≡ refuses (refusal.PartRefused (codes "question"))
+an_output_of_the_input : comes ballot 0 (command.SetOutput ((codes "question", scalar.Text (codes "why")) ∷ yes ∷ [])) started ≡ refuses (refusal.PartRefused (codes "question"))
 an_output_of_the_input = refl
 
-another_kind : effect office ballot 0 (at 2000) (command.SetOutput ((codes "vote", scalar.Truth true) ∷ [])) started ≡ refuses (refusal.PartRefused (codes "vote"))
+another_kind : comes ballot 0 (command.SetOutput ((codes "vote", scalar.Truth true) ∷ [])) started ≡ refuses (refusal.PartRefused (codes "vote"))
 another_kind = refl
 
 -- ---- ends
 
 -- the first in the order of the model, which is not that of the bytes
-nothing_set : effect office ballot 0 (at 2000) (command.Complete []) started ≡ refuses (refusal.NoOutput (codes "vote"))
+nothing_set : comes ballot 0 (command.Complete []) started ≡ refuses (refusal.NoOutput (codes "vote"))
 nothing_set = refl
 
-one_set : effect office ballot 0 (at 2000) (command.Complete (yes ∷ [])) started ≡ refuses (refusal.NoOutput (codes "agreed"))
+one_set : comes ballot 0 (command.Complete (yes ∷ [])) started ≡ refuses (refusal.NoOutput (codes "agreed"))
 one_set = refl
 
-another_kind_first : effect office ballot 0 (at 2000) (command.Complete ((codes "witness", scalar.Text (codes "eve")) ∷ [])) started ≡ refuses (refusal.PartRefused (codes "witness"))
+another_kind_first : comes ballot 0 (command.Complete ((codes "witness", scalar.Text (codes "eve")) ∷ [])) started ≡ refuses (refusal.PartRefused (codes "witness"))
 another_kind_first = refl
 
 -- its output is set, and then it is to end
-a_completion : effect office ballot 0 (at 2000) (command.Complete ((codes "agreed", scalar.Truth false) ∷ [])) voted ≡ does (record voted { output = (codes "agreed", values.Truth false) ∷ (codes "vote", values.Text (codes "yes")) ∷ [] }) (Close state.Completed)
+a_completion : comes ballot 0 (command.Complete ((codes "agreed", scalar.Truth false) ∷ [])) voted ≡ does (record voted { output = (codes "agreed", values.Truth false) ∷ (codes "vote", values.Text (codes "yes")) ∷ [] }) (Close state.Completed)
 a_completion = refl
 
-a_failure : effect office ballot 0 (at 2000) (command.Fail (Some (codes "torn"))) started ≡ does (record started { fault = Some (codes "torn") }) (Close state.Failed)
+a_failure : comes ballot 0 (command.Fail (Some (codes "torn"))) started ≡ does (record started { fault = Some (codes "torn") }) (Close state.Failed)
 a_failure = refl
 
-a_skip : effect office (record ballot { skipable = true }) 3 (at 2000) command.Skip waiting ≡ does waiting (Close state.Obsolete)
+a_skip : comes (record ballot { skipable = true }) 3 command.Skip waiting ≡ does waiting (Close state.Obsolete)
 a_skip = refl
 
-no_skip : effect office ballot 3 (at 2000) command.Skip waiting ≡ refuses refusal.NotSkipable
+no_skip : comes ballot 3 command.Skip waiting ≡ refuses refusal.NotSkipable
 no_skip = refl
 
-an_exit : effect office ballot 4 (at 2000) command.Exit held ≡ does held (Close state.Exited)
+an_exit : comes ballot 4 command.Exit held ≡ does held (Close state.Exited)
 an_exit = refl
 
 -- ---- comments
@@ -180,10 +212,10 @@ abbrev well : Comment
 well = record { moment = at 2000; person = 3; text = codes "well" }
 
 -- of an ended task too
-a_comment : effect office unit 3 (at 2000) (command.AddComment (codes "well")) (record ready { state = state.Completed; comments = well ∷ [] }) ≡ does (record ready { state = state.Completed; comments = well ∷ well ∷ [] }) Nothing
+a_comment : comes unit 3 (command.AddComment (codes "well")) (record ready { state = state.Completed; comments = well ∷ [] }) ≡ does (record ready { state = state.Completed; comments = well ∷ well ∷ [] }) Nothing
 a_comment = refl
 
-thirty_three_comments : effect office unit 3 (at 2000) (command.AddComment (codes "well")) (record ready { comments = replicate 32 well }) ≡ refuses (refusal.Limit Comments)
+thirty_three_comments : comes unit 3 (command.AddComment (codes "well")) (record ready { comments = replicate 32 well }) ≡ refuses (refusal.Limit Comments)
 thirty_three_comments = refl
 
 -- ---- moves

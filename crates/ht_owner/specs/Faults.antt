@@ -23,7 +23,7 @@ use Rattle.ht_people.specs.Directory as people
 use Rattle.ht_people.specs.Directory.{DirectoryOf}
 use Rattle.ht_tree.specs.declared.row.Row.{Row}
 use Rattle.ht_tree.specs.Assigning.{resolved}
-use Rattle.ht_tree.specs.Creating.{seen}
+use Rattle.ht_tree.specs.Creating.{seen_in}
 use Rattle.ht_tree.specs.Giving.{refused_part}
 
 -- ---- each fault
@@ -62,15 +62,15 @@ is_owner d owner name = option_map_or (λ p. is_this p owner) (people.find name 
 abbrev pub owned : DirectoryOf → Option ℕ → List (List ℕ) → Option Refusal
 owned d owner names = option_map refusal.Excluded (find (is_owner d owner) names)
 
--- the task may be delegated to this person, by its model
-abbrev pub may_delegate : DirectoryOf → ModelOf → Row → ℕ → Delegation → Bool
-may_delegate d m row person delegation.Anybody = true
-may_delegate d m row person delegation.Nobody = false
-may_delegate d m row person delegation.PotentialOwners = has person row.potential_owners
-may_delegate d m row person delegation.Other = option_map_or (λ a. has person (resolved d (seen m row) a)) m.delegatees false
+-- the task may be delegated to this person, by its model, whose assignment sees the task among all rows
+abbrev pub may_delegate : DirectoryOf → List Row → ModelOf → Row → ℕ → Delegation → Bool
+may_delegate d rows m row person delegation.Anybody = true
+may_delegate d rows m row person delegation.Nobody = false
+may_delegate d rows m row person delegation.PotentialOwners = has person row.potential_owners
+may_delegate d rows m row person delegation.Other = option_map_or (λ a. has person (resolved d (seen_in m rows row) a)) m.delegatees false
 
-abbrev pub not_delegatee : DirectoryOf → ModelOf → Row → List ℕ → Option Refusal
-not_delegatee d m row name = option_map_or (λ p. told (not (may_delegate d m row p m.delegation)) (refusal.NotDelegatee name)) (people.find name d) None
+abbrev pub not_delegatee : DirectoryOf → List Row → ModelOf → Row → List ℕ → Option Refusal
+not_delegatee d rows m row name = option_map_or (λ p. told (not (may_delegate d rows m row p m.delegation)) (refusal.NotDelegatee name)) (people.find name d) None
 
 -- the part that the model doesn't declare of the output, or of whose kind the value isn't
 abbrev pub output_refused : DirectoryOf → ModelOf → Parts → Option Refusal
@@ -92,35 +92,35 @@ role_faults d m row names list.ExcludedOwners = unknown_person d names ∷ owned
 role_faults d m row names list.Administrators = unknown_person d names ∷ []
 role_faults d m row names list.Stakeholders = unknown_person d names ∷ []
 
-abbrev pub faults : DirectoryOf → ModelOf → Row → Command → List (Option Refusal)
-faults d m row (command.Create model input) = []
-faults d m row command.Claim = []
-faults d m row command.Start = []
-faults d m row command.Stop = ownerless m ∷ []
-faults d m row command.Release = ownerless m ∷ []
-faults d m row (command.Delegate name) = ownerless m ∷ unknown_person d (name ∷ []) ∷ excluded d row.excluded_owners (name ∷ []) ∷ not_delegatee d m row name ∷ []
-faults d m row (command.Forward names) = ownerless m ∷ by_group row ∷ unknown_person d names ∷ excluded d row.excluded_owners names ∷ []
-faults d m row (command.Nominate names) = ownerless m ∷ unknown_person d names ∷ excluded d row.excluded_owners names ∷ []
-faults d m row command.Activate = no_owners m row ∷ []
-faults d m row (command.SetRole role names) = role_faults d m row names role
-faults d m row (command.SetPriority priority) = []
-faults d m row command.Suspend = []
-faults d m row command.Resume = []
-faults d m row (command.SetOutput output) = output_refused d m output ∷ []
-faults d m row (command.Complete output) = output_refused d m output ∷ []
-faults d m row (command.Fail name) = []
-faults d m row command.Skip = not_skipable m ∷ []
-faults d m row command.Exit = []
-faults d m row command.Error = []
-faults d m row (command.AddComment text) = fully_commented row ∷ []
+abbrev pub faults : DirectoryOf → List Row → ModelOf → Row → Command → List (Option Refusal)
+faults d rows m row (command.Create model input) = []
+faults d rows m row command.Claim = []
+faults d rows m row command.Start = []
+faults d rows m row command.Stop = ownerless m ∷ []
+faults d rows m row command.Release = ownerless m ∷ []
+faults d rows m row (command.Delegate name) = ownerless m ∷ unknown_person d (name ∷ []) ∷ excluded d row.excluded_owners (name ∷ []) ∷ not_delegatee d rows m row name ∷ []
+faults d rows m row (command.Forward names) = ownerless m ∷ by_group row ∷ unknown_person d names ∷ excluded d row.excluded_owners names ∷ []
+faults d rows m row (command.Nominate names) = ownerless m ∷ unknown_person d names ∷ excluded d row.excluded_owners names ∷ []
+faults d rows m row command.Activate = no_owners m row ∷ []
+faults d rows m row (command.SetRole role names) = role_faults d m row names role
+faults d rows m row (command.SetPriority priority) = []
+faults d rows m row command.Suspend = []
+faults d rows m row command.Resume = []
+faults d rows m row (command.SetOutput output) = output_refused d m output ∷ []
+faults d rows m row (command.Complete output) = output_refused d m output ∷ []
+faults d rows m row (command.Fail name) = []
+faults d rows m row command.Skip = not_skipable m ∷ []
+faults d rows m row command.Exit = []
+faults d rows m row command.Error = []
+faults d rows m row (command.AddComment text) = fully_commented row ∷ []
 
 abbrev pub first_fault : List (Option Refusal) → Option Refusal
 first_fault [] = None
 first_fault (None ∷ fs) = first_fault fs
 first_fault (Some why ∷ fs) = Some why
 
-abbrev pub fault : DirectoryOf → ModelOf → Row → Command → Option Refusal
-fault d m row c = first_fault (faults d m row c)
+abbrev pub fault : DirectoryOf → List Row → ModelOf → Row → Command → Option Refusal
+fault d rows m row c = first_fault (faults d rows m row c)
 
 -- ---- behind what a command sets
 

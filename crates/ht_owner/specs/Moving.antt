@@ -1,7 +1,6 @@
 -- How an operation moves a task: its state and its owner by the table of changes
 -- (WS-HumanTask 1.1, 4.10).
 use Rattle.std.specs.Prelude.{ℕ, Bool, List, Option, Some, None, if◌then◌else◌}
-use Rattle.ht_base.specs.State.{contains_state}
 use Rattle.ht_base.specs.declared.operation.Op.{Op}
 use Rattle.ht_base.specs.declared.state.State.{State}
 use Rattle.ht_rules.specs.declared.changes.After.{After}
@@ -10,9 +9,9 @@ use Rattle.ht_rules.specs.declared.changes.Change.{Change}
 use Rattle.ht_rules.specs.declared.changes.OwnerAfter.{OwnerAfter}
 use Rattle.ht_rules.specs.declared.changes.OwnerAfter.TheVariants as owner
 use Rattle.ht_rules.specs.Changes.{changing}
-use Rattle.ht_rules.specs.States.{final}
 use Rattle.ht_tree.specs.declared.row.Row.{Row}
 use Rattle.ht_tree.specs.Activation.{owner_by, state_by}
+pub use Rattle.ht_tree.specs.Families.{is_final}
 use Rattle.ht_tree.specs.Soundness.{is_created, is_suspended}
 
 abbrev pub state_after : After → List ℕ → State → State
@@ -48,9 +47,6 @@ abbrev pub moved : Op → ℕ → ℕ → Row → Row
 moved op caller named row = changed (changing row.state op) caller named row
 
 -- ---- ends
-
-abbrev pub is_final : State → Bool
-is_final state = contains_state final state
 
 abbrev pub end_of : After → Option State
 end_of (after.To state) = if is_final state then Some state else None

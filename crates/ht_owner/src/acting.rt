@@ -12,8 +12,8 @@ use ht_tree::{Plan, Tables};
 use std::alloc::Global;
 
 /// Plans a caller's command on one task, which the table of who may do what allows, and tells what
-/// follows (WS-HumanTask 1.1, 7.1.1 "Participant operations"). The end of a task follows: until then
-/// its row has its state and its owner.
+/// follows (WS-HumanTask 1.1, 7.1.1 "Participant operations"). The end of a task follows, and its
+/// activation: until then its row has its state and its owner.
 ///
 /// `at` is the moment at which it acts, at most the last there is. A refusal leaves the plan as it
 /// was; after want of memory it may hold less or more, and the caller goes back to its mark.

@@ -4,8 +4,9 @@ ghost use Rattle.ht_models.specs.Kinded.{IsKinded};
 ghost use Rattle.ht_models.specs.Shown.{model_of};
 ghost use Rattle.ht_owner.specs.Effects as spec;
 ghost use Rattle.ht_owner.specs.Effects.{Gives};
-ghost use Rattle.ht_tree.specs.Plans.{IsPlanOf};
-ghost use Rattle.ht_tree.specs.Soundness.{Fits};
+ghost use Rattle.ht_owner.specs.Moving as moving;
+ghost use Rattle.ht_tree.specs.Plans.{IsPlanOf, planned};
+ghost use Rattle.ht_tree.specs.Soundness.{Fits, IsSound};
 ghost use Rattle.ht_tree.specs.Tables as tables_of;
 ghost use Rattle.ht_tree.specs.Tables.{directory};
 
@@ -13,7 +14,7 @@ use crate::faults::{fault, no_output};
 use crate::moving::{ending, moved};
 use crate::naming::{forwarded, persons_named, with_named, without_named};
 use crate::{ActRefusal, Follow};
-use ht_base::{Command, Memory, Moment, Name, Parts, Person, RoleList};
+use ht_base::{Command, Memory, Moment, Name, Op, Parts, Person, RoleList};
 use ht_models::Model;
 use ht_people::Directory;
 use ht_tree::{Comment, Plan, Row, Tables, values_given};
@@ -31,10 +32,11 @@ pub(crate) fn effect(
     row: Row,
 ) -> Result<(Row, Follow), ActRefusal>
     requires plan { IsPlanOf tables.now.tables plan.now }
+    requires sound { IsSound (planned tables.now.tables plan.now) }
     requires row { Fits tables.now.tables row }
     requires model { tables_of.model_of tables.now.tables row ≡ Some (model_of model.now) }
     requires kinds { IsKinded model.now }
-    ensures { Gives (spec.effect (directory tables.now.tables) (model_of model.now) caller at command.now row) result }
+    ensures { Gives (spec.effect (directory tables.now.tables) (planned tables.now.tables plan.now).rows (model_of model.now) caller at command.now row) result }
 {
     if let Some(refusal) = fault(alloc, tables, plan, model, &row, command)? {
         return Err(ActRefusal::Refused(refusal));
@@ -47,9 +49,20 @@ pub(crate) fn effect(
     match ending(row.state, command.op()) {
         Some(end) => Ok((row, Follow::Close(end))),
         None => {
+            let follow = following(command);
             let named = named_owner(people, caller, command);
-            Ok((moved(row, command.op(), caller, named), following(command)))
+            Ok((moved_now(follow, row, command.op(), caller, named), follow))
         }
+    }
+}
+
+// The row as the operation moves it, unless an activation follows.
+fn moved_now(follow: Follow, row: Row, op: Op, caller: Person, named: Person) -> Row
+    ensures { result ≡ spec.moved_now follow row (moving.moved op caller named row) }
+{
+    match follow {
+        Follow::Activate => row,
+        _ => moved(row, op, caller, named),
     }
 }
 
@@ -68,6 +81,9 @@ fn following(command: &Command) -> Follow
 {
     match command {
         Command::Start => Follow::Began,
+        Command::Activate => Follow::Activate,
+        Command::Suspend => Follow::Held,
+        Command::Resume => Follow::Freed,
         _ => Follow::Nothing,
     }
 }

@@ -2,8 +2,8 @@ ghost use Rattle.std.specs.Prelude.{◌≡◌, IfOk, Some};
 ghost use Rattle.ht_models.specs.Kinded.{IsKinded};
 ghost use Rattle.ht_models.specs.Shown.{model_of};
 ghost use Rattle.ht_owner.specs.Faults as spec;
-ghost use Rattle.ht_tree.specs.Plans.{IsPlanOf};
-ghost use Rattle.ht_tree.specs.Soundness.{Fits};
+ghost use Rattle.ht_tree.specs.Plans.{IsPlanOf, planned};
+ghost use Rattle.ht_tree.specs.Soundness.{Fits, IsSound};
 ghost use Rattle.ht_tree.specs.Tables as tables_of;
 ghost use Rattle.ht_tree.specs.Tables.{directory};
 
@@ -28,10 +28,11 @@ pub(crate) fn fault(
     command: &Command,
 ) -> Result<Option<Refusal>, Memory>
     requires plan { IsPlanOf tables.now.tables plan.now }
+    requires sound { IsSound (planned tables.now.tables plan.now) }
     requires row { Fits tables.now.tables row.now }
     requires model { tables_of.model_of tables.now.tables row.now ≡ Some (model_of model.now) }
     requires kinds { IsKinded model.now }
-    ensures { IfOk result (λ o. o ≡ spec.fault (directory tables.now.tables) (model_of model.now) row.now command.now) }
+    ensures { IfOk result (λ o. o ≡ spec.fault (directory tables.now.tables) (planned tables.now.tables plan.now).rows (model_of model.now) row.now command.now) }
 {
     let people = tables.people();
     let excluded_owners = &row.excluded_owners;
@@ -253,10 +254,11 @@ fn not_delegatee(
     name: Name,
 ) -> Result<Option<Refusal>, Memory>
     requires plan { IsPlanOf tables.now.tables plan.now }
+    requires sound { IsSound (planned tables.now.tables plan.now) }
     requires row { Fits tables.now.tables row.now }
     requires model { tables_of.model_of tables.now.tables row.now ≡ Some (model_of model.now) }
     requires kinds { IsKinded model.now }
-    ensures { IfOk result (λ o. o ≡ spec.not_delegatee (directory tables.now.tables) (model_of model.now) row.now name) }
+    ensures { IfOk result (λ o. o ≡ spec.not_delegatee (directory tables.now.tables) (planned tables.now.tables plan.now).rows (model_of model.now) row.now name) }
 {
     let Some(person) = tables.people().find(name) else {
         return Ok(None);
@@ -278,10 +280,11 @@ fn may_delegate(
     person: Person,
 ) -> Result<bool, Memory>
     requires plan { IsPlanOf tables.now.tables plan.now }
+    requires sound { IsSound (planned tables.now.tables plan.now) }
     requires row { Fits tables.now.tables row.now }
     requires model { tables_of.model_of tables.now.tables row.now ≡ Some (model_of model.now) }
     requires kinds { IsKinded model.now }
-    ensures { IfOk result (λ may. may ≡ spec.may_delegate (directory tables.now.tables) (model_of model.now) row.now person model.now.delegation) }
+    ensures { IfOk result (λ may. may ≡ spec.may_delegate (directory tables.now.tables) (planned tables.now.tables plan.now).rows (model_of model.now) row.now person model.now.delegation) }
 {
     match model.delegation {
         Delegation::Anybody => Ok(true),

@@ -66,7 +66,8 @@ pub(crate) const RESERVED_OR_IN_PROGRESS: StateSet = StateSet {
     ..RESERVED
 };
 
-pub(crate) const OPEN: StateSet = StateSet {
+/// The states of a task that is ready or worked on.
+pub const OPEN: StateSet = StateSet {
     ready: true,
     ..RESERVED_OR_IN_PROGRESS
 };

@@ -2,6 +2,7 @@
 use Rattle.std.proofs.Common.{◌≡◌, ℕ, Bool, if◌then◌else◌, Option, Some, ap, ◌∙◌, eq-eqb, arith}
 use Rattle.ht_base.specs.declared.task_id.TaskId.{TaskId}
 use Rattle.ht_tree.specs.declared.row.Row.{Row}
+use Rattle.ht_tree.specs.Families.{is_final}
 use Rattle.ht_tree.specs.Plans.{IsNext, Replaces}
 use Rattle.ht_tree.specs.Rows.{row_at}
 use Rattle.ht_tree.specs.Soundness.{IsSoundRow, KeepsSound}
@@ -19,8 +20,8 @@ pub record IsPutAgain (u : TablesOf) (task : ℕ) (row new : Row) : Type 0 where
   pub keeps : KeepsSound u (with_row u new)
   pub found : task_row (with_row u new) task ≡ Some new
 
-pub put_again_of : (u : TablesOf) (task : ℕ) (row new : Row) → task_row u task ≡ Some row → row.task.0 ≡ task → filed_of new ≡ filed_of row → (IsSoundRow u row → IsSoundRow u new) → IsPutAgain u task row new
-put_again_of u task row new there number filed sound_after =
+pub put_again_of : (u : TablesOf) (task : ℕ) (row new : Row) → task_row u task ≡ Some row → row.task.0 ≡ task → filed_of new ≡ filed_of row → is_final row.state ≡ is_final new.state → (IsSoundRow u row → IsSoundRow u new) → IsPutAgain u task row new
+put_again_of u task row new there number filed ends sound_after =
     let same : new.task.0 ≡ task = ap (λ f. f.0.0) filed ∙ number in
     let w = within u.rows row task there in
     let next : IsNext u.rows new = (let low = w.0 in omega arith, let high = w.1 in omega arith) in
@@ -28,6 +29,6 @@ put_again_of u task row new there number filed sound_after =
     record {
       number = same;
       next = next;
-      keeps = λ sound. put_sound u new sound (sound_after (sound.rows_sound task row there)) place;
+      keeps = λ sound. put_sound u new sound (sound_after (sound.rows_sound task row there)) place ends;
       found = row_at-put_in u.rows new task next ∙ ap (λ (b : Bool). if b then Some new else row_at task u.rows) (eq-eqb new.task.0 task same);
     }

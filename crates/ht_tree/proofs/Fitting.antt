@@ -4,6 +4,7 @@ use Rattle.std.specs.List.{range_with_len}
 use Rattle.std.specs.Prelude.{pos, negsuc, slice_get}
 use Rattle.std.specs.Option.{option_map_or}
 use Rattle.ht_base.specs.declared.moment.Moment.{Moment}
+use Rattle.ht_base.specs.declared.state.State.TheVariants.{Created}
 use Rattle.ht_base.specs.declared.task_id.TaskId.{TaskId}
 use Rattle.ht_base.specs.declared.values.Values.{Values}
 use Rattle.ht_expr.specs.Assignments.{Assignment}
@@ -19,7 +20,7 @@ use Rattle.ht_tree.specs.Places.{emptied, last_of, later_or}
 use Rattle.ht_tree.specs.Rows.{put_in, row_at}
 use Rattle.ht_base.specs.Persons.{AllBelow, Ascends}
 use Rattle.ht_base.specs.Moment.{last_moment}
-use Rattle.ht_tree.specs.Soundness.{AreKnown, Fits, FitsIn, IsFiled, IsHeldBy, IsSound, IsSoundIn, IsSoundRow}
+use Rattle.ht_tree.specs.Soundness.{AreKnown, Fits, FitsIn, IsFiled, IsHeldBy, IsSound, IsSoundIn, IsSoundRow, IsWhose, needs_owner}
 use Rattle.ht_tree.specs.Tables.{TablesOf, administrators_of, stakeholders_of, task_row}
 use Rattle.ht_tree.proofs.Putting.{row_at-put_in}
 use Rattle.ht_tree.proofs.Selecting.{selected_apart, selected_ascends}
@@ -145,27 +146,45 @@ new_row_fits t m model parent initiator input waits at known person below above 
   until = λ h. absurd cc;
 }
 
-role_ascends : (t : TablesOf) (s : Sight) (a : Option Assignment) → Ascends (role_or t.people s a [])
-role_ascends t s None = tt
-role_ascends t s (Some a) = selected_ascends (is_found t.people s a) (length t.people.persons)
+inherited_ascend : (lists : Row → List ℕ) (t : TablesOf) (s : Sight) (a : Option Assignment) (o : Option Row) → IfSome o (λ r. Ascends (lists r)) → Ascends (role_or t.people s a (option_map_or lists o []))
+inherited_ascend lists t s (Some a) o f = selected_ascends (is_found t.people s a) (length t.people.persons)
+inherited_ascend lists t s None None f = tt
+inherited_ascend lists t s None (Some r) f = f
 
--- of a top task
-pub new_row_sound : (t : TablesOf) (m : ModelOf) (model initiator : ℕ) (input : Values) (waits : Option Moment) (at : Moment) → model < length t.models → initiator < length t.people.persons → at.0 ≤ last_moment → IfSome waits (λ m. m.0 ≤ last_moment) → IsInput (length t.people.persons) (slice_get t.models model) input → IsSoundRow t (new_row t m model None initiator input waits at)
-new_row_sound t m model initiator input waits at known person early soon given = record {
-  filed = filed_below (length t.models) (length t.rows) model None known tt;
+-- a created task, which nobody owns
+nobody_owns : (persons : ℕ) (needs : Bool) (others : List ℕ) → IsWhose persons needs others Created None
+nobody_owns persons true others = record { owned = refl; ownerless = refl; known = tt; allowed = tt }
+nobody_owns persons false others = record { owned = refl; ownerless = refl; known = tt; allowed = tt }
+
+-- a parent is sound
+pub new_row_sound : (t : TablesOf) (m : ModelOf) (model : ℕ) (parent : Option (TaskId × ℕ)) (initiator : ℕ) (input : Values) (waits : Option Moment) (at : Moment) → model < length t.models → initiator < length t.people.persons → IfSome parent (λ p. (1 ≤ p.0.0) × (p.0.0 ≤ length t.rows)) → IfSome (parent_row t parent) (IsSoundRow t) → at.0 ≤ last_moment → IfSome waits (λ m. m.0 ≤ last_moment) → IsInput (length t.people.persons) (slice_get t.models model) input → IsSoundRow t (new_row t m model parent initiator input waits at)
+new_row_sound t m model parent initiator input waits at known person below above early soon given = record {
+  filed = filed_below (length t.models) (length t.rows) model parent known below;
   held = held_new (length t.people.persons) (slice_get t.models model) input given;
   who = record {
-    known = new_known t m (at_creation t m model None initiator input waits at) None initiator person tt;
+    known = new_known t m (at_creation t m model parent initiator input waits at) parent initiator person (fits (parent_row t parent) above);
     apart = selected_apart _ _ (length t.people.persons);
     potential_ascend = selected_ascends _ (length t.people.persons);
     excluded_ascend = selected_ascends _ (length t.people.persons);
-    administrators_ascend = role_ascends t (at_creation t m model None initiator input waits at) m.administrators;
-    stakeholders_ascend = role_ascends t (at_creation t m model None initiator input waits at) m.stakeholders;
+    administrators_ascend = inherited_ascend (administrators_of t) t (at_creation t m model parent initiator input waits at) m.administrators (parent_row t parent) (admins (parent_row t parent) above);
+    stakeholders_ascend = inherited_ascend (stakeholders_of t) t (at_creation t m model parent initiator input waits at) m.stakeholders (parent_row t parent) (holders (parent_row t parent) above);
   };
-  whose = record { owned = refl; known = tt; allowed = tt };
+  whose = nobody_owns (length t.people.persons) (needs_owner t.models model) _;
   when = record { waits = λ _. refl; until = λ h. absurd cc; created_within = early; waits_within = soon; until_within = tt };
   how = record { priority_within = level_low _; few = omega arith; known = no_comment _; moments_within = no_comment _; texts_within = no_comment _ };
 }
+  where
+    fits : (o : Option Row) → IfSome o (IsSoundRow t) → IfSome o (Fits t)
+    fits None f = tt
+    fits (Some r) f = sound_row_fits t.models (length t.people.persons) r f
+
+    admins : (o : Option Row) → IfSome o (IsSoundRow t) → IfSome o (λ r. Ascends r.administrators)
+    admins None f = tt
+    admins (Some r) f = (f.who).administrators_ascend
+
+    holders : (o : Option Row) → IfSome o (IsSoundRow t) → IfSome o (λ r. Ascends r.stakeholders)
+    holders None f = tt
+    holders (Some r) f = (f.who).stakeholders_ascend
 
 -- a row that is put fits
 pub put_fits : (t : TablesOf) (rows puts : List Row) (task : ℕ) (row : Row) → Follow t rows puts → last_of task puts ≡ Some row → Fits t row

@@ -1,10 +1,13 @@
 mod Activation
 mod Again
 mod Cloning
+mod Coming
 mod Counting
+mod Families
 mod Fitting
 mod HeldGiven
 mod Indexing
+mod Mapped
 mod PartsGiven
 mod Places
 mod Plain
@@ -18,3 +21,4 @@ mod Selecting
 mod Slots
 mod Sounding
 mod Steps
+mod SubTasks

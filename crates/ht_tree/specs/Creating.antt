@@ -1,5 +1,5 @@
 -- A new task (WS-HumanTask 1.1, 4.10): its roles by its model's assignments, and nothing done yet.
-use Rattle.std.specs.Prelude.{ℕ, ◌+◌, ◌<◌, min, pos, negsuc, false, not, List, [], length, Option, Some, None, IfSome}
+use Rattle.std.specs.Prelude.{ℕ, ◌+◌, ◌<◌, min, pos, negsuc, false, not, List, [], length, map, Option, Some, None, IfSome}
 use Rattle.std.specs.Option.{option_and_then, option_map_or}
 use Rattle.ht_base.specs.declared.moment.Moment.{Moment}
 use Rattle.ht_base.specs.declared.state.State.TheVariants.{Created}
@@ -14,6 +14,7 @@ use Rattle.ht_models.specs.Model.{ModelOf}
 use Rattle.ht_people.specs.Directory.{DirectoryOf}
 use Rattle.ht_tree.specs.declared.row.Row.{Row}
 use Rattle.ht_tree.specs.Assigning.{Sight, potential_owners, resolved, sight}
+use Rattle.ht_tree.specs.Families.{sub_tasks}
 use Rattle.ht_tree.specs.Soundness.{AreHeld}
 use Rattle.ht_tree.specs.Sizes.{most_tasks, size_of, total_size}
 use Rattle.ht_tree.specs.Tables.{TablesOf, administrators_of, directory, stakeholders_of, task_row}
@@ -64,12 +65,19 @@ bare_row task model parent initiator input waits at = record {
   comments = [];
 }
 
--- what expressions see of a row. It has no sub tasks yet
+-- what expressions see of a new row, which has no sub tasks
 abbrev pub env_of : Row → Env
 env_of row = record { input = row.input; output = row.output; priority = pos row.priority; initiator = row.initiator; subs = [] }
 
 abbrev pub seen : ModelOf → Row → Sight
 seen m row = sight (parts_of m.input m.output) (env_of row)
+
+-- what they see of a row among these rows: its sub tasks too, in the order of their numbers
+abbrev pub sees : List Row → Row → Env
+sees rows row = record (env_of row) { subs = map (λ s. (s.state, s.output)) (sub_tasks row.task.0 rows) }
+
+abbrev pub seen_in : ModelOf → List Row → Row → Sight
+seen_in m rows row = sight (parts_of m.input m.output) (sees rows row)
 
 -- with the priority that its model says
 abbrev pub with_priority : ModelOf → Row → Row

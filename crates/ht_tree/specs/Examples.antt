@@ -1,7 +1,7 @@
 -- Worked examples of the definitions. A wrong reading of one fails the check.
 use Rattle.std.specs.Prelude.{◌≡◌, refl, ℕ, ℤ, pos, List, [], ◌∷◌, Some, None, codes, true, false}
 use Rattle.ht_base.specs.declared.moment.Moment.{Moment}
-use Rattle.ht_base.specs.declared.state.State.TheVariants.{Ready}
+use Rattle.ht_base.specs.declared.state.State.TheVariants.{Completed, Created, InProgress, Ready}
 use Rattle.ht_base.specs.declared.kind.Kind.TheVariants as Kind
 use Rattle.ht_base.specs.declared.value.Value.TheVariants as values
 use Rattle.ht_base.specs.declared.values.Values.{Values}
@@ -16,7 +16,7 @@ use Rattle.ht_people.specs.declared.entries.PersonEntry.{PersonEntry}
 use Rattle.ht_people.specs.Directory.{DirectoryOf}
 use Rattle.ht_tree.specs.declared.row.Row.{Row}
 use Rattle.ht_tree.specs.Assigning.{Sight, potential_owners, resolved, sight}
-use Rattle.ht_tree.specs.Creating.{new_row, with_priority}
+use Rattle.ht_tree.specs.Creating.{new_row, sees, with_priority}
 use Rattle.ht_tree.specs.Roles.{roles_in}
 use Rattle.ht_tree.specs.Rows.{row_at}
 use Rattle.ht_tree.specs.Sizes.{total_size}
@@ -187,6 +187,25 @@ from_the_parent = refl
 
 by_a_group : (new_row nothing_yet unit 1 None 0 [] None (at 1000)).by_group ≡ true
 by_a_group = refl
+
+-- ---- what is seen of sub tasks
+
+-- a sub task of this parent, of this entry: two of the first task, and one of its sub task
+abbrev below : ℕ → ℕ → ℕ → Row
+below parent entry task = record first { task = record { 0 = task }; parent = Some (record { 0 = parent }, entry) }
+
+abbrev family : List Row
+family = first ∷ record (below 1 1 2) { state = InProgress } ∷ below 2 0 3 ∷ record (below 1 0 4) { state = Completed; output = (codes "vote", values.Truth true) ∷ [] } ∷ []
+
+-- in the order of their numbers, and not of their entries; what is below a sub task isn't among them
+two_sub_tasks : (sees family first).subs ≡ (InProgress, []) ∷ (Completed, (codes "vote", values.Truth true) ∷ []) ∷ []
+two_sub_tasks = refl
+
+one_sub_task : (sees family (below 1 1 2)).subs ≡ (Created, []) ∷ []
+one_sub_task = refl
+
+no_sub_tasks : (sees family (below 2 0 3)).subs ≡ []
+no_sub_tasks = refl
 
 -- ---- rows put into others
 

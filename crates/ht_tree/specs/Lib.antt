@@ -2,6 +2,7 @@ pub mod Activation
 pub mod Assigning
 pub mod Creating
 pub mod Examples
+pub mod Families
 pub mod Giving
 pub mod Kept
 pub mod KeptIndex

@@ -1,10 +1,11 @@
 -- What always holds of the tables: of each row, in groups by the fields that they speak of, and of
 -- all rows together.
-use Rattle.std.specs.Prelude.{◌≡◌, ℕ, ◌+◌, ◌<◌, ◌≤◌, nat_lt, Bool, true, false, ◌&&◌, List, length, slice_get, Option, Some, is_some, option_map, IsTrue, IfSome}
-use Rattle.std.specs.Option.{option_and_then}
+use Rattle.std.specs.Prelude.{◌≡◌, ℕ, ◌+◌, ◌<◌, ◌≤◌, nat_lt, Bool, true, false, ◌&&◌, ◌||◌, List, [], ◌∷◌, length, slice_get, Option, Some, is_some, IsTrue, IfSome}
+use Rattle.std.specs.Option.{option_map_or}
 use Rattle.std.specs.List.{All, AllByRecursion, list_all}
 use Rattle.ht_base.specs.declared.moment.Moment.{Moment}
 use Rattle.ht_base.specs.declared.state.State.{State}
+use Rattle.ht_base.specs.declared.state.State.TheVariants.{Created, InProgress, SuspendedInProgress, Completed, Failed, Error, Exited, Obsolete}
 use Rattle.ht_base.specs.declared.task_id.TaskId.{TaskId}
 use Rattle.ht_base.specs.declared.value.Value.{Value}
 use Rattle.ht_base.specs.declared.value.Value.TheVariants as values
@@ -19,9 +20,11 @@ use Rattle.ht_expr.specs.Environment.{may_be}
 use Rattle.ht_expr.specs.Kinds.{Declared, declared_kind}
 use Rattle.ht_models.specs.Kinded.{parts_of}
 use Rattle.ht_models.specs.Model.{ModelOf}
+use Rattle.ht_rules.specs.Sets.{states_of}
 use Rattle.ht_rules.specs.States.{created, owned, suspended}
 use Rattle.ht_tree.specs.declared.comments.Comment.{Comment}
 use Rattle.ht_tree.specs.declared.row.Row.{Row}
+use Rattle.ht_tree.specs.Families.{AreFamilies}
 use Rattle.ht_tree.specs.Rows.{row_at}
 use Rattle.ht_tree.specs.Sizes.{most_tasks, total_size}
 use Rattle.ht_tree.specs.Slots.{IsSoundSlot, slot_cmp}
@@ -73,9 +76,18 @@ pub record ArePeople (persons first : ℕ) (last : Option ℕ) (owners others ad
 
 -- ---- whose it is
 
-pub record IsWhose (persons : ℕ) (others : List ℕ) (state : State) (owner : Option ℕ) : Type 0 where
-  -- there is an actual owner exactly in the owned states (WS-HumanTask 1.1, 4.10)
-  pub owned : is_some owner ≡ is_owned state
+-- by its model the task has an owner, sooner or later
+abbrev pub needs_owner : List ModelOf → ℕ → Bool
+needs_owner models place = option_map_or (λ m. m.owner_required) (slice_get models place) true
+
+-- a task that never has one is only in these states
+abbrev pub is_ownerless : State → Bool
+is_ownerless state = contains_state (states_of (Created ∷ InProgress ∷ SuspendedInProgress ∷ Completed ∷ Failed ∷ Error ∷ Exited ∷ Obsolete ∷ [])) state
+
+pub record IsWhose (persons : ℕ) (needs : Bool) (others : List ℕ) (state : State) (owner : Option ℕ) : Type 0 where
+  -- there is an actual owner exactly in the owned states (WS-HumanTask 1.1, 4.10), if there ever is one
+  pub owned : is_some owner ≡ (needs && is_owned state)
+  pub ownerless : (needs || is_ownerless state) ≡ true
   pub known : IfSome owner (λ p. p < persons)
   -- an excluded owner is never owner (WS-HumanTask 1.1, 3.1)
   pub allowed : IfSome owner (λ p. has p others ≡ false)
@@ -141,7 +153,7 @@ pub record IsSoundIn (models : List ModelOf) (persons : ℕ) (row : Row) : Type 
   pub filed : IsFiled (length models) row.task row.parent row.model
   pub held : IsHeld models persons row.model row.input row.output row.taken
   pub who : ArePeople persons row.initiator row.last_owner row.potential_owners row.excluded_owners row.administrators row.stakeholders
-  pub whose : IsWhose persons row.excluded_owners row.state row.owner
+  pub whose : IsWhose persons (needs_owner models row.model) row.excluded_owners row.state row.owner
   pub when : IsTimed row.state row.created row.waits row.until
   pub how : IsNoted persons row.priority row.comments
 
@@ -162,31 +174,17 @@ pub record FitsIn (models : List ModelOf) (persons : ℕ) (row : Row) : Type 0 w
 abbrev pub Fits : TablesOf → Row → Type 0
 Fits t row = FitsIn t.models (length t.people.persons) row
 
--- ---- a sub task is of the model that its parent's model says
-
--- the name of the model of the sub tasks of an entry, by its place
-abbrev pub model_of_entry : List ModelOf → ℕ → ℕ → Option (List ℕ)
-model_of_entry models place entry = option_map (λ e. e.model) (option_and_then (λ m. slice_get m.subs entry) (slice_get models place))
-
-pub record IsOfEntry (models : List ModelOf) (rows : List Row) (model : ℕ) (parent : TaskId × ℕ) : Type 0 where
-  pub above : Row
-  pub there : row_at parent.0.0 rows ≡ Some above
-  pub named : model_of_entry models above.model parent.1 ≡ option_map (λ m. m.name) (slice_get models model)
-
 -- ---- tables are sound
 
 pub record IsSound (t : TablesOf) : Type 0 where
   -- the rows are in the order of their numbers, from 1 without gaps
   pub numbered : (task : ℕ) (row : Row) → row_at task t.rows ≡ Some row → row.task.0 ≡ task
   pub rows_sound : (task : ℕ) (row : Row) → row_at task t.rows ≡ Some row → IsSoundRow t row
-  -- each sub task is of an entry of its parent's model
-  pub entries : (task : ℕ) (row : Row) → row_at task t.rows ≡ Some row → IfSome row.parent (IsOfEntry t.models t.rows row.model)
+  pub families : AreFamilies t.models t.rows
   -- there is one slot at most of each device of a person
   pub slots_ascend : AscendBy slot_cmp t.slots
   pub slots_sound : AllByRecursion (IsSoundSlot t.people (length t.rows)) t.slots
   pub last_within : t.last ≤ last_moment
-  -- every task is counted in the tree of its top task
-  pub tasks_counted : length t.rows ≤ total_size t.models t.rows
   -- the trees of the top tasks have at most as many tasks as there may be
   pub tasks_within : total_size t.models t.rows ≤ most_tasks
 

@@ -72,6 +72,10 @@ stakeholders_of t row = row.stakeholders
 abbrev pub with_row : TablesOf → Row → TablesOf
 with_row t row = record t { rows = put_in t.rows row }
 
+-- with these rows
+abbrev pub with_rows : TablesOf → List Row → TablesOf
+with_rows t rows = record t { rows = rows }
+
 -- with this slot as that of its device
 abbrev pub with_slot : TablesOf → Slot → TablesOf
 with_slot t slot = record t { slots = slots_with t.slots slot }

@@ -1,4 +1,4 @@
-ghost use Rattle.std.specs.Prelude.{◌≡◌, ◌<◌, [], ◌∷◌, IfOk, IfSome, IsTrue, length, option_map};
+ghost use Rattle.std.specs.Prelude.{◌≡◌, ◌<◌, [], ◌∷◌, IfOk, IfSome, IsTrue, length, map, option_map};
 ghost use Rattle.ht_expr.specs.Assignments.{group, part, user};
 ghost use Rattle.ht_expr.specs.Environment.{has_parts};
 ghost use Rattle.ht_expr.specs.Kinds.{Declared};
@@ -7,30 +7,51 @@ ghost use Rattle.ht_models.specs.Kinded.{Assigns, parts_of};
 ghost use Rattle.ht_people.specs.Membership as membership;
 ghost use Rattle.ht_tree.specs.Assigning as spec;
 ghost use Rattle.ht_tree.specs.Assigning.{Sight, resolved, sight};
-ghost use Rattle.ht_tree.specs.Creating.{env_of, seen};
-ghost use Rattle.ht_tree.specs.Plans.{IsPlanOf};
-ghost use Rattle.ht_tree.specs.Soundness.{Fits};
+ghost use Rattle.ht_tree.specs.Creating.{seen_in, sees};
+ghost use Rattle.ht_tree.specs.Families as families;
+ghost use Rattle.ht_tree.specs.Plans.{IsPlanOf, planned};
+ghost use Rattle.ht_tree.specs.Soundness.{Fits, IsSound};
 ghost use Rattle.ht_tree.specs.Tables.{directory, model_of};
 
-use crate::{Plan, Row, Tables};
-use ht_base::{Memory, Name, Person, Persons, Value, Values};
+use crate::{Plan, Row, Tables, sub_tasks};
+use ht_base::{Memory, Name, Person, Persons, TaskId, Value, Values};
 use ht_expr::{Assign, Env, Side, Subs};
 use ht_people::{Directory, except, intersect, union};
 use std::alloc::Global;
 
-/// The environment of a row, which expressions and assignments see. It has no sub tasks: they come.
-pub fn env(alloc: Global, _tables: &Tables, _plan: &Plan, row: &Row) -> Result<Env, Memory>
-    requires plan { IsPlanOf _tables.now.tables _plan.now }
-    requires row { Fits _tables.now.tables row.now }
-    ensures { IfOk result (λ e. e ≡ env_of row.now) }
+/// The environment of a row, which expressions and assignments see: with the sub tasks as they would be
+/// after the plan. Where the model of the row's task has sub entries, the rows of all tasks behind the
+/// task are looked at.
+pub fn env(alloc: Global, tables: &Tables, plan: &Plan, row: &Row) -> Result<Env, Memory>
+    requires plan { IsPlanOf tables.now.tables plan.now }
+    requires sound { IsSound (planned tables.now.tables plan.now) }
+    requires row { Fits tables.now.tables row.now }
+    ensures { IfOk result (λ e. e ≡ sees (planned tables.now.tables plan.now).rows row.now) }
 {
     Ok(Env {
         input: row.input.copy(alloc)?,
         output: row.output.copy(alloc)?,
         priority: i64::from(row.priority),
         initiator: row.initiator,
-        subs: Subs::new(alloc),
+        subs: subs_of(alloc, tables, plan, row.task)?,
     })
+}
+
+// The sub tasks of a task, as expressions see them.
+fn subs_of(alloc: Global, tables: &Tables, plan: &Plan, task: TaskId) -> Result<Subs, Memory>
+    requires plan { IsPlanOf tables.now.tables plan.now }
+    requires sound { IsSound (planned tables.now.tables plan.now) }
+    ensures { IfOk result (λ subs. subs ≡ map (λ s. (s.state, s.output)) (families.sub_tasks task.0 (planned tables.now.tables plan.now).rows)) }
+{
+    let mut subs = Subs::new(alloc);
+    for id in &sub_tasks(alloc, tables, plan, task)? {
+        let Some(row) = plan.row(tables, *id) else {
+            unreachable!()
+        };
+        let output = row.output.copy(alloc)?;
+        subs.push(row.state, output)?;
+    }
+    Ok(subs)
 }
 
 /// The persons whom an assignment of the row's model finds for the row, in ascending order
@@ -43,9 +64,10 @@ pub fn resolve(
     assign: &Assign,
 ) -> Result<Persons, Memory>
     requires plan { IsPlanOf tables.now.tables plan.now }
+    requires sound { IsSound (planned tables.now.tables plan.now) }
     requires row { Fits tables.now.tables row.now }
     requires assign { IfSome (model_of tables.now.tables row.now) (λ m. Assigns (parts_of m.input m.output) assign.now) }
-    ensures { IfOk result (λ persons. IfSome (model_of tables.now.tables row.now) (λ m. persons ≡ resolved (directory tables.now.tables) (seen m row.now) (shown assign.now))) }
+    ensures { IfOk result (λ persons. IfSome (model_of tables.now.tables row.now) (λ m. persons ≡ resolved (directory tables.now.tables) (seen_in m (planned tables.now.tables plan.now).rows row.now) (shown assign.now))) }
 {
     if assign.is_plain() {
         return found(

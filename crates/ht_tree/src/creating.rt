@@ -11,6 +11,7 @@ ghost use Rattle.ht_models.specs.Shown.{model_of};
 ghost use Rattle.ht_tree.specs.Assigning.{potential_owners, resolved, sight};
 ghost use Rattle.ht_tree.specs.Creating as spec;
 ghost use Rattle.ht_tree.specs.Creating.{IsFull, IsInput, level_of, middle_priority, role_or};
+ghost use Rattle.ht_tree.specs.Families.{MayCome};
 ghost use Rattle.ht_tree.specs.Plans.{Goes, IsPlanOf, planned};
 ghost use Rattle.ht_tree.specs.Soundness.{KeepsSound};
 ghost use Rattle.ht_tree.specs.Tables.{model_at, with_row};
@@ -76,7 +77,7 @@ pub fn create(
     requires input { IsInput (length tables.now.tables.people.persons) (model_at tables.now.tables model) input }
     ensures id { IfOk result (λ id. id.0 ≡ length (planned tables.now.tables plan.old).rows + 1) }
     ensures goes { OnOk result ((m : ModelOf) × (model_at tables.now.tables model ≡ Some m) × Goes tables.now.tables plan.old plan.new (planned tables.now.tables plan.old) (with_row (planned tables.now.tables plan.old) (spec.new_row (planned tables.now.tables plan.old) m model parent initiator input waits at))) }
-    ensures sound { OnOk result (parent ≡ None → at.0 ≤ last_moment → IfSome waits (λ m. m.0 ≤ last_moment) → KeepsSound (planned tables.now.tables plan.old) (planned tables.now.tables plan.new)) }
+    ensures sound { OnOk result (MayCome tables.now.tables.models (planned tables.now.tables plan.old).rows model parent → at.0 ≤ last_moment → IfSome waits (λ m. m.0 ≤ last_moment) → KeepsSound (planned tables.now.tables plan.old) (planned tables.now.tables plan.new)) }
     ensures room { OnOk result (parent ≡ None → IsFull (planned tables.now.tables plan.old) model → ⊥) }
     ensures full { result ≡ Err CreateRefusal.TaskLimit → (parent ≡ None) × IsFull (planned tables.now.tables plan.old) model }
     ensures err { OnErr result (plan.new ≡ plan.old) }

@@ -74,8 +74,8 @@ fn created(
     Ok(task)
 }
 
-// Makes a task ready that nobody owns.
-fn readied(alloc: Global, tables: &mut Tables, task: TaskId, at: Moment) -> Result<(), Fail> {
+// Gives a task the highest priority.
+fn urged(alloc: Global, tables: &mut Tables, task: TaskId, at: Moment) -> Result<(), Fail> {
     if task.0 > tables.rows() || at < tables.last() || at.0 > LAST {
         return Err(Fail::from("no such task or moment"));
     }
@@ -83,10 +83,7 @@ fn readied(alloc: Global, tables: &mut Tables, task: TaskId, at: Moment) -> Resu
         return Err(Fail::from("no such task"));
     };
     let mut row = old.copy(alloc)?;
-    row.state = State::Ready;
-    row.owner = None;
-    row.waits = None;
-    row.until = None;
+    row.priority = 0;
     let mut plan = Plan::begin(alloc)?;
     plan.put(tables, row)?;
     tables.prepare(&plan)?;
@@ -163,20 +160,15 @@ fn there_are_at_most_fifty_thousand_tasks(rt: HostRuntime) -> Result<(), Fail> {
     Ok(())
 }
 
-// Whether a task is in this state, or isn't there.
-fn is_in(tables: &Tables, task: u32, state: Option<State>) -> bool {
-    tables.row(TaskId(task)).map(|row| row.state) == state
+// Whether a task has this priority, or isn't there.
+fn has_priority(tables: &Tables, task: u32, priority: Option<u8>) -> bool {
+    tables.row(TaskId(task)).map(|row| row.priority) == priority
 }
 
-fn are_in(rt: &impl Abort, tables: &Tables) {
-    let table = [
-        (0, None),
-        (1, Some(State::Ready)),
-        (2, Some(State::Created)),
-        (3, None),
-    ];
-    for (task, state) in table {
-        assert!(rt; is_in(tables, task, state), "{task}");
+fn have_changed(rt: &impl Abort, tables: &Tables) {
+    let table = [(0, None), (1, Some(0)), (2, Some(5)), (3, None)];
+    for (task, priority) in table {
+        assert!(rt; has_priority(tables, task, priority), "{task}");
     }
 }
 
@@ -185,10 +177,10 @@ fn a_changed_row_is_committed(rt: HostRuntime) -> Result<(), Fail> {
     let mut tables = tables(rt.alloc())?;
     created(&rt, rt.alloc(), &mut tables, UNIT)?;
     created(&rt, rt.alloc(), &mut tables, UNIT)?;
-    readied(rt.alloc(), &mut tables, TaskId(1), Moment(5000))?;
+    urged(rt.alloc(), &mut tables, TaskId(1), Moment(5000))?;
     assert_eq!(rt; tables.rows(), 2);
     assert_eq!(rt; tables.last(), Moment(5000));
-    are_in(&rt, &tables);
+    have_changed(&rt, &tables);
     Ok(())
 }
 

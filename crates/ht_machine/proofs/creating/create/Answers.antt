@@ -57,7 +57,7 @@ returns-in_ok-activate-in-Ok c =
     let M : ModelOf → Type 0 = λ x. Goes t old c.create-created.new.plan u (with_row u (new_row u x place None c.args.caller c.in_ok-values.values None c.args.at)) in
     let G : Values → Type 0 = λ vs. Goes t old c.create-created.new.plan u (with_row u (new_row u m place None c.args.caller vs None c.args.at)) in
     created t old c.create-created.new.plan c.activate.new.plan c.args.caller c.args.at.0 place input c.args.model m c.in-Ok.task
-    c.in_ok-place.ensures.finds at fine (c.in-Ok.ensures.room refl) c.in-Ok.ensures.id (subst G given (subst M same found.2)) (c.in-Ok.ensures.sound refl c.requires.at tt) c.in_ok-activate-in-Ok.ensures
+    c.in_ok-place.ensures.finds at fine (c.in-Ok.ensures.room refl) c.in-Ok.ensures.id (subst G given (subst M same found.2)) (c.in-Ok.ensures.sound tt c.requires.at tt) c.in_ok-activate-in-Ok.ensures
 
 pub returns-in-Err : goal.returns-in-Err
 returns-in-Err c =

@@ -1,46 +1,44 @@
-use Rattle.std.proofs.Common.{ℕ, sym, subst}
-use Rattle.ht_machine.specs.Following.{followed}
-use Rattle.ht_machine.proofs.Followed.{followed_fits, follows}
+use Rattle.std.proofs.Common.{◌==◌, OnOk, refl, subst, sym, if◌then◌else◌}
+use Rattle.ht_compose.specs.Downward.{end_below, ended, freed, held}
+use Rattle.ht_compose.specs.Families.{is_above}
+use Rattle.ht_machine.specs.Following.{IsFollowed}
+use Rattle.ht_machine.proofs.Followed.{activation_ok, rows_follow}
 use Rattle.ht_machine.proofs.following.follow.Goals as goal
+use Rattle.ht_owner.specs.declared.follow.Follow.{Follow}
+use Rattle.ht_owner.specs.declared.follow.Follow.TheVariants as follow
 use Rattle.ht_tree.specs.declared.row.Row.{Row}
-use Rattle.ht_tree.specs.Plans.{Goes, IsNext, Lends, planned}
-use Rattle.ht_tree.specs.Soundness.{Fits}
-use Rattle.ht_tree.specs.Tables.{with_row}
-use Rattle.ht_tree.proofs.PublicLaws.{put_again}
+use Rattle.ht_tree.specs.Plans.{planned}
 
-pub put-requires-clause-next : goal.put-requires-clause-next
-put-requires-clause-next c =
-    let u = planned c.args.tables.now.tables c.args.plan.now in
-    let task = c.args.task.0 in
-    let row = c.in_ok-row.row in
-    let a = follows u task c.args.next row c.requires.ends c.in_ok-row.ensures.row c.requires.there in
-    let P : Row → Type 0 = λ r. IsNext (planned c.args.tables.now.tables c.take.new.self).rows r in
-    subst P (sym c.followed-row.ensures) (c.in_ok-row.ensures.lends.next (followed c.args.next row) a.number a.next)
-
-pub put-requires-clause-fits : goal.put-requires-clause-fits
-put-requires-clause-fits c =
+pub returns-in-Activate : goal.returns-in-Activate
+returns-in-Activate c =
     let t = c.args.tables.now.tables in
-    let u = planned t c.args.plan.now in
-    let row = c.in_ok-row.row in
-    let P : Row → Type 0 = λ r. Fits t r in
-    subst P (sym c.followed-row.ensures) (followed_fits u c.args.next row c.in_ok-row.ensures.fits)
+    let P : Follow → Type 0 = λ f. OnOk c.activate.result (IsFollowed t c.args.plan.now c.activate.new.plan c.args.task.0 f) in
+    subst P (sym c.in-Activate.is) (activation_ok t c.args.plan.now c.activate.new.plan c.args.task.0 c.activate.result c.requires.sound c.activate.ensures)
 
-pub returns : goal.returns
-returns c =
+pub returns-in-Held : goal.returns-in-Held
+returns-in-Held c =
     let t = c.args.tables.now.tables in
-    let u = planned t c.args.plan.now in
-    let taken = c.take.new.self in
-    let new = c.put.new.self in
+    let rows = (planned t c.args.plan.now).rows in
     let task = c.args.task.0 in
-    let row = c.in_ok-row.row in
-    let after = followed c.args.next row in
-    let a = follows u task c.args.next row c.requires.ends c.in_ok-row.ensures.row c.requires.there in
-    let G : Row → Type 0 = λ r. Goes t taken new (planned t taken) (with_row (planned t taken) r) in
-    let L : ℕ → Type 0 = λ n. Lends t c.args.plan.now taken n in
-    record {
-      row = row;
-      there = c.in_ok-row.ensures.row;
-      goes = put_again t c.args.plan.now taken new after (subst L (sym a.number) c.in_ok-row.ensures.lends) a.next (subst G c.followed-row.ensures c.in_ok-put.ensures.goes);
-      sound = a.keeps;
-      found = a.found;
-    }
+    let f : Row → Row = λ row. if is_above rows task row then held row else row in
+    let P : Follow → Type 0 = λ f. OnOk c.hold.result (IsFollowed t c.args.plan.now c.hold.new.plan task f) in
+    subst P (sym c.in-Held.is) (rows_follow t c.args.plan.now c.hold.new.plan task follow.Held f c.hold.result c.requires.there refl c.hold.ensures.goes c.hold.ensures.sound)
+
+pub returns-in-Freed : goal.returns-in-Freed
+returns-in-Freed c =
+    let t = c.args.tables.now.tables in
+    let rows = (planned t c.args.plan.now).rows in
+    let task = c.args.task.0 in
+    let f : Row → Row = λ row. if is_above rows task row then freed row else row in
+    let P : Follow → Type 0 = λ f. OnOk c.free_below.result (IsFollowed t c.args.plan.now c.free_below.new.plan task f) in
+    subst P (sym c.in-Freed.is) (rows_follow t c.args.plan.now c.free_below.new.plan task follow.Freed f c.free_below.result c.requires.there refl c.free_below.ensures.goes c.free_below.ensures.sound)
+
+pub returns-in-Close : goal.returns-in-Close
+returns-in-Close c =
+    let t = c.args.tables.now.tables in
+    let rows = (planned t c.args.plan.now).rows in
+    let task = c.args.task.0 in
+    let end = c.in-Close.end in
+    let f : Row → Row = λ row. if row.task.0 == task then ended end row else (if is_above rows task row then ended (end_below end) row else row) in
+    let P : Follow → Type 0 = λ f. OnOk c.close_family.result (IsFollowed t c.args.plan.now c.close_family.new.plan task f) in
+    subst P (sym c.in-Close.is) (rows_follow t c.args.plan.now c.close_family.new.plan task (follow.Close end) f c.close_family.result c.requires.there refl c.close_family.ensures.goes c.close_family.ensures.sound)

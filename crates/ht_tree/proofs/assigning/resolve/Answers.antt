@@ -11,7 +11,8 @@ use Rattle.ht_models.specs.Model.{ModelOf}
 use Rattle.ht_people.specs.Directory.{DirectoryOf}
 use Rattle.ht_tree.specs.declared.row.Row.{Row}
 use Rattle.ht_tree.specs.Assigning.{resolved, sight}
-use Rattle.ht_tree.specs.Creating.{seen}
+use Rattle.ht_tree.specs.Creating.{seen_in}
+use Rattle.ht_tree.specs.Plans.{planned}
 use Rattle.ht_tree.specs.Soundness.{IsHeldBy}
 use Rattle.ht_tree.specs.Tables.{directory, model_of}
 use Rattle.ht_tree.proofs.Plain.{resolved_same}
@@ -24,9 +25,9 @@ of_model : {A : Type 0} (P : A → Type 0) (o : Option A) (x : A) → o ≡ Some
 of_model {A = A} P o x at p = let Q : Option A → Type 0 = λ y. IfSome y P in subst Q at p
 
 -- what is so for each model is so for the row's
-for_model : (row : Row) (a : Assign) (d : DirectoryOf) (persons : List ℕ) (o : Option ModelOf) → IfSome o (λ m. Assigns (parts_of m.input m.output) a) → ((m : ModelOf) → Assigns (parts_of m.input m.output) a → persons ≡ resolved d (seen m row) (shown a)) → IfSome o (λ m. persons ≡ resolved d (seen m row) (shown a))
-for_model row a d persons None fits each = tt
-for_model row a d persons (Some m) fits each = each m fits
+for_model : (rows : List Row) (row : Row) (a : Assign) (d : DirectoryOf) (persons : List ℕ) (o : Option ModelOf) → IfSome o (λ m. Assigns (parts_of m.input m.output) a) → ((m : ModelOf) → Assigns (parts_of m.input m.output) a → persons ≡ resolved d (seen_in m rows row) (shown a)) → IfSome o (λ m. persons ≡ resolved d (seen_in m rows row) (shown a))
+for_model rows row a d persons None fits each = tt
+for_model rows row a d persons (Some m) fits each = each m fits
 
 -- where no value is looked at, none needs to be there
 no_values : (kinds : Declared) (env : Env) → env.input ≡ [] → env.output ≡ [] → IsTrue (has_parts kinds env)
@@ -46,16 +47,17 @@ returns-then-is_plain c =
     let t = c.args.tables.now.tables in
     let row = c.args.row.now in
     let a = c.args.assign.now in
+    let rows = (planned t c.args.plan.now).rows in
     let d = c.people.result.now in
     let env = c.env_without_values.result in
     let plain : is_plain (shown a) ≡ true = sym c.is_plain.ensures ∙ c.if-is_plain.true in
-    let Q : List ℕ → Type 0 = λ persons. IfSome (model_of t row) (λ m. persons ≡ resolved (directory t) (seen m row) (shown a)) in
+    let Q : List ℕ → Type 0 = λ persons. IfSome (model_of t row) (λ m. persons ≡ resolved (directory t) (seen_in m rows row) (shown a)) in
     let F : List ℕ → Type 0 = λ persons. (kinds : Declared) → Assigns kinds a → persons ≡ resolved d (sight kinds env) (shown a) in
     let at : (persons : List ℕ) → F persons → Q persons =
-    λ persons each. for_model row a (directory t) persons (model_of t row) c.requires.assign (λ m fits.
+    λ persons each. for_model rows row a (directory t) persons (model_of t row) c.requires.assign (λ m fits.
     each (parts_of m.input m.output) fits
     ∙ ap (λ (x : DirectoryOf). resolved x (sight (parts_of m.input m.output) env) (shown a)) c.people.ensures
-    ∙ resolved_same (directory t) (sight (parts_of m.input m.output) env) (seen m row) c.env_without_values.ensures.initiator (shown a) plain) in
+    ∙ resolved_same (directory t) (sight (parts_of m.input m.output) env) (seen_in m rows row) c.env_without_values.ensures.initiator (shown a) plain) in
     if_ok F Q c.found.result at c.found.ensures
 
 pub found-requires-2-clause-kinds : goal.found-requires-2-clause-kinds
@@ -73,12 +75,13 @@ returns c =
     let t = c.args.tables.now.tables in
     let row = c.args.row.now in
     let a = c.args.assign.now in
+    let rows = (planned t c.args.plan.now).rows in
     let d = c.people-2.result.now in
     let env = c.in_ok-env.env in
-    let Q : List ℕ → Type 0 = λ persons. IfSome (model_of t row) (λ m. persons ≡ resolved (directory t) (seen m row) (shown a)) in
+    let Q : List ℕ → Type 0 = λ persons. IfSome (model_of t row) (λ m. persons ≡ resolved (directory t) (seen_in m rows row) (shown a)) in
     let F : List ℕ → Type 0 = λ persons. (kinds : Declared) → Assigns kinds a → persons ≡ resolved d (sight kinds env) (shown a) in
     let at : (persons : List ℕ) → F persons → Q persons =
-    λ persons each. for_model row a (directory t) persons (model_of t row) c.requires.assign (λ m fits.
+    λ persons each. for_model rows row a (directory t) persons (model_of t row) c.requires.assign (λ m fits.
     each (parts_of m.input m.output) fits
     ∙ ap (λ (x : DirectoryOf). resolved x (sight (parts_of m.input m.output) env) (shown a)) c.people-2.ensures
     ∙ ap (λ (e : Env). resolved (directory t) (sight (parts_of m.input m.output) e) (shown a)) c.in_ok-env.ensures) in

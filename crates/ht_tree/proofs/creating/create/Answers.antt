@@ -7,12 +7,15 @@ use Rattle.ht_models.specs.Shown.{model_of}
 use Rattle.ht_tree.specs.declared.row.Row.{Row}
 use Rattle.ht_tree.specs.Creating.{new_row}
 use Rattle.ht_tree.specs.Plans.{Goes, planned}
-use Rattle.ht_tree.specs.Sizes.{most_tasks, top_size, total_size}
+use Rattle.ht_models.specs.TreeSizes.{AreSized}
+use Rattle.ht_tree.specs.Families.{MayCome}
+use Rattle.ht_tree.specs.Sizes.{most_tasks, size_of, total_size}
 use Rattle.ht_tree.specs.Soundness.{Fits, IsSound, IsSoundRow}
 use Rattle.ht_tree.specs.Tables.{TablesOf, model_at, with_row}
 use Rattle.ht_tree.proofs.Fitting.{new_row_fits, new_row_sound, parent_fits}
 use Rattle.ht_tree.proofs.Putting.{put_new}
-use Rattle.ht_tree.proofs.Sounding.{push_sound}
+use Rattle.ht_tree.proofs.Coming.{new_sound, parent_sound}
+use Rattle.ht_tree.proofs.Families.{new_small}
 use Rattle.ht_tree.proofs.creating.create.Goals.{else-is_none-via-then-is_none+else-size-gt-MOST_TASKS, else-is_none-via-else-is_none}
 use Rattle.ht_tree.proofs.creating.create.Goals as goal
 
@@ -41,17 +44,18 @@ returns-clause-goes c =
     (m, at, subst P is c.in_ok-put.ensures.goes)
 
 pub returns-clause-sound : goal.returns-clause-sound
-returns-clause-sound c = λ none early soon sound.
+returns-clause-sound c = λ may early soon sound.
     let t = c.args.tables.now.tables in
     let u = planned t c.args.plan.now in
     let row = c.in_ok-row.row in
     let m : ModelOf = model_of c.model.result.now in
     let known : model_at t c.args.model ≡ Some m = ap (λ (ms : List ModelOf). slice_get ms c.args.model) (sym c.models.ensures.value) ∙ c.model.ensures.value in
     let is : row ≡ new_row u m c.args.model c.args.parent c.args.initiator c.args.input c.args.waits c.args.at = rw known at c.in_ok-row.ensures in
-    let top : row ≡ new_row u m c.args.model None c.args.initiator c.args.input c.args.waits c.args.at = is ∙ ap (λ (p : Option (TaskId × ℕ)). new_row u m c.args.model p c.args.initiator c.args.input c.args.waits c.args.at) none in
-    let size : top_size t.models row ≡ m.size = ap (λ (r : Row). top_size t.models r) top ∙ ap (λ (o : Option ModelOf). option_map_or (λ (x : ModelOf). x.size) o 0) known in
-    let some : 1 ≤ m.size = c.model.ensures.size.0 in
-    let room : total_size t.models u.rows + m.size ≤ most_tasks =
+    let parent : row.parent ≡ c.args.parent = ap (λ (r : Row). r.parent) is in
+    let model : row.model ≡ c.args.model = ap (λ (r : Row). r.model) is in
+    let number : row.task.0 ≡ length u.rows + 1 = ap (λ (r : Row). r.task.0) is in
+    let size : size_of t.models row.model ≡ m.size = ap (λ (k : ℕ). size_of t.models k) model ∙ ap (λ (o : Option ModelOf). option_map_or (λ (x : ModelOf). x.size) o 0) known in
+    let room : c.args.parent ≡ None → total_size t.models u.rows + size_of t.models row.model ≤ most_tasks = λ none.
     elim c.else-is_none.branch [
       | else-is_none-via-then-is_none+else-size-gt-MOST_TASKS w ↦
           let value = w.size.ensures.value in
@@ -60,10 +64,12 @@ returns-clause-sound c = λ none early soon sound.
           omega arith
       | else-is_none-via-else-is_none w ↦ absurd (not_both c.args.parent none w.if-is_none.ensures)
     ] in
-    let number : row.task.0 ≡ length u.rows + 1 = ap (λ (r : Row). r.task.0) top in
     let P : Row → Type 0 = λ r. IsSoundRow t r in
-    let fine : IsSoundRow t row = subst P (sym top) (new_row_sound u m c.args.model c.args.initiator c.args.input c.args.waits c.args.at c.requires.model c.requires.initiator early soon c.requires.input) in
+    let fine : IsSoundRow t row = subst P (sym is) (new_row_sound u m c.args.model c.args.parent c.args.initiator c.args.input c.args.waits c.args.at c.requires.model c.requires.initiator c.requires.parent (parent_sound u c.args.parent sound) early soon c.requires.input) in
+    let trees : AreSized t.models = subst AreSized c.models.ensures.value c.model.ensures.trees in
+    let small = new_small t.models (u.rows ++ row ∷ []) row m (ap (λ (k : ℕ). slice_get t.models k) model ∙ known) (trees c.args.model m known).counted in
+    let M : ℕ → Type 0 = λ k. MayCome t.models u.rows k c.args.parent in
     let behind : planned t c.put.new.self ≡ record u { rows = u.rows ++ row ∷ [] } =
     c.in_ok-put.ensures.goes.to ∙ ap (λ (l : List Row). record u { rows = l }) (put_new u.rows row (omega arith)) in
     let Q : TablesOf → Type 0 = λ v. IsSound v in
-    subst Q (sym behind) (push_sound u row sound number (ap (λ (r : Row). r.parent) top) fine (omega arith) (omega arith))
+    subst Q (sym behind) (new_sound u row c.args.parent parent (subst M (sym model) may) sound number fine small room)

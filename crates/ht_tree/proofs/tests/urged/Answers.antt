@@ -1,5 +1,4 @@
 use Rattle.std.proofs.Common.{◌≡◌, ℕ, List, length, Some, None, refl, ap, sym, ◌∙◌, subst, arith}
-use Rattle.ht_base.specs.declared.state.State.TheVariants.{Ready}
 use Rattle.ht_tree.specs.declared.row.Row.{Row}
 use Rattle.ht_tree.specs.Plans.{Replaces, committed, planned}
 use Rattle.ht_tree.specs.Rows.{row_at}
@@ -7,20 +6,26 @@ use Rattle.ht_tree.specs.Soundness.{IsSound, IsSoundRow}
 use Rattle.ht_tree.specs.Tables.{TablesOf}
 use Rattle.ht_tree.proofs.Sounding.{put_sound, within}
 use Rattle.ht_tree.proofs.Steps.{committed_sound, planned_nothing}
-use Rattle.ht_tree.proofs.tests.readied.Goals as goal
+use Rattle.ht_tree.proofs.tests.urged.Goals as goal
 
--- a row made ready that nobody owns
-abbrev made_ready : Row → Row
-made_ready row = record row { state = Ready; owner = None; waits = None; until = None }
+-- a row of the highest priority
+abbrev urgent : Row → Row
+urgent row = record row { priority = 0 }
 
-still_sound : (t : TablesOf) (row : Row) → IsSoundRow t row → IsSoundRow t (made_ready row)
+still_sound : (t : TablesOf) (row : Row) → IsSoundRow t row → IsSoundRow t (urgent row)
 still_sound t row sound = record {
   filed = sound.filed;
   held = sound.held;
   who = sound.who;
-  whose = record { owned = refl; known = tt; allowed = tt };
-  when = record { waits = λ h. absurd cc; until = λ h. absurd cc; created_within = (sound.when).created_within; waits_within = tt; until_within = tt };
-  how = sound.how;
+  whose = sound.whose;
+  when = sound.when;
+  how = record {
+    priority_within = omega arith;
+    few = (sound.how).few;
+    known = (sound.how).known;
+    moments_within = (sound.how).moments_within;
+    texts_within = (sound.how).texts_within;
+  };
 }
 
 pub put-requires-clause-next : goal.put-requires-clause-next
@@ -38,7 +43,7 @@ pub commit-requires-clause-sound : goal.commit-requires-clause-sound
 commit-requires-clause-sound c =
     let t = c.args.tables.now.tables in
     let row = c.in_ok-row.row in
-    let new = made_ready row in
+    let new = urgent row in
     let old = c.in_ok-plan.plan in
     let sound = c.rows.ensures.sound in
     let there : row_at c.args.task.0 t.rows ≡ Some row = sym c.in-Some.ensures.value ∙ ap (λ (r : Row). Some r) (sym c.in_ok-row.ensures) in
@@ -54,4 +59,4 @@ commit-requires-clause-sound c =
     let C : TablesOf → Type 0 = λ u. IsSound (committed u c.put.new.self c.args.at.0) in
     subst C (sym c.prepare.ensures.tables)
     (committed_sound t old c.put.new.self c.args.at.0 c.in_ok-plan.ensures sound (omega arith) (λ before.
-    subst S (sym c.in_ok-put.ensures.goes.to) (put_sound (planned t old) new before (still_sound t row (sound.rows_sound c.args.task.0 row there)) place)))
+    subst S (sym c.in_ok-put.ensures.goes.to) (put_sound (planned t old) new before (still_sound t row (sound.rows_sound c.args.task.0 row there)) place refl)))

@@ -1,0 +1,12 @@
+mod AlwaysEnding
+mod Chains
+mod Changed
+mod ClosedRows
+mod Counting
+mod Determined
+mod Ending
+mod Keeping
+mod OneRow
+mod Reached
+mod Spread
+mod Stepping

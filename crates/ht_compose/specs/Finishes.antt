@@ -1,0 +1,81 @@
+-- How a composite task finishes, and what it has of its sub tasks then (WS-HumanTask 1.1, 4.8).
+use Rattle.std.specs.Prelude.{◌≡◌, ℕ, zero, suc, Bool, true, false, ◌&&◌, List, [], ◌∷◌, ◌++◌, length, filter, filter_map, find, is_none, Option, None, Some, if◌then◌else◌}
+use Rattle.std.specs.List.{list_any}
+use Rattle.std.specs.Option.{option_map_or}
+use Rattle.ht_aggregate.specs.Aggregates.{IsAggregate}
+use Rattle.ht_base.specs.declared.how.How.{How}
+use Rattle.ht_base.specs.declared.kind.Kind.{Kind}
+use Rattle.ht_base.specs.declared.value.Value.{Value}
+use Rattle.ht_base.specs.declared.values.Values.{Values}
+use Rattle.ht_base.specs.Kinds.{kind_of_how, kind_of_value}
+use Rattle.ht_base.specs.Values.{put, value_of}
+use Rattle.ht_tree.specs.Families.{is_final, is_of_entry}
+use Rattle.ht_expr.specs.declared.environment.Env.{Env}
+use Rattle.ht_expr.specs.Environment.{is_completed}
+use Rattle.ht_expr.specs.Kinds.{Declared}
+use Rattle.ht_expr.specs.KindTable.{same_kind}
+use Rattle.ht_expr.specs.Trees.{Tree}
+use Rattle.ht_expr.specs.Values.{Outcome, a_truth, value}
+use Rattle.ht_models.specs.Finishes.{Setting}
+use Rattle.ht_models.specs.Kinded.{parts_of}
+use Rattle.ht_models.specs.Model.{FinishOf, ModelOf}
+use Rattle.ht_tree.specs.declared.row.Row.{Row}
+use Rattle.ht_tree.specs.Creating.{sees}
+
+-- ---- the finish that is chosen
+
+abbrev pub is_true : Outcome → Bool
+is_true (a_truth b) = b
+is_true _ = false
+
+abbrev pub holds : Declared → Env → Tree → Bool
+holds kinds env condition = is_true (value kinds env condition)
+
+-- its condition is true
+abbrev pub applies : Declared → Env → FinishOf → Bool
+applies kinds env f = option_map_or (holds kinds env) f.when false
+
+-- of as many entries each is made, and its sub task has ended
+abbrev pub all_ended : ℕ → ℕ → List Row → Bool
+all_ended task zero rows = true
+all_ended task (suc n) rows = all_ended task n rows && list_any (λ s. is_of_entry task n s && is_final s.state) rows
+
+-- the finish without a condition
+abbrev pub default : List FinishOf → Option FinishOf
+default finishes = find (λ f. is_none f.when) finishes
+
+abbrev pub or_default : Option FinishOf → Option FinishOf → Option FinishOf
+or_default None other = other
+or_default (Some f) other = Some f
+
+-- The first whose condition is true. Where there is none, and every entry has come and gone, it is the
+-- one without a condition.
+abbrev pub chosen : List Row → ModelOf → Row → Option FinishOf
+chosen rows m row =
+    or_default (find (applies (parts_of m.input m.output) (sees rows row)) m.finishes)
+    (if all_ended row.task.0 (length m.subs) rows then default m.finishes else None)
+
+-- ---- what it sets
+
+-- the completed sub tasks of as many entries, in the order of the entries
+abbrev pub completed : ℕ → ℕ → List Row → List Row
+completed task zero rows = []
+completed task (suc n) rows = completed task n rows ++ filter (λ s. is_of_entry task n s && is_completed s.state) rows
+
+abbrev pub of_kind : Kind → Option Value → Option Value
+of_kind kind None = None
+of_kind kind (Some v) = if same_kind kind (kind_of_value v) then Some v else None
+
+-- their values of an output part, where it is set and of the aggregate's kind
+abbrev pub values_for : How → List ℕ → List Row → List Value
+values_for how from subs = filter_map (λ s. of_kind (kind_of_how how) (value_of from s.output)) subs
+
+-- no result leaves the part as it was
+abbrev pub with_result : List ℕ → Option Value → Values → Values
+with_result part None output = output
+with_result part (Some v) output = put part v output
+
+-- the output of a task, when all of these are set one after another
+abbrev pub Sets : List Row → List Setting → Values → Values → Type 0
+Sets subs [] old new = new ≡ old
+Sets subs (s ∷ ss) old new = (result : Option Value) × IsAggregate s.how (values_for s.how s.from subs) result × Sets subs ss (with_result s.part result old) new

@@ -1,0 +1,9 @@
+pub mod Agenda
+pub mod Downward
+pub mod Examples
+pub mod Families
+pub mod FamilyExamples
+pub mod Finishes
+pub mod Items
+pub mod Reaching
+pub mod Work

@@ -1,0 +1,78 @@
+ghost use Rattle.std.specs.Prelude.{OnOk, IsTrue};
+ghost use Rattle.ht_compose.specs.Downward.{closing, freeing, holding, skipping};
+ghost use Rattle.ht_compose.specs.Reaching.{IsTask};
+ghost use Rattle.ht_tree.specs.Families.{is_final};
+ghost use Rattle.ht_tree.specs.Plans.{Goes, IsPlanOf, planned};
+ghost use Rattle.ht_tree.specs.Soundness.{IsSound};
+ghost use Rattle.ht_tree.specs.Tables.{with_rows};
+
+use crate::reaching::Reach;
+use crate::spreading::spread;
+use ht_base::{Memory, State, TaskId};
+use ht_tree::{Plan, Tables};
+use std::alloc::Global;
+
+/// Plans that every open task below this one takes its suspended form (WS-HumanTask 1.1, 4.10). After
+/// want of memory the plan holds some of it.
+pub fn hold(alloc: Global, tables: &Tables, plan: &mut Plan, task: TaskId) -> Result<(), Memory>
+    requires plan { IsPlanOf tables.now.tables plan.old }
+    requires sound { IsSound (planned tables.now.tables plan.old) }
+    requires there { IsTask (planned tables.now.tables plan.old) task.0 }
+    ensures goes { OnOk result (Goes tables.now.tables plan.old plan.new (planned tables.now.tables plan.old) (with_rows (planned tables.now.tables plan.old) (holding task.0 (planned tables.now.tables plan.old).rows))) }
+    ensures sound { OnOk result (IsSound (planned tables.now.tables plan.new)) }
+{
+    spread(alloc, tables, plan, task, Reach::Hold)
+}
+
+/// Plans that every suspended task below this one returns to its state before, with no end of its
+/// suspension. After want of memory the plan holds some of it.
+pub fn free_below(
+    alloc: Global,
+    tables: &Tables,
+    plan: &mut Plan,
+    task: TaskId,
+) -> Result<(), Memory>
+    requires plan { IsPlanOf tables.now.tables plan.old }
+    requires sound { IsSound (planned tables.now.tables plan.old) }
+    requires there { IsTask (planned tables.now.tables plan.old) task.0 }
+    ensures goes { OnOk result (Goes tables.now.tables plan.old plan.new (planned tables.now.tables plan.old) (with_rows (planned tables.now.tables plan.old) (freeing task.0 (planned tables.now.tables plan.old).rows))) }
+    ensures sound { OnOk result (IsSound (planned tables.now.tables plan.new)) }
+{
+    spread(alloc, tables, plan, task, Reach::Free)
+}
+
+/// Plans that every task below this one that hasn't ended is obsolete. After want of memory the plan holds
+/// some of it.
+pub fn skip_below(
+    alloc: Global,
+    tables: &Tables,
+    plan: &mut Plan,
+    task: TaskId,
+) -> Result<(), Memory>
+    requires plan { IsPlanOf tables.now.tables plan.old }
+    requires sound { IsSound (planned tables.now.tables plan.old) }
+    requires there { IsTask (planned tables.now.tables plan.old) task.0 }
+    ensures goes { OnOk result (Goes tables.now.tables plan.old plan.new (planned tables.now.tables plan.old) (with_rows (planned tables.now.tables plan.old) (skipping task.0 (planned tables.now.tables plan.old).rows))) }
+    ensures sound { OnOk result (IsSound (planned tables.now.tables plan.new)) }
+{
+    spread(alloc, tables, plan, task, Reach::Skip)
+}
+
+/// Plans that a task that hasn't ended does so in this final state, and every other below it with it:
+/// obsolete where the task is, and else exited. After want of memory the plan holds some of it.
+pub fn close_family(
+    alloc: Global,
+    tables: &Tables,
+    plan: &mut Plan,
+    task: TaskId,
+    end: State,
+) -> Result<(), Memory>
+    requires plan { IsPlanOf tables.now.tables plan.old }
+    requires sound { IsSound (planned tables.now.tables plan.old) }
+    requires there { IsTask (planned tables.now.tables plan.old) task.0 }
+    requires end { IsTrue (is_final end) }
+    ensures goes { OnOk result (Goes tables.now.tables plan.old plan.new (planned tables.now.tables plan.old) (with_rows (planned tables.now.tables plan.old) (closing end task.0 (planned tables.now.tables plan.old).rows))) }
+    ensures sound { OnOk result (IsSound (planned tables.now.tables plan.new)) }
+{
+    spread(alloc, tables, plan, task, Reach::Close(end))
+}

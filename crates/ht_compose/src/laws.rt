@@ -1,0 +1,20 @@
+//! Laws of the definitions, for proofs alone: the functions do nothing.
+ghost use Rattle.ht_base.specs.declared.moment.Moment.{Moment};
+ghost use Rattle.ht_compose.specs.Agenda.{FirstEnds, IsDetermined, OneBehindTheOther, OneEnd};
+ghost use Rattle.ht_compose.specs.Items.{Does};
+ghost use Rattle.ht_compose.specs.Work.{AlwaysEnds};
+
+/// What is to be done has one end, and the end of an item and a rest is the end of the rest from the end
+/// of that item alone.
+pub fn laws_of_the_agenda()
+    ensures determined { (at : Moment) → IsDetermined (Does at) }
+    ensures one { (at : Moment) → OneEnd (Does at) }
+    ensures behind { (at : Moment) → OneBehindTheOther (Does at) }
+    ensures first { (at : Moment) → FirstEnds (Does at) }
+{}
+
+/// What is to be done always comes to an end, where the rows stand at their numbers, each model's tree is
+/// counted, and tasks are closed only in states in which they have ended.
+pub fn the_end_is_always_reached()
+    ensures { (at : Moment) → AlwaysEnds at }
+{}

@@ -1,0 +1,75 @@
+ghost use Rattle.std.specs.Prelude.{◌≡◌, OnOk};
+ghost use Rattle.ht_compose.specs.Reaching.{Ends, IsLastBelow, IsTask, Reaches, ReachesAll};
+ghost use Rattle.ht_tree.specs.Plans.{IsPlanOf, planned};
+ghost use Rattle.ht_tree.specs.Soundness.{IsSound};
+
+use crate::changing::{change_of, changed, touches};
+use crate::reaching::Reach;
+use ht_base::{Memory, TaskId};
+use ht_tree::{Plan, Tables};
+use std::alloc::Global;
+
+/// Plans what reaches the tasks below this one. Where its model has sub entries, the rows of all tasks
+/// behind it are looked at.
+pub(crate) fn spread(
+    alloc: Global,
+    tables: &Tables,
+    plan: &mut Plan,
+    task: TaskId,
+    reach: Reach,
+) -> Result<(), Memory>
+    requires plan { IsPlanOf tables.now.tables plan.old }
+    requires sound { IsSound (planned tables.now.tables plan.old) }
+    requires there { IsTask (planned tables.now.tables plan.old) task.0 }
+    requires ends { Ends reach }
+    ensures reaches { OnOk result (ReachesAll tables.now.tables plan.old plan.new task.0 reach) }
+    ensures sound { OnOk result (IsSound (planned tables.now.tables plan.new)) }
+{
+    let last = last_below(tables, plan, task);
+    for done in 0..last - task.0 + 1 {
+        reach_one(alloc, tables, plan, task, reach, TaskId(last - done))?;
+    }
+    Ok(())
+}
+
+// The number behind which no task is below this one.
+fn last_below(tables: &Tables, plan: &Plan, task: TaskId) -> u32
+    requires plan { IsPlanOf tables.now.tables plan.now }
+    requires sound { IsSound (planned tables.now.tables plan.now) }
+    requires there { IsTask (planned tables.now.tables plan.now) task.0 }
+    ensures { IsLastBelow (planned tables.now.tables plan.now) task.0 result }
+{
+    let Some(row) = plan.row(tables, task) else {
+        unreachable!()
+    };
+    if tables.models().model(row.model).subs.is_empty() {
+        task.0
+    } else {
+        plan.rows(tables)
+    }
+}
+
+// Plans what comes of one row.
+fn reach_one(
+    alloc: Global,
+    tables: &Tables,
+    plan: &mut Plan,
+    task: TaskId,
+    reach: Reach,
+    id: TaskId,
+) -> Result<(), Memory>
+    requires plan { IsPlanOf tables.now.tables plan.old }
+    requires there { IsTask (planned tables.now.tables plan.old) id.0 }
+    ensures { OnOk result (Reaches tables.now.tables plan.old plan.new task.0 reach id.0) }
+{
+    let Some(row) = plan.row(tables, id) else {
+        unreachable!()
+    };
+    let change = change_of(tables, plan, task, reach, row);
+    if !touches(change, row.state) {
+        return Ok(());
+    }
+    let row = plan.take(alloc, tables, id)?;
+    plan.put(tables, changed(row, change))?;
+    Ok(())
+}

@@ -1,0 +1,49 @@
+use Rattle.std.proofs.Common.{◌≡◌, ℕ, ◌+◌, suc, true, false, List, [], ◌∷◌, ◌++◌, map, take, Option, None, Some, ap, sym, ◌∙◌, arith}
+use Rattle.std.proofs.lemmas.List.{map-append}
+use Rattle.std.proofs.lemmas.Option.{none-some}
+use Rattle.std.specs.Prelude.{slice_get}
+use Rattle.ht_base.specs.declared.task_id.TaskId.{TaskId}
+use Rattle.ht_tree.specs.declared.row.Row.{Row}
+use Rattle.ht_tree.specs.Families.{is_sub_of, sub_tasks}
+use Rattle.ht_tree.specs.Plans.{planned}
+use Rattle.ht_tree.specs.Rows.{row_at}
+use Rattle.ht_tree.proofs.Rows.{some_at}
+use Rattle.ht_tree.proofs.SubTasks.{no_more, none_before, one_more}
+use Rattle.ht_tree.proofs.family.sub_tasks.Goals as goal
+use Rattle.ht_tree.proofs.family.sub_tasks.Goals.{then-is_sub_of+in_ok-push, else-is_sub_of}
+
+abbrev ids : List Row → List TaskId
+ids rows = map (λ r. r.task) rows
+
+pub loop-before-init : goal.loop-before-init
+loop-before-init c =
+    let u = planned c.args.tables.now.tables c.args.plan.now in
+    c.new-found.ensures.items ∙ ap ids (sym (none_before u c.requires.sound c.args.task.0))
+
+pub unreachable-requires : goal.unreachable-requires
+unreachable-requires c =
+    let rows = (planned c.args.tables.now.tables c.args.plan.now).rows in
+    let i = c.loop-before.before in
+    let count = c.rows-before-end.ensures in
+    let more = c.loop-before-test.true in
+    let row = some_at rows i (omega arith) in
+    let next : i + 1 ≡ suc i = omega arith in
+    none-some row.0 (c.in_default.ensures.value ∙ ap (λ (k : ℕ). row_at k rows) next ∙ row.1)
+
+pub loop-before-preserved : goal.loop-before-preserved
+loop-before-preserved c =
+    let rows = (planned c.args.tables.now.tables c.args.plan.now).rows in
+    let task = c.args.task.0 in
+    let i = c.loop-before.before in
+    let row = c.in-Some.row.now in
+    let next : suc i ≡ i + 1 = omega arith in
+    let there : slice_get rows i ≡ Some row = ap (λ (k : ℕ). row_at k rows) next ∙ sym c.in-Some.ensures.value in
+    elim c.if-is_sub_of.branch [
+      | then-is_sub_of+in_ok-push w ↦
+          ap (λ v. v.items) w.found-is
+          ∙ w.in_ok-push.ensures.items
+          ∙ ap (λ (l : List TaskId). l ++ row.task ∷ []) c.loop-before.invariant
+          ∙ sym (map-append (λ (r : Row). r.task) (sub_tasks task (take i rows)) (row ∷ []))
+          ∙ ap ids (sym (one_more task rows i row there (sym w.if-is_sub_of.ensures)))
+      | else-is_sub_of w ↦ ap (λ v. v.items) w.found-is ∙ c.loop-before.invariant ∙ ap ids (sym (no_more task rows i row there (sym w.if-is_sub_of.ensures)))
+    ]
