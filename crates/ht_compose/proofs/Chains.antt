@@ -16,7 +16,7 @@ use Rattle.ht_tree.specs.Tables.{TablesOf, model_of, task_row}
 use Rattle.ht_tree.proofs.PublicLaws.{Alike, lower, no_sub_task, parent_alike, within}
 
 -- a chain is found among more
-leads_more : (n m : ℕ) (rows : List Row) (task : ℕ) (o : Option (TaskId × ℕ)) → n ≤ m → leads_to n rows task o ≡ true → leads_to m rows task o ≡ true
+pub leads_more : (n m : ℕ) (rows : List Row) (task : ℕ) (o : Option (TaskId × ℕ)) → n ≤ m → leads_to n rows task o ≡ true → leads_to m rows task o ≡ true
 leads_more zero m rows task o low h = cc
 leads_more (suc n) zero rows task o low h = absurd (omega arith)
 leads_more (suc n) (suc m) rows task None low h = cc

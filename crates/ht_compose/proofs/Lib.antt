@@ -1,3 +1,4 @@
+mod ChainsAbove
 mod AlwaysEnding
 mod Chains
 mod Changed

@@ -12,4 +12,4 @@ mod spreading;
 mod tests;
 
 pub use downward::{close_family, free_below, hold, skip_below};
-pub use laws::{laws_of_the_agenda, the_end_is_always_reached};
+pub use laws::{above_is_a_chain_of_parents, laws_of_the_agenda, the_end_is_always_reached};

@@ -7,6 +7,8 @@ mod assigning;
 mod comments;
 mod creating;
 mod family;
+#[cfg(test)]
+mod family_tests;
 mod giving;
 mod index;
 mod notice;
