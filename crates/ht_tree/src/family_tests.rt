@@ -162,6 +162,8 @@ fn an_environment_has_the_sub_tasks(rt: HostRuntime) -> Result<(), Fail> {
     let env = env_of(rt.alloc(), &tables, &plan, TaskId(1))?;
     let subs = env.subs.as_slice();
     assert_eq!(rt; subs.len(), 1);
-    assert!(rt; subs.iter().all(|(state, output)| *state == State::Created && output.as_slice().is_empty()));
+    assert!(rt;
+        subs.iter().all(|(state, output)| *state == State::Created && output.as_slice().is_empty())
+    );
     Ok(())
 }

@@ -425,6 +425,7 @@ fn is_env_of_row(rt: &impl Abort, env: &Env) {
 
 fn env_of_first(alloc: Global, tables: &Tables) -> Result<Env, Fail> {
     let plan = Plan::begin(alloc)?;
+    let _count = tables.rows();
     let row = tables.row(TaskId(1)).ok_or("a row")?;
     Ok(env(alloc, tables, &plan, row)?)
 }
