@@ -2,7 +2,9 @@
 use Rattle.std.specs.Prelude.{◌≡◌, ◌≤◌, ℕ, nat_lt, ◌+◌, Bool, true, List, length, IfSome}
 use Rattle.std.specs.List.{list_all}
 use Rattle.ht_base.specs.declared.event.Command.{Command}
-use Rattle.ht_base.specs.declared.event.Command.TheVariants.{Create, Claim, Start, Stop, Release, Delegate, Forward, Nominate, Activate, SetRole, SetPriority, Suspend, Resume, SetOutput, Complete, Fail, Skip, Exit, Error, AddComment}
+use Rattle.ht_base.specs.declared.event.Command.TheVariants.{Create, Claim, Start, Stop, Release, Delegate, Forward, Nominate, Activate, SetRole, SetPriority, Suspend, SuspendUntil, Resume, SetOutput, Complete, Fail, Skip, Exit, Error, AddComment, InstantiateSubTask}
+use Rattle.ht_base.specs.declared.end.End.{End}
+use Rattle.ht_base.specs.declared.end.End.TheVariants.{After, At}
 use Rattle.ht_base.specs.declared.event.Event.{Event}
 use Rattle.ht_base.specs.declared.event.Event.TheVariants.{Ask, Read}
 use Rattle.ht_base.specs.declared.event.Query.TheVariants as query
@@ -13,10 +15,11 @@ use Rattle.ht_base.specs.declared.scalar.Scalar.{Scalar}
 use Rattle.ht_base.specs.declared.scalar.Scalar.TheVariants as scalar
 use Rattle.ht_base.specs.declared.task_id.TaskId.{TaskId}
 use Rattle.ht_base.specs.Moment.{last_moment}
+use Rattle.ht_base.specs.Periods.{longest_period}
 use Rattle.ht_base.specs.Places.{IsRepeated}
 
 abbrev pub op_of : Command → Op
-op_of (Create model input) = op.Create
+op_of (Create model input activate_at) = op.Create
 op_of Claim = op.Claim
 op_of Start = op.Start
 op_of Stop = op.Stop
@@ -28,6 +31,7 @@ op_of Activate = op.Activate
 op_of (SetRole role persons) = op.SetRole
 op_of (SetPriority priority) = op.SetPriority
 op_of Suspend = op.Suspend
+op_of (SuspendUntil end) = op.SuspendUntil
 op_of Resume = op.Resume
 op_of (SetOutput output) = op.SetOutput
 op_of (Complete output) = op.Complete
@@ -36,10 +40,11 @@ op_of Skip = op.Skip
 op_of Exit = op.Exit
 op_of Error = op.Error
 op_of (AddComment text) = op.AddComment
+op_of (InstantiateSubTask sub) = op.InstantiateSubTask
 
 -- the task is one that the command may name: none, exactly for a create
 abbrev pub IsTaskOf : Command → TaskId → Type 0
-IsTaskOf (Create model input) task = task.0 ≡ 0
+IsTaskOf (Create model input activate_at) task = task.0 ≡ 0
 IsTaskOf _ task = 1 ≤ task.0
 
 -- ---- what a command may give
@@ -57,12 +62,18 @@ pub record AreNames (names : List (List ℕ)) : Type 0 where
   pub few : length names ≤ 1024
   pub distinct : (place : ℕ) → IsRepeated names place → ⊥
 
+-- a moment, or a period that a text can give
+abbrev pub IsEnd : End → Type 0
+IsEnd (At m) = m.0 ≤ last_moment
+IsEnd (After period) = period ≤ longest_period
+
 abbrev pub IsCommand : Command → Type 0
-IsCommand (Create model input) = AreGiven input
+IsCommand (Create model input activate_at) = AreGiven input × IfSome activate_at (λ m. m.0 ≤ last_moment)
 IsCommand (Forward persons) = AreNames persons × 1 ≤ length persons
 IsCommand (Nominate persons) = AreNames persons × 1 ≤ length persons
 IsCommand (SetRole role persons) = AreNames persons
 IsCommand (SetPriority priority) = priority ≤ 10
+IsCommand (SuspendUntil end) = IsEnd end
 IsCommand (SetOutput output) = AreGiven output × 1 ≤ length output
 IsCommand (Complete output) = AreGiven output
 IsCommand (AddComment text) = (1 ≤ length text) × (length text ≤ 512)

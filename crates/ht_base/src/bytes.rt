@@ -7,7 +7,7 @@ use std::mem;
 
 /// A list of bytes. A contract sees its `items`, and in `spare` how many more it takes without
 /// memory.
-#[derive(Drop)]
+#[derive(Debug, Drop)]
 pub struct Bytes {
     items: Vec<u8>,
 }

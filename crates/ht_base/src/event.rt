@@ -1,15 +1,19 @@
 ghost use Rattle.std.specs.Prelude.{◌≡◌, IfOk};
 ghost use Rattle.ht_base.specs.Events.{op_of};
 
-use crate::{Memory, Moment, Name, Names, Op, Parts, Retry, RoleList, TaskId, Txt};
+use crate::{End, Memory, Moment, Name, Names, Op, Parts, Retry, RoleList, TaskId, Txt};
 use std::alloc::Global;
 
 /// What a command does (WS-HumanTask 1.1, 7.1.1 "Participant operations").
 #[derive(Debug, Drop)]
 pub enum Command {
     /// A new task of a model, or else of the first, created by the caller, with what is given for its
-    /// input.
-    Create { model: Option<Name>, input: Parts },
+    /// input. It is activated at a moment, or at once where none is given or the moment has come.
+    Create {
+        model: Option<Name>,
+        input: Parts,
+        activate_at: Option<Moment>,
+    },
     /// The caller becomes the actual owner of a ready task.
     Claim,
     /// The task is worked on.
@@ -19,27 +23,48 @@ pub enum Command {
     /// The task has no owner any more.
     Release,
     /// A person becomes the actual owner.
-    Delegate { person: Name },
+    Delegate {
+        person: Name,
+    },
     /// The task is handed on to other potential owners.
-    Forward { persons: Names },
+    Forward {
+        persons: Names,
+    },
     /// A created task gets its potential owners.
-    Nominate { persons: Names },
+    Nominate {
+        persons: Names,
+    },
     /// A created task is activated.
     Activate,
     /// The persons of a role are replaced.
-    SetRole { role: RoleList, persons: Names },
+    SetRole {
+        role: RoleList,
+        persons: Names,
+    },
     /// 0, the highest, to 10.
-    SetPriority { priority: u8 },
+    SetPriority {
+        priority: u8,
+    },
     /// The task can't be worked on until it is resumed.
     Suspend,
+    /// The task can't be worked on until it is resumed, or until this end.
+    SuspendUntil {
+        end: End,
+    },
     /// The task is again as it was before it was suspended.
     Resume,
     /// Parts of the output are set, at least one.
-    SetOutput { output: Parts },
+    SetOutput {
+        output: Parts,
+    },
     /// Parts of the output are set, and the task ends well.
-    Complete { output: Parts },
+    Complete {
+        output: Parts,
+    },
     /// The task ends with a fault, which may have a name.
-    Fail { fault: Option<Name> },
+    Fail {
+        fault: Option<Name>,
+    },
     /// The task isn't needed any more.
     Skip,
     /// The task ends by an operator.
@@ -47,7 +72,13 @@ pub enum Command {
     /// The task ends by an operator, as one that went wrong.
     Error,
     /// A text of 1 to 512 bytes is noted on the task.
-    AddComment { text: Txt },
+    AddComment {
+        text: Txt,
+    },
+    /// The sub task of the entry with this name is made.
+    InstantiateSubTask {
+        sub: Name,
+    },
 }
 
 impl Command {
@@ -68,6 +99,7 @@ impl Command {
             Command::SetRole { .. } => Op::SetRole,
             Command::SetPriority { .. } => Op::SetPriority,
             Command::Suspend => Op::Suspend,
+            Command::SuspendUntil { .. } => Op::SuspendUntil,
             Command::Resume => Op::Resume,
             Command::SetOutput { .. } => Op::SetOutput,
             Command::Complete { .. } => Op::Complete,
@@ -76,6 +108,7 @@ impl Command {
             Command::Exit => Op::Exit,
             Command::Error => Op::Error,
             Command::AddComment { .. } => Op::AddComment,
+            Command::InstantiateSubTask { .. } => Op::InstantiateSubTask,
         }
     }
 
@@ -83,9 +116,14 @@ impl Command {
         ensures { IfOk result (λ c. c ≡ self.now) }
     {
         Ok(match self {
-            Command::Create { model, input } => Command::Create {
+            Command::Create {
+                model,
+                input,
+                activate_at,
+            } => Command::Create {
                 model: *model,
                 input: input.copy(alloc)?,
+                activate_at: *activate_at,
             },
             Command::Claim => Command::Claim,
             Command::Start => Command::Start,
@@ -107,6 +145,7 @@ impl Command {
                 priority: *priority,
             },
             Command::Suspend => Command::Suspend,
+            Command::SuspendUntil { end } => Command::SuspendUntil { end: *end },
             Command::Resume => Command::Resume,
             Command::SetOutput { output } => Command::SetOutput {
                 output: output.copy(alloc)?,
@@ -121,6 +160,7 @@ impl Command {
             Command::AddComment { text } => Command::AddComment {
                 text: text.copy(alloc)?,
             },
+            Command::InstantiateSubTask { sub } => Command::InstantiateSubTask { sub: *sub },
         })
     }
 }

@@ -1,11 +1,11 @@
 use crate::{
-    Command, Event, Memory, Moment, Name, Names, Op, Parts, Query, Record, Retry, RoleList, Scalar,
-    TaskId, Txt,
+    Bytes, Command, End, Event, Memory, Moment, Name, Names, Op, Parts, Query, Record, Retry,
+    RoleList, Scalar, TaskId, Txt,
 };
 use std::alloc::Global;
 use std::test::Fail;
 
-const OPERATIONS: [Op; 20] = [
+const OPERATIONS: [Op; 22] = [
     Op::Create,
     Op::Claim,
     Op::Start,
@@ -18,6 +18,7 @@ const OPERATIONS: [Op; 20] = [
     Op::SetRole,
     Op::SetPriority,
     Op::Suspend,
+    Op::SuspendUntil,
     Op::Resume,
     Op::SetOutput,
     Op::Complete,
@@ -26,6 +27,7 @@ const OPERATIONS: [Op; 20] = [
     Op::Exit,
     Op::Error,
     Op::AddComment,
+    Op::InstantiateSubTask,
 ];
 
 const RETRY: Retry = Retry {
@@ -55,7 +57,7 @@ fn copied_record(
     alloc: Global,
     caller: Name,
     command: Command,
-) -> Result<(Op, Option<Retry>), Fail> {
+) -> Result<Option<(Op, Option<Retry>)>, Fail> {
     let record = Record::Asked {
         at: Moment(1000),
         caller,
@@ -67,9 +69,10 @@ fn copied_record(
     Ok(op_kept(&copy))
 }
 
-fn op_kept(record: &Record) -> (Op, Option<Retry>) {
+fn op_kept(record: &Record) -> Option<(Op, Option<Retry>)> {
     match record {
-        Record::Asked { retry, command, .. } => (command.op(), *retry),
+        Record::Asked { retry, command, .. } => Some((command.op(), *retry)),
+        _ => None,
     }
 }
 
@@ -86,8 +89,31 @@ fn events_and_records_are_copied(rt: HostRuntime) -> Result<(), Fail> {
         let asked = copied_event(rt.alloc(), anna, copied_command(rt.alloc(), op, anna)?)?;
         assert_eq!(rt; asked, Some((op, Some(RETRY))));
         let kept = copied_record(rt.alloc(), anna, command_of(rt.alloc(), op, anna)?)?;
-        assert_eq!(rt; kept, (op, Some(RETRY)));
+        assert_eq!(rt; kept, Some((op, Some(RETRY))));
     }
+    Ok(())
+}
+
+fn is_of_texts(record: &Record, models: &[u8], people: &[u8]) -> bool {
+    match record {
+        Record::Opening {
+            models: m,
+            people: p,
+        } => m.as_slice() == models && p.as_slice() == people,
+        _ => false,
+    }
+}
+
+#[test]
+fn openings_and_turns_are_copied(rt: HostRuntime) -> Result<(), Fail> {
+    let opening = Record::Opening {
+        models: Bytes::of(rt.alloc(), b"[[model]]")?,
+        people: Bytes::of(rt.alloc(), b"")?,
+    };
+    assert!(rt; is_of_texts(&opening.copy(rt.alloc())?, b"[[model]]", b""));
+    let turn = Record::Turn { at: Moment(7000) };
+    let copy = turn.copy(rt.alloc())?;
+    assert!(rt; matches!(copy, Record::Turn { at: Moment(7000) }));
     Ok(())
 }
 
@@ -119,6 +145,9 @@ fn plain_command(op: Op) -> Option<Command> {
         Op::Activate => Command::Activate,
         Op::SetPriority => Command::SetPriority { priority: 10 },
         Op::Suspend => Command::Suspend,
+        Op::SuspendUntil => Command::SuspendUntil {
+            end: End::At(Moment(5000)),
+        },
         Op::Resume => Command::Resume,
         Op::Skip => Command::Skip,
         Op::Exit => Command::Exit,
@@ -132,6 +161,7 @@ fn command_with(alloc: Global, op: Op, name: Name) -> Result<Command, Fail> {
         Op::Create => Command::Create {
             model: Some(name),
             input: one_part(alloc, name)?,
+            activate_at: Some(Moment(5000)),
         },
         Op::Delegate => Command::Delegate { person: name },
         Op::Forward => Command::Forward {
@@ -154,6 +184,7 @@ fn command_with(alloc: Global, op: Op, name: Name) -> Result<Command, Fail> {
         Op::AddComment => Command::AddComment {
             text: Txt::of(alloc, "soon")?,
         },
+        Op::InstantiateSubTask => Command::InstantiateSubTask { sub: name },
         _ => return Err(Fail::from("no such command")),
     })
 }

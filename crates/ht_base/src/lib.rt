@@ -3,10 +3,12 @@
 #![tactic(auto)]
 
 mod bytes;
+mod end;
 mod event;
 #[cfg(test)]
 mod event_tests;
 mod how;
+mod ids;
 mod indexes;
 mod kind;
 mod memory;
@@ -37,8 +39,10 @@ mod value_list;
 mod values;
 
 pub use bytes::Bytes;
+pub use end::End;
 pub use event::{Command, Event, Query};
 pub use how::How;
+pub use ids::Ids;
 pub use indexes::{IndexFault, Key, index, name_places};
 pub use kind::Kind;
 pub use memory::Memory;

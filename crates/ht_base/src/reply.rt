@@ -65,6 +65,10 @@ pub enum Refusal {
     NoOutput(Name),
     /// The task can't be skipped, by its model.
     NotSkipable,
+    /// The end of the suspension isn't later than the moment at which the command acts.
+    UntilPast,
+    /// The task has no entry of this name whose sub task could be made now.
+    SubRefused(Name),
     Limit(Limit),
     /// There is not enough memory. Nothing was changed.
     Memory,

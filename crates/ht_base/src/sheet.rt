@@ -1,4 +1,4 @@
-use crate::{Moment, Name, Names, Parts, ShownComments, State, TaskId};
+use crate::{Ids, Moment, Name, Names, Parts, ShownComments, State, TaskId};
 
 /// What is told of one task (WS-HumanTask 1.1, 7.1.1 "getTaskDetails"): its persons and its model by
 /// name, and its parts as a request gives them.
@@ -25,6 +25,8 @@ pub struct Sheet {
     pub stakeholders: Names,
     pub started: bool,
     pub state: State,
+    /// Its sub tasks, in ascending order.
+    pub subs: Ids,
     pub task: TaskId,
     /// When its suspension ends.
     pub until: Option<Moment>,

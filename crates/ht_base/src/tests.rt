@@ -1,8 +1,8 @@
 ghost use Rattle.ht_base.specs.Persons.{AllBelow};
 
 use crate::{
-    Bytes, How, IndexFault, Kind, LAST, Moment, Name, Names, Person, Persons, Role, Roles,
-    ShownComment, ShownComments, State, StateSet, Txt, Value, ValueList, Values, index,
+    Bytes, How, Ids, IndexFault, Kind, LAST, Moment, Name, Names, Person, Persons, Role, Roles,
+    ShownComment, ShownComments, State, StateSet, TaskId, Txt, Value, ValueList, Values, index,
     name_places, number, period,
 };
 use std::alloc::{AllocError, Global};
@@ -78,6 +78,15 @@ fn bytes_are_lent(rt: HostRuntime) -> Result<(), Fail> {
     lent.push(b's')?;
     of.give_back(lent);
     assert_eq!(rt; of.as_slice(), b"rows".as_slice());
+    Ok(())
+}
+
+#[test]
+fn tasks_are_copied(rt: HostRuntime) -> Result<(), Fail> {
+    let numbers = [TaskId(2), TaskId(5)];
+    let ids = Ids::of(numbers.to_vec(rt.alloc())?);
+    let copy = ids.copy(rt.alloc())?;
+    assert!(rt; copy.as_slice() == numbers.as_slice());
     Ok(())
 }
 

@@ -1,0 +1,10 @@
+use crate::Moment;
+
+/// When a suspension ends by itself.
+#[derive(Clone, Copy, Debug, PartialEq, Eq)]
+pub enum End {
+    /// At a moment.
+    At(Moment),
+    /// So many milliseconds after the command has acted.
+    After(u64),
+}
