@@ -12,7 +12,7 @@ module _ (name : List ℕ) where
   no_input [] = refl
   no_input (p ∷ ps) = no_input ps
 
-  among_inputs : (input out : List Part) → declared_kind (map (λ p. (Input, p.name, p.kind)) input ++ map (λ p. (Output, p.name, p.kind)) out) Input name ≡ kind_among name input
+  pub among_inputs : (input out : List Part) → declared_kind (map (λ p. (Input, p.name, p.kind)) input ++ map (λ p. (Output, p.name, p.kind)) out) Input name ≡ kind_among name input
   among_inputs [] out = no_input out
   among_inputs (p ∷ ps) out = rw (among_inputs ps out) refl
 
@@ -20,7 +20,7 @@ module _ (name : List ℕ) where
   among_outputs [] = refl
   among_outputs (p ∷ ps) = rw (among_outputs ps) refl
 
-  behind_inputs : (input out : List Part) → declared_kind (map (λ p. (Input, p.name, p.kind)) input ++ map (λ p. (Output, p.name, p.kind)) out) Output name ≡ kind_among name out
+  pub behind_inputs : (input out : List Part) → declared_kind (map (λ p. (Input, p.name, p.kind)) input ++ map (λ p. (Output, p.name, p.kind)) out) Output name ≡ kind_among name out
   behind_inputs [] out = among_outputs out
   behind_inputs (p ∷ ps) out = behind_inputs ps out
 

@@ -1,15 +1,19 @@
 mod Among
+mod AscendingPairs
 mod BuiltIn
 mod Days
 mod DeclaredKinds
+mod Elements
 mod Examples
 mod FirstOnes
+mod FittingParts
 mod InstantCuts
 mod InstantExamples
 mod InstantTexts
 mod LeastOfTwo
 mod Lookups
 mod ModelLists
+mod OwnParts
 mod Passing
 pub mod PublicLaws
 mod Repeated

@@ -16,7 +16,7 @@ use Rattle.ht_models.specs.Kinded.{IsKinded}
 use Rattle.ht_models.specs.Model.{ModelOf, names}
 use Rattle.ht_models.specs.Shown.{model_of}
 
-names-map : (ms : List Model) → names (map model_of ms) ≡ map (λ m. m.name) ms
+pub names-map : (ms : List Model) → names (map model_of ms) ≡ map (λ m. m.name) ms
 names-map [] = refl
 names-map (m ∷ ms) = ap (λ ns. m.name ∷ ns) (names-map ms)
 

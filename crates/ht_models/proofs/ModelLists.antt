@@ -12,7 +12,7 @@ use Rattle.ht_models.specs.declared.model.Model.{Model}
 use Rattle.ht_models.specs.Deadlines.{DeadlineText, EscalationText}
 use Rattle.ht_models.specs.Expressions.{Asked, HasRefused, IsRefused, One, asked, assignment, declared, expression, of_deadline, of_escalation, of_finish}
 use Rattle.ht_models.specs.Finishes.{FinishText}
-use Rattle.ht_models.specs.Model.{DeadlineOf, EscalationOf, FinishOf, ModelOf}
+use Rattle.ht_models.specs.Model.{DeadlineOf, EscalationOf, FinishOf, ModelOf, names}
 use Rattle.ht_models.specs.ModelEntries.{ModelEntry}
 use Rattle.ht_models.specs.Reading.{AreModels, IsDeadline, IsEscalation, IsFinish, IsModel}
 use Rattle.ht_models.specs.Refusals.{IsUnreadable}
@@ -205,8 +205,9 @@ each_push P (y ∷ ms) m each last (suc place) x at = each_push (λ n. P (suc n)
 pub same_length : (t : List ModelEntry) (ms : List Model) → AllZip IsModel t (map model_of ms) → length t ≡ length ms
 same_length t ms all = length_zip IsModel t (map model_of ms) all ∙ length-map ms model_of
 
-pub same_names : (t : List ModelEntry) (ms : List Model) → AllZip IsModel t (map model_of ms) → names_of t ≡ map (λ m. m.name) ms
+-- as those of the text
+pub same_names : (t : List ModelEntry) (models : List ModelOf) → AllZip IsModel t models → names_of t ≡ names models
 same_names [] [] all = refl
-same_names [] (m ∷ ms) all = absurd all
-same_names (e ∷ t) [] all = absurd all
-same_names (e ∷ t) (m ∷ ms) all = λ i. sym all.0.name i ∷ same_names t ms all.1 i
+same_names [] (x ∷ xs) all = absurd all
+same_names (m ∷ t) [] all = absurd all
+same_names (m ∷ t) (x ∷ xs) all = λ i. sym all.0.name i ∷ same_names t xs all.1 i

@@ -17,7 +17,7 @@ use Rattle.ht_models.specs.declared.models.Models.TheInside.{Inside}
 use Rattle.ht_models.specs.declared.refusal.ModelsRefusal.{ModelsRefusal}
 use Rattle.ht_models.specs.declared.refusal.ModelsRefusal.TheVariants.{Field, UnknownModel, Cycle, Expression, Limit, Contradiction, Memory}
 use Rattle.ht_models.specs.Kept.{IsKept, kept_names}
-use Rattle.ht_models.specs.Kinded.{IsKinded}
+use Rattle.ht_models.specs.Kinded.{SpeaksOfParts}
 use Rattle.ht_models.specs.Model.{ModelOf}
 use Rattle.ht_models.specs.ModelEntries.{ModelEntry}
 use Rattle.ht_models.specs.ModelsText.{IsMisshapen, IsModelsText, models_text}
@@ -25,8 +25,12 @@ use Rattle.ht_models.specs.Reading.{AreModels, IsModel, IsModels, Reads}
 use Rattle.ht_models.specs.Refusals.{IsContradicted, IsTooMuch, IsTwice, IsUnreadable, NamesUnknownModel, ReachesItself, model_refusals, most, refusals}
 use Rattle.ht_models.specs.Shown.{model_of}
 use Rattle.ht_models.specs.Limits.{has_too_large_tree}
+use Rattle.ht_models.specs.SubEntries.{AreInOrder}
 use Rattle.ht_models.specs.SubTrees.{AreCounted, TreeCounts, is_too_deep, names_of, size_of, sub_places}
+use Rattle.ht_models.proofs.FittingParts.{are_kinded, are_mapped}
+use Rattle.ht_models.proofs.Lookups.{names-map}
 use Rattle.ht_models.proofs.ModelLists.{one_list, same_length, same_names}
+use Rattle.ht_models.proofs.OwnParts.{declare_once}
 use Rattle.ht_models.proofs.Shapes.{none_misshapen}
 use Rattle.ht_models.proofs.SizedTrees.{are_sized}
 use Rattle.ht_models.proofs.SubPlaces.{counted_size, some_size}
@@ -130,18 +134,20 @@ sizes_kept t ms limit are place d within =
     let small = small_tree t limit place low in
     (omega arith, omega arith)
 
-pub kept : (t : List ModelEntry) (m : Inside) → 1 ≤ length t → Never t IsTooMuch → Never t IsTwice → Never t NamesUnknownModel → AreModels t (map model_of m.models.items) → All IsKinded m.models.items → IsIndex m.places (names_of t) → IsKept m
-kept t m some limit twice unknown models kinds index =
+pub kept : (t : List ModelEntry) (m : Inside) → 1 ≤ length t → Never t IsTooMuch → Never t IsTwice → Never t NamesUnknownModel → Never t IsContradicted → All (λ e. AreInOrder e.subs) t → AreModels t (map model_of m.models.items) → All SpeaksOfParts m.models.items → IsIndex m.places (names_of t) → IsKept m
+kept t m some limit twice unknown contradiction order models kinds index =
     let are = models.each in
     let few = few_models t limit in
-    let names : names_of t ≡ kept_names m = same_names t m.models.items are in
+    let names : names_of t ≡ kept_names m = same_names t (map model_of m.models.items) are ∙ names-map m.models.items in
     let same = same_length t m.models.items are in
     record {
       index = rw (← names) index;
       distinct = rw (← names) (λ place repeated. twice place (inl repeated));
       sizes = sizes_kept t m.models.items limit models;
       trees = are_sized t (map model_of m.models.items) models unknown limit;
-      kinds = kinds;
+      parts = declare_once t (map model_of m.models.items) twice are;
+      kinds = are_kinded t m.models.items contradiction are kinds;
+      inputs = are_mapped t (map model_of m.models.items) contradiction are order;
       some = omega arith;
       few = omega arith;
     }

@@ -1,7 +1,7 @@
 -- The trees of models that were read, as their texts say them.
-use Rattle.std.proofs.Common.{◌≡◌, ◌∙◌, ◌+◌, ◌<◌, ◌≤◌, ℕ, zero, suc, List, [], ◌∷◌, length, Option, Some, None, ap, arith, inl, inr, option_map, refl, subst, sym}
+use Rattle.std.proofs.Common.{◌≡◌, ◌∙◌, ◌+◌, ◌<◌, ◌≤◌, ℕ, List, [], ◌∷◌, length, Option, Some, None, ap, arith, inl, inr, option_map, refl}
 use Rattle.std.specs.Prelude.{◌||◌, IsSome, filter_map, is_some, nat_lt, slice_get}
-use Rattle.std.specs.List.{AllZip, cons_option, sum_by}
+use Rattle.std.specs.List.{cons_option, sum_by}
 use Rattle.std.specs.Option.{option_map_or}
 use Rattle.std.proofs.lemmas.Bool.{cases_lt, le-leb, lt-ltb, not_from_false, or_left, or_right, true_from_ne_false}
 use Rattle.std.proofs.lemmas.List.Sums.{sum_by-cons}
@@ -16,29 +16,12 @@ use Rattle.ht_models.specs.Refusals.{IsTooMuch, NamesUnknownModel}
 use Rattle.ht_models.specs.SubEntries.{SubEntry}
 use Rattle.ht_models.specs.SubTrees.{below, chains, is_too_deep, is_unknown, most_levels, names_of, size_of, sub_places, subs_at}
 use Rattle.ht_models.specs.TreeSizes.{AreSized, IsSized, entries_size, size_at}
+use Rattle.ht_models.proofs.ModelLists.{same_names}
 use Rattle.ht_models.proofs.TreeLaws.{model_found}
 use Rattle.ht_models.proofs.TreeLevels.{top_and_below}
+use Rattle.ht_models.proofs.Zips.{zip_at}
 
--- ---- each model and its entry of the text
-
-same_names : (t : List ModelEntry) (models : List ModelOf) → AllZip IsModel t models → names_of t ≡ names models
-same_names [] [] all = refl
-same_names [] (x ∷ xs) all = absurd all
-same_names (m ∷ t) [] all = absurd all
-same_names (m ∷ t) (x ∷ xs) all = λ i. sym all.0.name i ∷ same_names t xs all.1 i
-
--- what a model was read from
-record IsReadAt (t : List ModelEntry) (place : ℕ) (x : ModelOf) : Type 0 where
-  entry : ModelEntry
-  there : slice_get t place ≡ Some entry
-  read : IsModel entry x
-
-read_at : (t : List ModelEntry) (models : List ModelOf) → AllZip IsModel t models → (place : ℕ) (x : ModelOf) → slice_get models place ≡ Some x → IsReadAt t place x
-read_at [] [] all place x at = cc
-read_at [] (y ∷ ys) all place x at = absurd all
-read_at (m ∷ t) [] all place x at = absurd all
-read_at (m ∷ t) (y ∷ ys) all zero x at = let same : y ≡ x = cc in record { entry = m; there = refl; read = subst (IsModel m) same all.0 }
-read_at (m ∷ t) (y ∷ ys) all (suc place) x at = let r = read_at t ys all.1 place x at in record { entry = r.entry; there = r.there; read = r.read }
+-- ---- entries of the text
 
 -- where its sub entries lead
 leads_below : (t : List ModelEntry) (place : ℕ) (m : ModelEntry) → slice_get t place ≡ Some m → subs_at t place ≡ below (names_of t) m
@@ -101,5 +84,5 @@ module _ (t : List ModelEntry) (models : List ModelOf) (are : AreModels t models
 
     pub are_sized : AreSized models
     are_sized place x at =
-        let from = read_at t models are.each place x at in
-        is_sized place from.entry x from.there from.read (are.sizes place x at)
+        let from = zip_at IsModel t models are.each place x at in
+        is_sized place from.0 x from.1 from.2 (are.sizes place x at)

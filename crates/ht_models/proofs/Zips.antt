@@ -1,5 +1,6 @@
 -- Lists that belong together, item by item.
-use Rattle.std.proofs.Common.{◌≡◌, ℕ, ◌+◌, ◌<◌, List, [], ◌∷◌, ◌++◌, length, take, get_or, refl, ap, sym, suc}
+use Rattle.std.proofs.Common.{◌≡◌, ℕ, ◌+◌, ◌<◌, List, [], ◌∷◌, ◌++◌, Some, length, take, get_or, refl, ap, subst, sym, suc, zero}
+use Rattle.std.specs.Prelude.{slice_get}
 use Rattle.std.specs.List.{AllZip}
 use Rattle.std.proofs.lemmas.List.{take_more}
 
@@ -18,6 +19,14 @@ module _ {A B : Type 0} (R : A → B → Type 0) where
   length_zip [] (y ∷ ys) all = absurd all
   length_zip (x ∷ xs) [] all = absurd all
   length_zip (x ∷ xs) (y ∷ ys) all = ap (λ n. suc n) (length_zip xs ys all.1)
+
+  -- what an item belongs to
+  pub zip_at : (xs : List A) (ys : List B) → AllZip R xs ys → (i : ℕ) (y : B) → slice_get ys i ≡ Some y → (x : A) × (slice_get xs i ≡ Some x) × R x y
+  zip_at [] [] all i y at = cc
+  zip_at [] (z ∷ ys) all i y at = absurd all
+  zip_at (x ∷ xs) [] all i y at = absurd all
+  zip_at (x ∷ xs) (z ∷ ys) all zero y at = let same : z ≡ y = cc in (x, refl, subst (R x) same all.0)
+  zip_at (x ∷ xs) (z ∷ ys) all (suc i) y at = zip_at xs ys all.1 i y at
 
   -- where each item has one that belongs to it, so has the list
   pub one_zip : ((x : A) (y z : B) → R x y → R x z → y ≡ z) → (xs : List A) (ys zs : List B) → AllZip R xs ys → AllZip R xs zs → ys ≡ zs

@@ -3,11 +3,19 @@ use Rattle.std.specs.Prelude.{◌≡◌, ℕ, refl, List, [], ◌∷◌, length,
 use Rattle.std.proofs.Common.{ap, inr, lit<, true≢false}
 use Rattle.std.proofs.lemmas.Bool.{false≢true}
 use Rattle.toml.specs.Data.{Data, Members, Items, array, boolean, item, member, no_items, no_members, string, table}
+use Rattle.ht_base.specs.declared.how.How.TheVariants as how
+use Rattle.ht_base.specs.declared.kind.Kind.TheVariants.{Int, Text}
 use Rattle.ht_base.specs.Places.{IsRepeated}
+use Rattle.ht_base.specs.Values.{Ascend}
 use Rattle.ht_models.specs.BuiltIn.{built_in_text, plain_model}
+use Rattle.ht_models.specs.DeclaredParts.{HaveOwnNames}
 use Rattle.ht_models.specs.EntryExamples.{bare}
+use Rattle.ht_models.specs.Finishes.{setting}
+use Rattle.ht_models.specs.Kinded.{IsSettable, parts_of}
+use Rattle.ht_models.specs.MappedInputs.{IsMappedPair}
 use Rattle.ht_models.specs.Model.{ModelOf}
 use Rattle.ht_models.specs.ModelsText.{is_top, IsMisshapen, models_text}
+use Rattle.ht_models.specs.Parts.{part}
 use Rattle.ht_models.specs.SubEntries.{SubEntry, sub_entry}
 use Rattle.ht_models.specs.SubTrees.{names_of}
 use Rattle.ht_models.specs.TreeSizes.{IsSized, entries_size, entry_size}
@@ -68,6 +76,51 @@ a_task_too_few sized = true≢false (ap (λ n. nat_eq n 3) sized.counted)
 
 an_entry_of_no_model : IsSized tree (record (plain_model (codes "d")) { subs = entry (codes "e") ∷ []; size = 1 }) → ⊥
 an_entry_of_no_model sized = false≢true (sized.known 0 (entry (codes "e")) refl)
+
+-- ---- parts of models
+
+abbrev whole : ModelOf
+whole = record (plain_model (codes "whole")) {
+  input = part (codes "t") Text false ∷ part (codes "n") Int false ∷ [];
+  output = part (codes "o") Text true ∷ part (codes "s") Int true ∷ [];
+}
+
+abbrev child : ModelOf
+child = record (plain_model (codes "child")) { input = part (codes "p") Text false ∷ [] }
+
+mapped_of_one_kind : IsMappedPair child whole (codes "p", codes "t")
+mapped_of_one_kind = record { declared = refl; same = refl }
+
+mapped_of_two_kinds : IsMappedPair child whole (codes "p", codes "n") → ⊥
+mapped_of_two_kinds pair = let same = pair.same in cc
+
+mapped_from_an_output : IsMappedPair child whole (codes "p", codes "o") → ⊥
+mapped_from_an_output pair = let same = pair.same in cc
+
+-- though neither is there
+mapped_of_no_parts : IsMappedPair child whole (codes "q", codes "u") → ⊥
+mapped_of_no_parts pair = false≢true pair.declared
+
+pairs_in_order : Ascend ((codes "p", codes "t") ∷ (codes "q", codes "n") ∷ [])
+pairs_in_order = (refl, tt)
+
+pairs_out_of_order : Ascend ((codes "q", codes "n") ∷ (codes "p", codes "t") ∷ []) → ⊥
+pairs_out_of_order ascend = false≢true ascend.0
+
+a_pair_twice : Ascend ((codes "p", codes "t") ∷ (codes "p", codes "n") ∷ []) → ⊥
+a_pair_twice ascend = false≢true ascend.0
+
+a_sum_of_numbers : IsSettable (parts_of whole.input whole.output) (setting (codes "s") (codes "x") how.Sum)
+a_sum_of_numbers = refl
+
+a_sum_is_no_text : IsSettable (parts_of whole.input whole.output) (setting (codes "o") (codes "x") how.Sum) → ⊥
+a_sum_is_no_text sets = cc
+
+an_input_is_not_set : IsSettable (parts_of whole.input whole.output) (setting (codes "n") (codes "x") how.Sum) → ⊥
+an_input_is_not_set sets = cc
+
+two_parts_of_one_name : HaveOwnNames (part (codes "a") Text false ∷ part (codes "a") Int false ∷ []) → ⊥
+two_parts_of_one_name own = own 1 (0, lit< tt, codes "a", refl, refl)
 
 -- ---- the built-in text
 

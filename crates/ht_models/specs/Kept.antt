@@ -3,7 +3,9 @@ use Rattle.std.specs.Prelude.{ℕ, ◌≤◌, List, All, length, map}
 use Rattle.ht_base.specs.Indexes.{IsIndex}
 use Rattle.ht_base.specs.Places.{IsRepeated}
 use Rattle.ht_models.specs.declared.models.Models.TheInside.{Inside}
+use Rattle.ht_models.specs.DeclaredParts.{DeclareOnce}
 use Rattle.ht_models.specs.Kinded.{IsKinded}
+use Rattle.ht_models.specs.MappedInputs.{AreMapped}
 use Rattle.ht_models.specs.Refusals.{most}
 use Rattle.ht_models.specs.Shown.{model_of}
 use Rattle.ht_models.specs.TreeSizes.{AreSized}
@@ -16,6 +18,8 @@ pub record IsKept (m : Inside) : Type 0 where
   pub distinct : (place : ℕ) → IsRepeated (kept_names m) place → ⊥
   pub sizes : All (λ m. (1 ≤ m.size) × (m.size ≤ 256)) m.models.items
   pub trees : AreSized (map model_of m.models.items)
+  pub parts : DeclareOnce (map model_of m.models.items)
   pub kinds : All IsKinded m.models.items
+  pub inputs : AreMapped (map model_of m.models.items)
   pub some : 1 ≤ length m.models.items
   pub few : length m.models.items ≤ most

@@ -1,11 +1,12 @@
--- The expressions and assignments of a model that was read speak of the parts that the model declares,
--- each as its kind is.
+-- The expressions, assignments and finishes of a model that was read speak of the parts that the model
+-- declares, each as its kind is.
 use Rattle.std.specs.Prelude.{◌≡◌, true, All, List, ◌++◌, map, Some, IfSome}
 use Rattle.ht_base.specs.declared.kind.Kind.{Kind}
 use Rattle.ht_base.specs.declared.kind.Kind.TheVariants.{Int, Truth}
+use Rattle.ht_base.specs.Kinds.{kind_of_how}
 use Rattle.ht_expr.specs.declared.assignment.Assign.{Assign}
 use Rattle.ht_expr.specs.declared.kinds.Side.TheVariants.{Input, Output}
-use Rattle.ht_expr.specs.Kinds.{Declared}
+use Rattle.ht_expr.specs.Kinds.{Declared, declared_kind}
 use Rattle.ht_expr.specs.KindTable.{assigns, kind_of}
 use Rattle.ht_expr.specs.Nodes.{ExprOf}
 use Rattle.ht_expr.specs.Shown.{AreDeclared, shown}
@@ -13,6 +14,7 @@ use Rattle.ht_models.specs.declared.model.Deadline.{Deadline}
 use Rattle.ht_models.specs.declared.model.Escalation.{Escalation}
 use Rattle.ht_models.specs.declared.model.Finish.{Finish}
 use Rattle.ht_models.specs.declared.model.Model.{Model}
+use Rattle.ht_models.specs.Finishes.{Setting}
 use Rattle.ht_models.specs.Parts.{Part}
 
 -- the parts that a model declares, of these inputs and outputs
@@ -37,10 +39,20 @@ pub record Escalates (kinds : Declared) (e : Escalation) : Type 0 where
 abbrev pub Ends : Declared → Deadline → Type 0
 Ends kinds d = All (Escalates kinds) d.escalations.items
 
-abbrev pub Finishes : Declared → Finish → Type 0
-Finishes kinds f = IfSome f.when (IsOfKind kinds Truth)
+-- its condition is a truth
+abbrev pub HasTruth : Declared → Finish → Type 0
+HasTruth kinds f = IfSome f.when (IsOfKind kinds Truth)
 
-pub record IsKindedBy (kinds : Declared) (m : Model) : Type 0 where
+-- what is set is an output part of the aggregate's kind
+abbrev pub IsSettable : Declared → Setting → Type 0
+IsSettable kinds s = declared_kind kinds Output s.part ≡ Some (kind_of_how s.how)
+
+pub record Finishes (kinds : Declared) (f : Finish) : Type 0 where
+  pub when : HasTruth kinds f
+  pub settings : All (IsSettable kinds) f.settings.items
+
+-- with finishes that are fit
+pub record IsKindedBy (kinds : Declared) (IsFit : Finish → Type 0) (m : Model) : Type 0 where
   pub priority : IfSome m.priority (IsOfKind kinds Int)
   pub delegatees : IfSome m.delegatees (Assigns kinds)
   pub potential_owners : Assigns kinds m.potential_owners
@@ -48,7 +60,11 @@ pub record IsKindedBy (kinds : Declared) (m : Model) : Type 0 where
   pub administrators : IfSome m.administrators (Assigns kinds)
   pub stakeholders : IfSome m.stakeholders (Assigns kinds)
   pub deadlines : All (Ends kinds) m.deadlines.items
-  pub finishes : All (Finishes kinds) m.finishes.items
+  pub finishes : All IsFit m.finishes.items
 
 abbrev pub IsKinded : Model → Type 0
-IsKinded m = IsKindedBy (parts_of m.input.items m.output.items) m
+IsKinded m = let kinds = parts_of m.input.items m.output.items in IsKindedBy kinds (Finishes kinds) m
+
+-- of its expressions and assignments alone
+abbrev pub SpeaksOfParts : Model → Type 0
+SpeaksOfParts m = let kinds = parts_of m.input.items m.output.items in IsKindedBy kinds (HasTruth kinds) m

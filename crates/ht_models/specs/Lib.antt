@@ -2,6 +2,7 @@ pub mod Aggregates
 pub mod BuiltIn
 pub mod Contradictions
 pub mod Deadlines
+pub mod DeclaredParts
 pub mod DocumentRefusals
 pub mod EntryExamples
 pub mod Examples
@@ -13,6 +14,7 @@ pub mod Kept
 pub mod Kinded
 pub mod Labels
 pub mod Limits
+pub mod MappedInputs
 pub mod Model
 pub mod ModelEntries
 pub mod ModelsText
@@ -20,6 +22,7 @@ pub mod Parts
 pub mod Reading
 pub mod Refusals
 pub mod Repeats
+pub mod SetOutputs
 pub mod ShapeExamples
 pub mod Shown
 pub mod SubEntries

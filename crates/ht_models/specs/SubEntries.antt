@@ -1,7 +1,8 @@
 -- The sub tasks that a composite task may have (WS-HumanTask 1.1, 3.2).
-use Rattle.std.specs.Prelude.{ℕ, List, [], ◌∷◌, Option, codes, option_map}
+use Rattle.std.specs.Prelude.{ℕ, All, List, [], ◌∷◌, Option, codes, option_map}
 use Rattle.std.specs.Option.{option_and_then}
 use Rattle.toml.specs.Data.{Data, Members, as_table}
+use Rattle.ht_base.specs.Values.{Ascend}
 use Rattle.ht_toml.specs.Keys.{◌also◌, keyed, otherwise, required}
 use Rattle.ht_toml.specs.Values.{named, table_of}
 use Rattle.ht_models.specs.Labels.{label, label_of}
@@ -15,6 +16,10 @@ pub record SubEntry : Type 0 where
 
 abbrev pub sub_entry : List ℕ → List ℕ → List (List ℕ × List ℕ) → SubEntry
 sub_entry name model input = record { name = name; model = model; input = input }
+
+-- each has its pairs in the order of the names of the sub task's parts, of which none stands twice
+abbrev pub AreInOrder : List SubEntry → Type 0
+AreInOrder subs = All (λ s. Ascend s.input) subs
 
 abbrev pub sub_keys : List (List ℕ)
 sub_keys = codes "name" ∷ codes "model" ∷ codes "input" ∷ []

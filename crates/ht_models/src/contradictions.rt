@@ -1,11 +1,13 @@
-ghost use Rattle.std.specs.Prelude.{◌≡◌, option_map};
+ghost use Rattle.std.specs.Prelude.{◌≡◌, All, IfNone, false, option_map};
 ghost use Rattle.std.specs.List.{list_any};
 ghost use Rattle.ht_base.specs.Indexes.{IsIndex};
 ghost use Rattle.ht_base.specs.Places.{IsLeastIfAny};
 ghost use Rattle.ht_base.specs.Kinds.{kind_of_how};
+ghost use Rattle.ht_base.specs.Values.{Ascend};
 ghost use Rattle.ht_models.specs.Contradictions as spec;
 ghost use Rattle.ht_models.specs.Expressions.{declared};
 ghost use Rattle.ht_models.specs.Refusals.{IsContradicted};
+ghost use Rattle.ht_models.specs.SubEntries.{AreInOrder};
 ghost use Rattle.ht_models.specs.SubTrees.{model_named, names_of};
 
 use crate::choices::Trigger;
@@ -21,7 +23,8 @@ use std::collections::BTreeMap;
 /// The first model that contradicts itself, by the places of the models.
 pub fn first_contradicted(places: &BTreeMap<Name, usize>, entries: &[ModelEntry]) -> Option<usize>
     requires { IsIndex places.now (names_of entries.now) }
-    ensures { IsLeastIfAny (IsContradicted entries.now) result }
+    ensures first { IsLeastIfAny (IsContradicted entries.now) result }
+    ensures order { IfNone result (All (λ m. AreInOrder m.subs) entries.now) }
 {
     for (place, entry) in entries.iter().enumerate() {
         if is_contradicted(places, entries, entry) {
@@ -37,7 +40,8 @@ fn is_contradicted(
     entry: &ModelEntry,
 ) -> bool
     requires { IsIndex places.now (names_of entries.now) }
-    ensures { result ≡ spec.is_contradicted entries.now entry.now }
+    ensures value { result ≡ spec.is_contradicted entries.now entry.now }
+    ensures order { result ≡ false → AreInOrder entry.now.subs }
 {
     owns_without_need(entry)
         || waits_for_owner(entry)
@@ -86,10 +90,12 @@ fn is_automatic(trigger: Trigger) -> bool
     matches!(trigger, Trigger::Automatic)
 }
 
-/// Whether a sub entry maps parts that aren't there, or two of different kinds.
+/// Whether a sub entry maps parts that aren't there, or two of different kinds. Where none does, all
+/// were looked at, and each has its pairs in order, as every sub entry has.
 fn has_unfit_sub(places: &BTreeMap<Name, usize>, entries: &[ModelEntry], entry: &ModelEntry) -> bool
     requires { IsIndex places.now (names_of entries.now) }
-    ensures { result ≡ spec.has_unfit_sub entries.now entry.now }
+    ensures value { result ≡ spec.has_unfit_sub entries.now entry.now }
+    ensures order { result ≡ false → AreInOrder entry.now.subs }
 {
     for sub in &entry.subs {
         if misses_parts(model_named(places, entries, sub.model), entry, sub) {
@@ -111,7 +117,8 @@ fn model_named<'a>(
 }
 
 fn misses_parts(model: Option<&ModelEntry>, entry: &ModelEntry, sub: &SubEntry) -> bool
-    ensures { result ≡ list_any (spec.is_unfit_pair (option_map (λ m. m.now) model.entry) (declared entry.now)) sub.now.input }
+    ensures value { result ≡ list_any (spec.is_unfit_pair (option_map (λ m. m.now) model.entry) (declared entry.now)) sub.now.input }
+    ensures order { Ascend sub.now.input }
 {
     sub.input
         .iter()

@@ -2,10 +2,13 @@ ghost use Rattle.std.specs.Prelude.{◌≡◌, ◌≤◌, ◌<◌, ℕ, IfSome, 
 ghost use Rattle.ht_base.specs.Places.{place_in};
 ghost use Rattle.ht_toml.specs.Refusals as text_reads;
 ghost use Rattle.ht_toml.specs.Refusals.{each_of};
+ghost use Rattle.ht_models.specs.DeclaredParts.{DeclareOnce};
 ghost use Rattle.ht_models.specs.Kinded.{IsKinded};
+ghost use Rattle.ht_models.specs.MappedInputs.{AreMapped};
 ghost use Rattle.ht_models.specs.Model.{ModelOf, names};
 ghost use Rattle.ht_models.specs.Reading.{AreModels, Reads};
 ghost use Rattle.ht_models.specs.Refusals.{model_refusals};
+ghost use Rattle.ht_models.specs.SetOutputs.{SetOutputs};
 ghost use Rattle.ht_models.specs.Shown.{model_of};
 ghost use Rattle.ht_models.specs.TreeSizes.{AreSized};
 
@@ -105,6 +108,9 @@ impl Models {
         ensures size { (1 ≤ result.now.size) × (result.now.size ≤ 256) }
         ensures kinds { IsKinded result.now }
         ensures trees { AreSized self.now }
+        ensures parts { DeclareOnce self.now }
+        ensures inputs { AreMapped self.now }
+        ensures outputs { SetOutputs self.now }
     {
         &self.models[place as usize]
     }
@@ -116,6 +122,9 @@ impl Models {
         ensures few { result ≤ 256 }
         ensures sizes { (place : ℕ) (m : ModelOf) → slice_get self.now place ≡ Some m → (1 ≤ m.size) × (m.size ≤ 256) }
         ensures trees { AreSized self.now }
+        ensures parts { DeclareOnce self.now }
+        ensures inputs { AreMapped self.now }
+        ensures outputs { SetOutputs self.now }
     {
         self.models.len() as u32
     }

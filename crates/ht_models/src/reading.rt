@@ -2,7 +2,7 @@ ghost use Rattle.std.specs.Prelude.{◌≡◌, ◌≢◌, ◌<◌, ℕ, All, IfE
 ghost use Rattle.std.specs.List.{AllZip, flat_map};
 ghost use Rattle.ht_toml.specs.Refusals.{Passes, refused};
 ghost use Rattle.ht_models.specs.Expressions.{HasRefused, IsRefused, One, of_deadline, of_escalation, of_finish};
-ghost use Rattle.ht_models.specs.Kinded.{Ends, Escalates, Finishes, IsKinded};
+ghost use Rattle.ht_models.specs.Kinded.{Ends, Escalates, HasTruth, SpeaksOfParts};
 ghost use Rattle.ht_models.specs.Model.{ModelOf};
 ghost use Rattle.ht_models.specs.Reading.{IsDeadline, IsEscalation, IsFinish, IsModel};
 ghost use Rattle.ht_models.specs.Refusals.{IsUnreadable};
@@ -29,7 +29,7 @@ pub fn models_of(
 ) -> Result<Vec<Model>, ModelsRefusal>
     ensures models { IfOk result (λ models. AllZip IsModel entries.items (map model_of models.items)) }
     ensures sizes { IfOk result (λ models. (place : ℕ) (m : ModelOf) → slice_get (map model_of models.items) place ≡ Some m → m.size ≡ slice_index_or trees.now.sizes place 0) }
-    ensures kinds { IfOk result (λ models. All IsKinded models.items) }
+    ensures kinds { IfOk result (λ models. All SpeaksOfParts models.items) }
     ensures passes { Passes ModelsRefusal.Memory (refused ModelsRefusal.Expression (IsUnreadable entries.items)) result }
 {
     let mut models = Vec::new(alloc);
@@ -56,7 +56,7 @@ fn refused_at(place: usize, refusal: ExprRefusal) -> ModelsRefusal
 fn model(alloc: Global, entry: ModelEntry, size: u32) -> Result<Model, ExprRefusal>
     ensures ok { IfOk result (λ model. IsModel entry (model_of model)) }
     ensures size { IfOk result (λ model. model.size ≡ size) }
-    ensures kinds { IfOk result IsKinded }
+    ensures kinds { IfOk result SpeaksOfParts }
     ensures refused { IfErr result (λ e. e ≢ ExprRefusal.Memory → HasRefused entry) }
 {
     let kinds = declared(alloc, &entry)?;
@@ -153,7 +153,7 @@ fn finishes_of(
     kinds: &Kinds,
 ) -> Result<Vec<Finish>, ExprRefusal>
     ensures ok { IfOk result (λ finishes. AllZip (IsFinish kinds.now) texts.items (map finish_of finishes.items)) }
-    ensures kinds { IfOk result (λ finishes. All (Finishes kinds.now) finishes.items) }
+    ensures kinds { IfOk result (λ finishes. All (HasTruth kinds.now) finishes.items) }
     ensures refused { IfErr result (λ e. e ≢ ExprRefusal.Memory → One (IsRefused kinds.now) (flat_map of_finish texts.items)) }
 {
     let mut finishes = Vec::new(alloc);
@@ -165,7 +165,7 @@ fn finishes_of(
 
 fn finish(alloc: Global, text: FinishText, kinds: &Kinds) -> Result<Finish, ExprRefusal>
     ensures ok { IfOk result (λ finish. IsFinish kinds.now text (finish_of finish)) }
-    ensures kinds { IfOk result (Finishes kinds.now) }
+    ensures kinds { IfOk result (HasTruth kinds.now) }
     ensures refused { IfErr result (λ e. e ≢ ExprRefusal.Memory → One (IsRefused kinds.now) (of_finish text)) }
 {
     Ok(Finish {

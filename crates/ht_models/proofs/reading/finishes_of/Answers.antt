@@ -4,7 +4,7 @@ use Rattle.std.proofs.lemmas.List.{append_assoc, map-append}
 use Rattle.std.proofs.lemmas.List.Elements.{All-push}
 use Rattle.std.proofs.lemmas.Result.{err_from_is_err_and}
 use Rattle.ht_models.specs.Expressions.{IsRefused, of_finish}
-use Rattle.ht_models.specs.Kinded.{Finishes}
+use Rattle.ht_models.specs.Kinded.{HasTruth}
 use Rattle.ht_models.specs.Reading.{IsFinish}
 use Rattle.ht_models.specs.Shown.{finish_of}
 use Rattle.ht_models.proofs.Among.{one_behind}
@@ -25,5 +25,5 @@ loop-text-preserved c = record {
   read =
       rw (c.in_ok-push.ensures.items, map-append)
       (zip_push (IsFinish c.args.kinds.now) c.loop-text.yielded (map finish_of c.loop-text.finishes.items) c.in-Some.text (finish_of c.in_ok-finish.field-0) c.loop-text.invariant.read c.in_ok-finish.ensures.ok);
-  kinds = rw c.in_ok-push.ensures.items (All-push (Finishes c.args.kinds.now) c.loop-text.finishes.items c.in_ok-finish.field-0 c.loop-text.invariant.kinds c.in_ok-finish.ensures.kinds);
+  kinds = rw c.in_ok-push.ensures.items (All-push (HasTruth c.args.kinds.now) c.loop-text.finishes.items c.in_ok-finish.field-0 c.loop-text.invariant.kinds c.in_ok-finish.ensures.kinds);
 }

@@ -4,7 +4,7 @@ use Rattle.std.specs.Prelude.{slice_index_or}
 use Rattle.std.proofs.lemmas.List.{append-nil, append_assoc, length-map, map-append, nil_from_length}
 use Rattle.std.proofs.lemmas.List.Elements.{All-push}
 use Rattle.ht_expr.specs.declared.refusal.ExprRefusal.TheVariants as refusal
-use Rattle.ht_models.specs.Kinded.{IsKinded}
+use Rattle.ht_models.specs.Kinded.{SpeaksOfParts}
 use Rattle.ht_models.specs.Reading.{IsModel}
 use Rattle.ht_models.specs.Shown.{model_of}
 use Rattle.ht_models.proofs.ModelLists.{each_push, first_unreadable, none_unreadable, same_length}
@@ -25,7 +25,7 @@ loop-entry-preserved c =
       read =
           rw (c.in_ok-push-in-Ok.ensures.items, map-append)
           (zip_push IsModel c.loop-entry.yielded (map model_of models) c.in-Some.entry model c.loop-entry.invariant.read c.in-Ok.ensures.ok);
-      kinds = rw c.in_ok-push-in-Ok.ensures.items (All-push IsKinded models c.in-Ok.model c.loop-entry.invariant.kinds c.in-Ok.ensures.kinds);
+      kinds = rw c.in_ok-push-in-Ok.ensures.items (All-push SpeaksOfParts models c.in-Ok.model c.loop-entry.invariant.kinds c.in-Ok.ensures.kinds);
       sizes =
           rw (c.in_ok-push-in-Ok.ensures.items, map-append)
           (each_push (λ place m. m.size ≡ slice_index_or c.args.trees.now.sizes place 0) (map model_of models) model c.loop-entry.invariant.sizes size);

@@ -1,5 +1,9 @@
 use Rattle.std.proofs.Common.{subst}
+use Rattle.ht_models.specs.DeclaredParts.{DeclareOnce}
+use Rattle.ht_models.specs.MappedInputs.{AreMapped}
+use Rattle.ht_models.specs.SetOutputs.{SetOutputs}
 use Rattle.ht_models.specs.TreeSizes.{AreSized}
+use Rattle.ht_models.proofs.FittingParts.{set_outputs}
 use Rattle.ht_models.proofs.Lookups.{sized_there}
 use Rattle.ht_models.proofs.models.Models.count.Goals as goal
 
@@ -8,3 +12,12 @@ returns-clause-sizes c = sized_there c.self.inside c.args.self.now c.self.invari
 
 pub returns-clause-trees : goal.returns-clause-trees
 returns-clause-trees c = subst AreSized c.self.view_is c.self.invariant.trees
+
+pub returns-clause-parts : goal.returns-clause-parts
+returns-clause-parts c = subst DeclareOnce c.self.view_is c.self.invariant.parts
+
+pub returns-clause-inputs : goal.returns-clause-inputs
+returns-clause-inputs c = subst AreMapped c.self.view_is c.self.invariant.inputs
+
+pub returns-clause-outputs : goal.returns-clause-outputs
+returns-clause-outputs c = subst SetOutputs c.self.view_is (set_outputs c.self.inside.models.items c.self.invariant.kinds)

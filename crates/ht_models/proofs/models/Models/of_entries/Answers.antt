@@ -52,7 +52,7 @@ returns-in-None-Some c =
     let graph = c.in_ok-graph.ensures ∙ ap sub_places c.deref-3.ensures.value in
     let cycle = subst Acyclic graph c.in_ok-check_cycles.ensures in
     let limit = rw c.deref-4.ensures.value at (rw c.in-None-Some.is-0 at c.first_too_much-too_much.ensures) in
-    let contradiction = rw c.deref-5.ensures.value at (rw c.in-None-Some.is-1 at c.first_contradicted-contradicted.ensures) in
+    let contradiction = rw c.deref-5.ensures.value at (rw c.in-None-Some.is-1 at c.first_contradicted-contradicted.ensures.first) in
     contradiction_told c.args.entries.items twice unknown cycle c.in_ok-models.ensures.passes limit c.in-None-Some.place contradiction
 
 pub invariant_of-result : goal.invariant_of-result
@@ -62,9 +62,11 @@ invariant_of-result c =
     let unknown = rw c.deref-2.ensures.value at c.in_ok-check_known.ensures in
     let graph = c.in_ok-graph.ensures ∙ ap sub_places c.deref-3.ensures.value in
     let limit = rw c.deref-4.ensures.value at (rw c.in-None-None.is-0 at c.first_too_much-too_much.ensures) in
+    let contradiction = rw c.deref-5.ensures.value at (rw c.in-None-None.is-1 at c.first_contradicted-contradicted.ensures.first) in
+    let order = rw c.deref-5.ensures.value at (rw c.in-None-None.is-1 at c.first_contradicted-contradicted.ensures.order) in
     let counted = rw graph at c.in_ok-trees.ensures in
     let models = sized t _ _ c.in_ok-models.ensures.models counted limit c.in_ok-models.ensures.sizes in
-    kept t _ c.requires limit twice unknown models c.in_ok-models.ensures.kinds (rw c.deref.ensures.value at c.in_ok-places.ensures.ok)
+    kept t _ c.requires limit twice unknown contradiction order models c.in_ok-models.ensures.kinds (rw c.deref.ensures.value at c.in_ok-places.ensures.ok)
 
 pub returns-in-None-None : goal.returns-in-None-None
 returns-in-None-None c =
@@ -74,7 +76,7 @@ returns-in-None-None c =
     let graph = c.in_ok-graph.ensures ∙ ap sub_places c.deref-3.ensures.value in
     let cycle = subst Acyclic graph c.in_ok-check_cycles.ensures in
     let limit = rw c.deref-4.ensures.value at (rw c.in-None-None.is-0 at c.first_too_much-too_much.ensures) in
-    let contradiction = rw c.deref-5.ensures.value at (rw c.in-None-None.is-1 at c.first_contradicted-contradicted.ensures) in
+    let contradiction = rw c.deref-5.ensures.value at (rw c.in-None-None.is-1 at c.first_contradicted-contradicted.ensures.first) in
     let counted = rw graph at c.in_ok-trees.ensures in
     let models = sized t _ _ c.in_ok-models.ensures.models counted limit c.in_ok-models.ensures.sizes in
     all_read t twice unknown cycle c.in_ok-models.ensures.passes limit contradiction _ models
