@@ -1,4 +1,15 @@
 pub mod Causes
+pub mod CrashModel
+pub mod DiskHistory
+pub mod Disks
+pub mod Examples
+pub mod ImageLaws
+pub mod MemoryDisks
+pub mod Patches
+pub mod Replays
+pub mod Rooms
 pub mod Scripted
 pub mod Tells
 pub mod Texts
+pub mod TornWrites
+pub mod Untold

@@ -1,0 +1,8 @@
+use Rattle.ht_outside.proofs.ImageLaws.{write_holds, write_follows}
+use Rattle.ht_outside.proofs.memory_disk.MemoryDiskDisk.write_at.Goals as goal
+
+pub returns-clause-written : goal.returns-clause-written
+returns-clause-written c = write_holds c.args.self.now c.store.new.self c.args.at c.args.piece.now c.store.result c.store.ensures.done
+
+pub returns-clause-crash : goal.returns-clause-crash
+returns-clause-crash c = write_follows c.args.self.now c.store.new.self c.args.at c.args.piece.now c.store.result c.store.ensures.done

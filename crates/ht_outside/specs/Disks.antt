@@ -1,0 +1,54 @@
+-- What the calls of a disk do to its file, and what a crash may leave between two syncs.
+use Rattle.std.specs.Prelude.{◌≡◌, ◌⊎◌, ℕ, ◌+◌, ◌-◌, ◌≤◌, min, max, List, ◌++◌, length, take, drop, replicate, Option, Some, None, ⊤}
+
+-- the file with a filler behind it, as far as this place
+abbrev pub padded : ℕ → ℕ → List ℕ → List ℕ
+padded filler at file = file ++ replicate (at - length file) filler
+
+-- the file with a piece over it from this place on. Between the file's end and the piece stands the filler
+abbrev pub laid_over : ℕ → ℕ → List ℕ → List ℕ → List ℕ
+laid_over filler at piece file = take at (padded filler at file) ++ piece ++ drop (at + length piece) file
+
+-- the file after a whole write. Between its end and the piece there are zeros
+abbrev pub written : ℕ → List ℕ → List ℕ → List ℕ
+written at piece file = laid_over 0 at piece file
+
+-- the piece was written, whole
+abbrev pub Holds : ℕ → List ℕ → List ℕ → List ℕ → Type 0
+Holds at piece old new = new ≡ written at piece old
+
+-- A write of n bytes that was cut short: its range and the part past the old end hold any bytes, and the end is anywhere
+-- from the old one to that of the write. Other bytes stay
+pub record Torn (at n : ℕ) (old new : List ℕ) : Type 0 where
+  pub before : take (min at (length old)) new ≡ take (min at (length old)) old
+  pub after : drop (at + n) new ≡ drop (at + n) old
+  pub no_shorter : length old ≤ length new
+  pub no_longer : length new ≤ max (length old) (at + n)
+
+-- a file that is told went from old to new by this. No call makes a disk begin or cease to tell
+abbrev pub Both : (List ℕ → List ℕ → Type 0) → Option (List ℕ) → Option (List ℕ) → Type 0
+Both step None None = ⊤
+Both step None (Some new) = ⊥
+Both step (Some old) None = ⊥
+Both step (Some old) (Some new) = step old new
+
+-- what a crash may leave now is what it might have left before, after a step
+abbrev pub Follows : (List ℕ → List ℕ → Type 0) → (List ℕ → Type 0) → (List ℕ → Type 0) → Type 0
+Follows step old new = (image : List ℕ) → new image → (before : List ℕ) × old before × step before image
+
+-- a crash leaves this and nothing else
+abbrev pub Only : List ℕ → (List ℕ → Type 0) → Type 0
+Only file may_leave = (image : List ℕ) → may_leave image → image ≡ file
+
+-- time went on: a crash since a moment t might have left what it might have left before, or what it may leave now
+pub record Elapses (before now : ℕ) (past since : ℕ → List ℕ → Type 0) (may_leave : List ℕ → Type 0) : Type 0 where
+  pub later : before ≤ now
+  pub nothing_else : (t : ℕ) (image : List ℕ) → t ≤ before → since t image → past t image ⊎ may_leave image
+  pub keeps : (t : ℕ) (image : List ℕ) → t ≤ before → past t image → since t image
+
+-- a crash at any moment since the old state leaves a file that has P
+pub record LeavesOnly {D : Type 0} (moment : D → ℕ) (left_since : D → ℕ → List ℕ → Type 0) (old new : D) (P : List ℕ → Type 0) : Type 0 where
+  pub later : moment old ≤ moment new
+  pub each : (image : List ℕ) → left_since new (moment old) image → P image
+  -- for a run that began earlier
+  pub before : (t : ℕ) (image : List ℕ) → t ≤ moment old → left_since new t image → left_since old t image ⊎ P image

@@ -1,0 +1,108 @@
+-- Worked examples of the definitions of disks. A wrong reading of one fails the check.
+use Rattle.std.specs.Prelude.{◌≡◌, refl, ℕ, List, [], ◌∷◌, ◌++◌, Some, codes, true, false, slice_index}
+use Rattle.std.proofs.Common.{ap, arith, inl, lit<, lit≤}
+use Rattle.ht_outside.specs.CrashModel.{IsImage, IsMarked, IsTouched, IsUntouched, Unsynced, present}
+use Rattle.ht_outside.specs.DiskHistory.{stand}
+use Rattle.ht_outside.specs.Disks.{Torn, written}
+use Rattle.ht_outside.specs.MemoryDisks.{IsPicked, disk_of, earlier, is_from, is_to_fail}
+use Rattle.ht_outside.specs.Patches.{PatchOf}
+use Rattle.ht_outside.specs.declared.disk_call.DiskCall.TheVariants.{Write, Sync}
+
+-- ---- whole writes
+
+a_piece_within : written 1 (codes "XY") (codes "abcd") ≡ codes "aXYd"
+a_piece_within = refl
+
+a_piece_over_the_end : written 3 (codes "XY") (codes "abcd") ≡ codes "abcXY"
+a_piece_over_the_end = refl
+
+-- zeros come between
+a_piece_past_the_end : written 6 (codes "Z") (codes "abcd") ≡ codes "abcd" ++ 0 ∷ 0 ∷ codes "Z"
+a_piece_past_the_end = refl
+
+-- a piece without bytes reaches up to its place too
+nothing_past_the_end : written 6 [] (codes "abcd") ≡ codes "abcd" ++ 0 ∷ 0 ∷ []
+nothing_past_the_end = refl
+
+nothing_within : written 2 [] (codes "abcd") ≡ codes "abcd"
+nothing_within = refl
+
+-- ---- torn writes
+
+any_bytes_in_the_range : Torn 1 2 (codes "abcd") (codes "a?!d")
+any_bytes_in_the_range = record { before = refl; after = refl; no_shorter = lit≤ tt; no_longer = lit≤ tt }
+
+-- a write of two bytes at 3 that came half
+an_end_between : Torn 3 2 (codes "abcd") (codes "abc?")
+an_end_between = record { before = refl; after = refl; no_shorter = lit≤ tt; no_longer = lit≤ tt }
+
+-- the part past the old end may hold any bytes, also before the range
+any_bytes_past_the_end : Torn 6 1 (codes "abcd") (codes "abcd?!")
+any_bytes_past_the_end = record { before = refl; after = refl; no_shorter = lit≤ tt; no_longer = lit≤ tt }
+
+no_byte_before : Torn 1 2 (codes "abcd") (codes "?bcd") → ⊥
+no_byte_before torn = let same : ◌≡◌ {A = ℕ} 63 97 = ap (λ (bytes : List ℕ). slice_index bytes 0) torn.before in omega arith
+
+no_end_below : Torn 1 2 (codes "abcd") (codes "abc") → ⊥
+no_end_below torn = omega (arith, torn.no_shorter)
+
+-- ---- what a crash leaves
+
+abbrev patch : ℕ → List ℕ → PatchOf
+patch at piece = record { at = at; piece = piece }
+
+-- four bytes, of which the middle was written over, and one byte past the end
+abbrev disk : Unsynced
+disk = record { synced = codes "abcd"; patches = patch 1 (codes "XY") ∷ patch 6 (codes "Z") ∷ [] }
+
+what_a_read_gives : present disk ≡ codes "aXYd" ++ 0 ∷ 0 ∷ codes "Z"
+what_a_read_gives = refl
+
+what_was_synced_is_an_image : IsImage disk (codes "abcd")
+what_was_synced_is_an_image = record { no_shorter = lit≤ tt; no_longer = lit≤ tt; others = λ place within untouched. refl }
+
+the_first_byte_is_untouched : IsUntouched disk.patches 0
+the_first_byte_is_untouched = (inl (lit< tt), (inl (lit< tt), tt))
+
+the_second_is_touched : IsTouched disk.patches 1
+the_second_is_touched = inl (lit≤ tt, lit< tt)
+
+another_first_byte_is_none : IsImage disk (codes "?bcd") → ⊥
+another_first_byte_is_none is = let same : ◌≡◌ {A = ℕ} 63 97 = is.others 0 (lit< tt) the_first_byte_is_untouched in omega arith
+
+a_shorter_file_is_none : IsImage disk (codes "abc") → ⊥
+a_shorter_file_is_none is = omega (arith, is.no_shorter)
+
+a_longer_file_is_none : IsImage disk (codes "abcdefgh") → ⊥
+a_longer_file_is_none is = omega (arith, is.no_longer)
+
+-- ---- a disk in memory
+
+-- what was written before the sync is synced
+a_sync_between : stand (codes "abcd") (Write (patch 1 (codes "XY")) ∷ Sync ∷ Write (patch 0 (codes "V")) ∷ []) ≡ record { synced = codes "aXYd"; patches = patch 0 (codes "V") ∷ [] }
+a_sync_between = refl
+
+the_first_pick : IsPicked 0 disk (codes "abcd")
+the_first_pick = refl
+
+the_second_pick : IsPicked 1 disk (codes "aXYd" ++ 0 ∷ 0 ∷ codes "Z")
+the_second_pick = refl
+
+the_third_pick_marks : IsMarked disk (codes "a??d???") → ⊥
+the_third_pick_marks is = let same : ◌≡◌ {A = ℕ} 63 1 = is.ones 1 (lit< tt) (inl the_second_is_touched) in omega arith
+
+-- the numbers of calls begin at 1
+the_first_call_fails : is_to_fail (disk_of (codes "abcd") (1 ∷ [])) ≡ true
+the_first_call_fails = refl
+
+the_second_will : is_to_fail (disk_of (codes "abcd") (2 ∷ [])) ≡ false
+the_second_will = refl
+
+stopped_from_a_call_on : is_from (Some 3) 4 ≡ true
+stopped_from_a_call_on = refl
+
+not_before_it : is_from (Some 3) 2 ≡ false
+not_before_it = refl
+
+the_earlier_stop_counts : earlier (Some 3) 5 ≡ 3
+the_earlier_stop_counts = refl
