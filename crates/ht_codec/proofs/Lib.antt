@@ -1,0 +1,14 @@
+mod Distinct
+mod FieldLaws
+mod FormLaws
+mod Holding
+mod LastNames
+mod ListLaws
+mod Loop
+pub mod PublicLaws
+mod Ranges
+mod RecordLaws
+mod Sizes
+mod Spellings
+mod Steps
+mod Written

@@ -1,0 +1,10 @@
+use Rattle.std.proofs.Common.{◌≡◌, ◌-◌, []}
+use Rattle.ht_codec.specs.Forms.{read_items}
+use Rattle.ht_codec.specs.Fields.{new_name}
+use Rattle.ht_codec.proofs.names.read_each_name.Given as goal
+
+abbrev pub invariant-loop : goal.invariant-loop
+invariant-loop l = record {
+  so_far : read_items new_name (l.count - l.counter) l.names l.r.whole l.r.left.now ≡ read_items new_name l.count [] l.fn.r.whole l.fn.r.left.now;
+  whole : l.r.whole ≡ l.fn.r.whole;
+}

@@ -1,0 +1,10 @@
+pub mod Bodies
+pub mod Examples
+pub mod Files
+pub mod Keeping
+pub mod Opening
+pub mod Parts
+pub mod Pieces
+pub mod Quiet
+pub mod Reasons
+pub mod Rooms

@@ -1,0 +1,70 @@
+ghost use Rattle.std.specs.Prelude.{◌≡◌, ◌≢◌, ◌+◌, ◌≤◌, ◌++◌, ◌∷◌, [], List, ℕ, length, take, Err, None, IfSome, IsErr, IsTrue, OnOk, OnErr, MatchResult};
+ghost use Rattle.ht_outside.specs.Disks.{LeavesOnly};
+ghost use Rattle.ht_journal.specs.Files.{frame};
+ghost use Rattle.ht_journal.specs.Keeping.{IsKept, doubt_of};
+ghost use Rattle.ht_journal.specs.Parts.{IsInPart, Reads};
+ghost use Rattle.ht_journal.specs.Reasons.{HasReason, HasRoom, IsShort};
+ghost use Rattle.ht_journal.specs.Rooms.{IsRoomy};
+
+use crate::device::stored;
+use crate::state::LONGEST;
+use crate::{AppendRefusal, JournalState};
+use ht_outside::Disk;
+
+// Puts the body's frame and a closed gate into the front of the buffer.
+fn stage(buffer: &mut [u8], body: &[u8])
+    requires { (length body.now ≤ 1048576) × (length buffer.old ≡ 1048581) }
+    ensures { take (length body.now + 5) buffer.new ≡ frame body.now ++ 0 ∷ [] }
+{
+    let n = body.len();
+    buffer[..4].copy_from_slice(&(n as u32).to_le_bytes());
+    buffer[4..4 + n].copy_from_slice(body);
+    buffer[4 + n] = 0;
+}
+
+impl JournalState {
+    /// Adds a body of at most 1,048,576 bytes, where nothing is in doubt. It takes no memory. After
+    /// `Store` the body isn't there, or it is in doubt: [`JournalState::doubtful`] says which.
+    pub fn append<D: Disk>(&mut self, disk: &mut D, body: &[u8]) -> Result<(), AppendRefusal>
+        requires certain { self.old.doubt ≡ None }
+        requires kept { (bodies : List (List ℕ)) × IsKept D.gives D.shown D.tells_images D.may_leave bodies self.old disk.old }
+        ensures reason { MatchResult result (λ _. IsShort body.now × HasRoom self.old body.now) (HasReason self.old body.now (D.faults disk.old) (D.faults disk.new)) }
+        ensures ok { OnOk result ((bodies : List (List ℕ)) → IsKept D.gives D.shown D.tells_images D.may_leave bodies self.old disk.old
+            → IsKept D.gives D.shown D.tells_images D.may_leave (bodies ++ body.now ∷ []) self.new disk.new) }
+        ensures certain { OnOk result (self.new.doubt ≡ None) }
+        ensures err { OnErr result ((bodies : List (List ℕ)) → IsKept D.gives D.shown D.tells_images D.may_leave bodies self.old disk.old
+            → IsKept D.gives D.shown D.tells_images D.may_leave bodies self.new disk.new) }
+        // For a caller to whom the bodies don't matter.
+        ensures goes_on { (bodies : List (List ℕ)) × IsKept D.gives D.shown D.tells_images D.may_leave bodies self.new disk.new }
+        ensures doubt { IfSome (doubt_of self.new) (λ doubt. (doubt ≡ body.now) × (result ≡ Err AppendRefusal.Store)) }
+        ensures limit { self.new.limit ≡ self.old.limit }
+        ensures refused { result ≢ Err AppendRefusal.Store → IsErr result → (self.new ≡ self.old) × (disk.new ≡ disk.old) }
+        // At every moment since it began, an image holds what one of the four parts may leave.
+        ensures any_part { (bodies : List (List ℕ)) → IsKept D.gives D.shown D.tells_images D.may_leave bodies self.old disk.old → IsTrue (D.tells_images disk.old)
+            → LeavesOnly D.moment D.left_since disk.old disk.new (IsInPart bodies body.now) }
+        // So it has the bodies from before, or these and the new one.
+        ensures any_moment { (bodies : List (List ℕ)) → IsKept D.gives D.shown D.tells_images D.may_leave bodies self.old disk.old → IsTrue (D.tells_images disk.old)
+            → LeavesOnly D.moment D.left_since disk.old disk.new (Reads bodies (Some body.now)) }
+        ensures room { D.room disk.new ≡ D.room disk.old }
+        ensures in_room { IsRoomy (D.room disk.old) self.old.limit → result ≢ Err AppendRefusal.Store }
+        ensures faults { D.faults disk.old ≤ D.faults disk.new }
+        ensures tells { D.tells_images disk.new ≡ D.tells_images disk.old }
+    {
+        if body.len() > LONGEST as usize {
+            return Err(AppendRefusal::TooLong);
+        }
+        let end = self.length + 5 + body.len() as u64;
+        if end > self.limit {
+            return Err(AppendRefusal::Full(self.length));
+        }
+        stage(&mut self.buffer, body);
+        self.reader.held = 0;
+        stored(disk, self.length, &self.buffer[..body.len() + 5])?;
+        self.doubt = Some(body.len() as u32);
+        stored(disk, self.length - 1, &[1])?;
+        self.doubt = None;
+        self.length = end;
+        self.count += 1;
+        Ok(())
+    }
+}

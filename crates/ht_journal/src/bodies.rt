@@ -1,0 +1,83 @@
+ghost use Rattle.std.specs.Prelude.{◌≡◌, ◌≢◌, ◌+◌, ◌^◌, ◌<◌, ◌≤◌, ℕ, List, length, take, drop, Err, IfOk, IfErr, IfSome};
+ghost use Rattle.ht_journal.specs.Bodies.{IsNth};
+ghost use Rattle.ht_journal.specs.Keeping.{IsKept, doubt_of};
+ghost use Rattle.ht_journal.specs.Pieces.{IsPiece};
+ghost use Rattle.ht_journal.specs.Quiet.{IsQuiet};
+ghost use Rattle.ht_journal.specs.Reasons.{IsFault};
+ghost use Rattle.ht_journal.specs.Rooms.{IsRoomy};
+
+use crate::reading::zeros;
+use crate::walking::{back, frame_behind, pass};
+use crate::{Body, JournalFault, JournalState, Reader};
+use ht_base::Bytes;
+use ht_outside::Disk;
+use std::alloc::Global;
+
+// A body of this length that begins at this place.
+fn body_at<D: Disk>(
+    reader: &mut Reader,
+    alloc: Global,
+    disk: &mut D,
+    at: u64,
+    len: u32,
+) -> Result<Body, JournalFault>
+    requires range { (at + len ≤ 2 ^ 32) × (at + len ≤ D.shown disk.old) }
+    requires piece { IfSome (D.gives disk.old) (IsPiece reader.old) }
+    ensures body { IfOk result (λ body. (body.at ≡ at) × IfSome (D.gives disk.old) (λ file. body.bytes.items ≡ take len (drop at file))) }
+    ensures fault { IfErr result (IsFault (λ _. ⊥) (D.faults disk.old) (D.faults disk.new)) }
+    ensures piece { IfSome (D.gives disk.old) (IsPiece reader.new) }
+    ensures gate { (reader.new.gate ≡ reader.old.gate) × (reader.new.passed ≡ reader.old.passed) }
+    ensures quiet { IsQuiet D.room D.gives D.tells_images D.may_leave D.moment D.left_since disk.old disk.new }
+    ensures shown { D.shown disk.new ≡ D.shown disk.old }
+    ensures in_room { IsRoomy (D.room disk.old) 0 → result ≢ Err JournalFault.Store }
+    ensures faults { D.faults disk.old ≤ D.faults disk.new }
+{
+    let mut items = zeros(alloc, len as usize)?;
+    reader.read(disk, at, &mut items)?;
+    let mut bytes = Bytes::new(alloc);
+    bytes.give_back(items);
+    Ok(Body { at, bytes })
+}
+
+impl JournalState {
+    /// How many bodies there are, not counting one in doubt.
+    pub fn count(&self) -> u32
+        ensures { result ≡ self.now.count }
+    {
+        self.count
+    }
+
+    /// The nth body, counted from 1. It fails with `Store` or `Memory` alone. Bodies that are asked
+    /// for in their order cost one frame each; another one is walked to, from the last place or from
+    /// the first.
+    pub fn body<D: Disk>(
+        &mut self,
+        alloc: Global,
+        disk: &mut D,
+        n: u32,
+    ) -> Result<Body, JournalFault>
+        requires number { (1 ≤ n) × (n ≤ self.old.count) }
+        requires kept { (bodies : List (List ℕ)) × IsKept D.gives D.shown D.tells_images D.may_leave bodies self.old disk.old }
+        ensures body { IfOk result (λ body. (bodies : List (List ℕ)) → IsKept D.gives D.shown D.tells_images D.may_leave bodies self.old disk.old
+            → IfSome (D.gives disk.old) (λ _. IsNth bodies n body.at body.bytes.items)) }
+        ensures fault { IfErr result (IsFault (λ _. ⊥) (D.faults disk.old) (D.faults disk.new)) }
+        ensures kept { (bodies : List (List ℕ)) → IsKept D.gives D.shown D.tells_images D.may_leave bodies self.old disk.old
+            → IsKept D.gives D.shown D.tells_images D.may_leave bodies self.new disk.new }
+        // For a caller to whom the bodies don't matter.
+        ensures goes_on { (bodies : List (List ℕ)) × IsKept D.gives D.shown D.tells_images D.may_leave bodies self.new disk.new }
+        ensures doubt { (self.new.doubt ≡ self.old.doubt) × (doubt_of self.new ≡ doubt_of self.old) }
+        ensures same { (self.new.count ≡ self.old.count) × (self.new.length ≡ self.old.length) × (self.new.limit ≡ self.old.limit) }
+        ensures quiet { IsQuiet D.room D.gives D.tells_images D.may_leave D.moment D.left_since disk.old disk.new }
+        ensures in_room { IsRoomy (D.room disk.old) 0 → result ≢ Err JournalFault.Store }
+        ensures faults { D.faults disk.old ≤ D.faults disk.new }
+    {
+        let end = self.length - 1;
+        back(&mut self.reader, n);
+        pass(&mut self.reader, disk, n - 1, end)?;
+        let (at, len) = frame_behind(&mut self.reader, disk, end)?;
+        let body = body_at(&mut self.reader, alloc, disk, at, len)?;
+        self.reader.gate = at + u64::from(len);
+        self.reader.passed = n;
+        Ok(body)
+    }
+}
