@@ -10,6 +10,8 @@ mod people;
 mod places;
 mod reading;
 mod refusal;
+#[cfg(test)]
+mod set_tests;
 mod sets;
 #[cfg(test)]
 mod tests;

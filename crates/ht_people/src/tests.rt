@@ -1,18 +1,11 @@
-use crate::{
-    Directory, PeopleRefusal, a_people_text_has_one_answer, built_in_text_reads, except, intersect,
-    union,
-};
-use ht_base::{Memory, Name, Person, Persons};
+use crate::{Directory, PeopleRefusal, a_people_text_has_one_answer, built_in_text_reads};
+use ht_base::{Name, Person, Persons};
 use ht_samples::PEOPLE;
 use std::alloc::{AllocError, Global};
-use std::process::Abort;
 use std::test::Fail;
 
 const ITS_OWN_MEMBER: &[u8] =
     b"[[person]]\nname = \"anna\"\n[[person]]\nname = \"ben\"\n[[person]]\nname = \"cora\"\n[[person]]\nname = \"dan\"\n[[person]]\nname = \"root\"\noperator = true\n[[group]]\nname = \"clerks\"\nmembers = [\"anna\", \"@clerks\"]\n";
-
-const SETS: &[u8] =
-    b"person = [{name = \"p0\"}, {name = \"p1\"}, {name = \"p2\"}, {name = \"p3\"}, {name = \"p4\"}]\n[[group]]\nname = \"none\"\nmembers = []\n[[group]]\nname = \"odd\"\nmembers = [\"p3\", \"p1\"]\n[[group]]\nname = \"even\"\nmembers = [\"p0\", \"p2\", \"p4\"]\n[[group]]\nname = \"all\"\nmembers = [\"@even\", \"@odd\"]\n[[group]]\nname = \"low\"\nmembers = [\"p1\", \"p2\", \"p3\"]\n[[group]]\nname = \"high\"\nmembers = [\"p2\", \"p3\", \"p4\"]\n[[group]]\nname = \"most\"\nmembers = [\"p4\", \"p3\", \"p2\", \"p1\"]\n[[group]]\nname = \"middle\"\nmembers = [\"p2\", \"p3\"]\n[[group]]\nname = \"first\"\nmembers = [\"p1\"]\n";
 
 const NO_DOCUMENTS: &str = "\
 person; => Syntax
@@ -84,13 +77,17 @@ const CIRCLES: &str = "\
 - | 2 3 | 1 | 1 => Cycle(1)
 1 3 | 2 | 0 | 4 | 2 => Cycle(0)";
 
-fn members_of(alloc: Global, directory: &Directory, group: &str) -> Result<Persons, Fail> {
+pub(crate) fn members_of(
+    alloc: Global,
+    directory: &Directory,
+    group: &str,
+) -> Result<Persons, Fail> {
     let name = Name::of(group.as_bytes()).ok_or("a name")?;
     Ok(directory.members(alloc, name)?)
 }
 
 // Whether these are the members of a group.
-fn has_members(
+pub(crate) fn has_members(
     alloc: Global,
     directory: &Directory,
     group: &str,
@@ -401,87 +398,6 @@ fn the_least_group_of_a_cycle_is_told(rt: HostRuntime) -> Result<(), Fail> {
     for line in CIRCLES.lines() {
         assert!(rt; is_told(rt.alloc(), line)?, "{line}");
     }
-    Ok(())
-}
-
-fn set_of(alloc: Global, set: &str, first: &Persons, second: &Persons) -> Result<Persons, Memory> {
-    match set {
-        "union" => union(alloc, first, second),
-        "intersect" => intersect(alloc, first, second),
-        _ => except(alloc, first, second),
-    }
-}
-
-// The persons that two groups make.
-fn made(
-    alloc: Global,
-    directory: &Directory,
-    set: &str,
-    first: &str,
-    second: &str,
-) -> Result<Persons, Fail> {
-    let first = members_of(alloc, directory, first)?;
-    let second = members_of(alloc, directory, second)?;
-    Ok(set_of(alloc, set, &first, &second)?)
-}
-
-// Whether two groups make the set of the members of a third.
-fn is_made(
-    alloc: Global,
-    directory: &Directory,
-    set: &str,
-    of: (&str, &str),
-    group: &str,
-) -> Result<bool, Fail> {
-    let made = made(alloc, directory, set, of.0, of.1)?;
-    has_members(alloc, directory, group, made.as_slice())
-}
-
-// In each row two groups stand before the groups of who is in either, in both, and in the first alone.
-const OF_TWO: [[&str; 5]; 6] = [
-    ["none", "none", "none", "none", "none"],
-    ["odd", "none", "odd", "none", "odd"],
-    ["none", "odd", "odd", "none", "none"],
-    ["odd", "even", "all", "none", "odd"],
-    ["low", "high", "most", "middle", "first"],
-    ["odd", "odd", "odd", "odd", "none"],
-];
-
-fn are_made(
-    rt: &impl Abort,
-    alloc: Global,
-    directory: &Directory,
-    row: &[&str; 5],
-) -> Result<(), Fail> {
-    let [first, second, either, both, first_alone] = *row;
-    let sets = [
-        ("union", either),
-        ("intersect", both),
-        ("except", first_alone),
-    ];
-    for (set, group) in sets {
-        assert!(rt;
-            is_made(alloc, directory, set, (first, second), group)?,
-            "{set} {first} {second}"
-        );
-    }
-    Ok(())
-}
-
-#[test]
-fn sets_are_made_of_two(rt: HostRuntime) -> Result<(), Fail> {
-    let directory = Directory::read(rt.alloc(), SETS)?;
-    for row in &OF_TWO {
-        are_made(&rt, rt.alloc(), &directory, row)?;
-    }
-    Ok(())
-}
-
-#[test]
-fn members_ascend(rt: HostRuntime) -> Result<(), Fail> {
-    let directory = Directory::read(rt.alloc(), SETS)?;
-    let ascending = [Person(1), Person(2), Person(3), Person(4)];
-    assert!(rt; has_members(rt.alloc(), &directory, "most", &ascending)?);
     Ok(())
 }
 

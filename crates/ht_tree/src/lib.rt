@@ -4,6 +4,8 @@
 
 mod activating;
 mod assigning;
+#[cfg(test)]
+mod assigning_tests;
 mod comments;
 mod creating;
 mod family;
