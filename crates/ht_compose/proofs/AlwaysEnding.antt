@@ -18,7 +18,7 @@ record Reached (at : Moment) (u : TablesOf) (is : List Item) : Type 0 where
   fit : Fit new
   less : work new ≤ work u
 
-lighter : (old new : TablesOf) (n m : ℕ) (is : List Item) → work new ≤ work old → n ≤ m → AreLight old n is → AreLight new m is
+pub lighter : (old new : TablesOf) (n m : ℕ) (is : List Item) → work new ≤ work old → n ≤ m → AreLight old n is → AreLight new m is
 lighter old new n m [] h g l = tt
 lighter old new n m (i ∷ is) h g l = (l.0, let w = l.1 in omega (arith, w, h, g), lighter old new n m is h g l.2)
 

@@ -1,9 +1,9 @@
 -- That a row stays sound, and in its family, by what comes of it.
-use Rattle.std.proofs.Common.{◌≡◌, ℕ, ◌<◌, Bool, true, false, not, ◌&&◌, ◌||◌, List, [], ◌∷◌, Option, Some, None, IfSome, IsTrue, is_some, refl, sym, ap, ◌∙◌, subst, if◌then◌else◌}
+use Rattle.std.proofs.Common.{◌≡◌, ℕ, Bool, true, false, not, ◌&&◌, ◌||◌, List, Option, None, IsTrue, is_some, refl, sym, ap, ◌∙◌, subst, if◌then◌else◌}
 use Rattle.ht_base.specs.declared.moment.Moment.{Moment}
 use Rattle.ht_base.specs.declared.operation.Op.TheVariants.{Resume, Suspend}
 use Rattle.ht_base.specs.declared.state.State.{State}
-use Rattle.ht_base.specs.declared.state.State.TheVariants.{Created, Ready, Reserved, InProgress, SuspendedReady, SuspendedReserved, SuspendedInProgress, Completed, Failed, Error, Exited, Obsolete}
+use Rattle.ht_base.specs.declared.state.State.TheVariants.{Ready, Reserved, InProgress, SuspendedReady, SuspendedReserved, SuspendedInProgress, Completed, Failed, Error, Exited, Obsolete}
 use Rattle.ht_base.specs.State.{contains_state}
 use Rattle.ht_compose.specs.declared.reaching.Change.{Change}
 use Rattle.ht_compose.specs.declared.reaching.Change.TheVariants as change

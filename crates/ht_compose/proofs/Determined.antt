@@ -13,7 +13,7 @@ use Rattle.ht_models.specs.Model.{FinishOf, ModelOf}
 use Rattle.ht_tree.specs.declared.row.Row.{Row}
 use Rattle.ht_tree.specs.Tables.{TablesOf, model_of, task_row}
 
-one_output : (subs : List Row) (ss : List Setting) (old a b : Values) → Sets subs ss old a → Sets subs ss old b → a ≡ b
+pub one_output : (subs : List Row) (ss : List Setting) (old a b : Values) → Sets subs ss old a → Sets subs ss old b → a ≡ b
 one_output subs [] old a b x y = x ∙ sym y
 one_output subs (s ∷ ss) old a b (r, is, x) (q, iq, y) =
     let same : r ≡ q = one_result s.how (values_for s.how s.from subs) r q is iq in

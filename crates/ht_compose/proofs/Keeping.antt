@@ -4,8 +4,10 @@ use Rattle.std.proofs.lemmas.Option.{slice_get_within}
 use Rattle.std.specs.Prelude.{slice_get, slice_set}
 use Rattle.std.specs.Option.{option_map_or}
 use Rattle.ht_base.specs.Places.{place_in}
+use Rattle.ht_compose.specs.Families.{StillThere}
 use Rattle.ht_compose.specs.Work.{AreNumbered, going_on, work}
 use Rattle.ht_compose.proofs.Counting.{going_on_fewer, going_on_map, going_on_push, going_on_set}
+use Rattle.ht_compose.proofs.Standing.{there_as_alike, there_behind}
 use Rattle.ht_models.specs.Model.{ModelOf, names}
 use Rattle.ht_models.specs.SubEntries.{SubEntry}
 use Rattle.ht_models.specs.TreeSizes.{AreSized, entry_size}
@@ -23,10 +25,12 @@ pub record Fit (u : TablesOf) : Type 0 where
 
 pub record NoMore (old new : TablesOf) : Type 0 where
   pub fit : Fit new
+  pub there : StillThere old new
   pub less : work new ≤ work old
 
 pub record Less (old new : TablesOf) : Type 0 where
   pub fit : Fit new
+  pub there : StillThere old new
   pub less : work new + 1 ≤ work old
 
 numbered_alike : (xs ys : List Row) → Alike xs ys → AreNumbered xs → AreNumbered ys
@@ -55,6 +59,7 @@ changed u (suc i) old row fit at same live =
     let come = to_come_alike u.models u.rows (put_in u.rows row) alike in
     record {
       fit = record { numbered = numbered_alike u.rows (put_in u.rows row) alike fit.numbered; sized = fit.sized };
+      there = there_as_alike u (put_in u.rows row) alike;
       less = omega (arith, set, count, come);
     }
 
@@ -64,11 +69,14 @@ module _ (u : TablesOf) (f : Row → Row) (fit : Fit u) (same : (row : Row) → 
   fit_map : Fit (with_rows u (map f u.rows))
   fit_map = record { numbered = numbered_alike u.rows (map f u.rows) (map_alike f same u.rows) fit.numbered; sized = fit.sized }
 
+  there_map : StillThere u (with_rows u (map f u.rows))
+  there_map = there_as_alike u (map f u.rows) (map_alike f same u.rows)
+
   pub mapped : NoMore u (with_rows u (map f u.rows))
   mapped =
       let come = to_come_alike u.models u.rows (map f u.rows) (map_alike f same u.rows) in
       let count = going_on_map f ends u.rows in
-      record { fit = fit_map; less = omega (arith, come, count) }
+      record { fit = fit_map; there = there_map; less = omega (arith, come, count) }
 
   -- and this one has ended
   pub mapped_less : (task : ℕ) (row : Row) → row_at task u.rows ≡ Some row → is_final row.state ≡ false → is_final (f row).state ≡ true → Less u (with_rows u (map f u.rows))
@@ -76,7 +84,7 @@ module _ (u : TablesOf) (f : Row → Row) (fit : Fit u) (same : (row : Row) → 
   mapped_less (suc i) row at live ended =
       let come = to_come_alike u.models u.rows (map f u.rows) (map_alike f same u.rows) in
       let count = going_on_fewer f ends u.rows i row at live ended in
-      record { fit = fit_map; less = omega (arith, come, count) }
+      record { fit = fit_map; there = there_map; less = omega (arith, come, count) }
 
 -- ---- a sub task behind the others
 
@@ -115,8 +123,9 @@ made u task e above row fit at next =
     let rows_are : put_in u.rows row ≡ u.rows ++ row ∷ [] = put_new u.rows row (omega (arith, number)) in
     let come = fewer_to_come u task e above row fit at next in
     let push = going_on_push u.rows row in
-    let P : List Row → Type 0 = λ rows. Less u (with_rows u rows) in
-    subst P (sym rows_are) (record {
+    let P : List Row → Type 0 = λ rows. StillThere u (with_rows u rows) → Less u (with_rows u rows) in
+    subst P (sym rows_are) (λ there. record {
       fit = record { numbered = numbered_push u.rows row number fit.numbered; sized = fit.sized };
+      there = there;
       less = omega (arith, come, push);
-    })
+    }) (there_behind u row number)

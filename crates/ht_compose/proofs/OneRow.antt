@@ -1,13 +1,12 @@
 -- That a plan goes on by what comes of one row.
-use Rattle.std.proofs.Common.{◌≡◌, ℕ, false, length, List, Option, Some, refl, sym, ap, subst, ◌∙◌, arith}
+use Rattle.std.proofs.Common.{◌≡◌, ℕ, false, List, Option, Some, sym, ap, subst, ◌∙◌, arith}
 use Rattle.ht_compose.specs.declared.reaching.Change.{Change}
 use Rattle.ht_compose.specs.declared.reaching.Reach.{Reach}
 use Rattle.ht_compose.specs.Reaching.{IsTask, Reaches, changed, reached, touches}
-use Rattle.ht_compose.proofs.Changed.{changed_fits, changed_standing, untouched}
+use Rattle.ht_compose.proofs.Changed.{changed_standing, untouched}
 use Rattle.ht_compose.proofs.Spread.{put_itself}
 use Rattle.ht_tree.specs.declared.row.Row.{Row}
 use Rattle.ht_tree.specs.Plans.{Goes, IsNext, IsPlanOf, Lends, PlanOf, planned}
-use Rattle.ht_tree.specs.Soundness.{Fits}
 use Rattle.ht_tree.specs.Tables.{TablesOf, task_row, with_row, with_rows}
 use Rattle.ht_tree.proofs.PublicLaws.{put_again, stays, within}
 

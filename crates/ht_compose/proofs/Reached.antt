@@ -1,7 +1,7 @@
 -- That tables stay sound by what reaches all tasks below one.
-use Rattle.std.proofs.Common.{◌≡◌, ℕ, ◌==◌, Bool, true, false, ◌||◌, List, length, map, Option, Some, None, refl, sym, ap, ◌∙◌, subst, if◌then◌else◌}
+use Rattle.std.proofs.Common.{◌≡◌, ℕ, ◌==◌, Bool, true, false, ◌||◌, List, length, map, Some, refl, sym, ap, ◌∙◌, subst, if◌then◌else◌}
 use Rattle.ht_base.specs.declared.state.State.{State}
-use Rattle.ht_base.specs.declared.state.State.TheVariants.{Created, Ready, Reserved, InProgress, SuspendedReady, SuspendedReserved, SuspendedInProgress, Completed, Failed, Error, Exited, Obsolete}
+use Rattle.ht_base.specs.declared.state.State.TheVariants.{Obsolete}
 use Rattle.ht_base.specs.declared.task_id.TaskId.{TaskId}
 use Rattle.ht_compose.specs.declared.reaching.Change.{Change}
 use Rattle.ht_compose.specs.declared.reaching.Change.TheVariants as change

@@ -1,12 +1,12 @@
 -- Plans that go over the rows from the last one on.
-use Rattle.std.proofs.Common.{◌≡◌, ℕ, ◌+◌, ◌-◌, ◌<◌, ◌≤◌, ◌==◌, nat_lt, zero, suc, Bool, true, false, List, [], ◌∷◌, length, map, Option, Some, None, option_map, refl, sym, ap, ◌∙◌, subst, if◌then◌else◌, eq-eqb, arith}
+use Rattle.std.proofs.Common.{◌≡◌, ℕ, ◌-◌, ◌<◌, ◌≤◌, ◌==◌, nat_lt, zero, suc, Bool, true, false, List, [], ◌∷◌, length, Option, Some, None, option_map, refl, sym, ap, ◌∙◌, subst, if◌then◌else◌, eq-eqb, arith}
 use Rattle.std.proofs.lemmas.Bool.{eqb-true}
 use Rattle.std.proofs.lemmas.Bool.Decides.{nat_tests}
 use Rattle.std.specs.Prelude.{slice_get}
 use Rattle.ht_compose.specs.declared.reaching.Reach.{Reach}
 use Rattle.ht_compose.specs.declared.reaching.Reach.TheVariants as reach
 use Rattle.ht_compose.specs.Families.{is_above}
-use Rattle.ht_compose.specs.Reaching.{Ends, IsLastBelow, IsTask, Reaches, ReachesAll, all_reached, behind, reached, reached_behind}
+use Rattle.ht_compose.specs.Reaching.{Ends, IsLastBelow, IsTask, Reaches, all_reached, reached, reached_behind}
 use Rattle.ht_compose.proofs.Chains.{leads_alike, none_lower}
 use Rattle.ht_compose.proofs.Reached.{reached_standing}
 use Rattle.ht_tree.specs.declared.row.Row.{Row}

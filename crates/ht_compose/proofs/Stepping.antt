@@ -9,6 +9,8 @@ use Rattle.ht_base.specs.declared.state.State.TheVariants.{Failed}
 use Rattle.ht_base.specs.declared.task_id.TaskId.{TaskId}
 use Rattle.ht_base.specs.declared.values.Values.{Values}
 use Rattle.ht_compose.proofs.ClosedRows.{shut, shut_ends, shut_stands, shut_stays, skipped, skipped_stands, skipped_stays}
+use Rattle.ht_compose.proofs.Standing.{there_before, there_then}
+use Rattle.ht_compose.specs.Families.{StillThere}
 use Rattle.ht_compose.proofs.Keeping.{Fit, IsNext, Less, NoMore, changed, made, mapped, mapped_less}
 use Rattle.ht_compose.specs.Finishes.{Sets, chosen, completed, values_for, with_result}
 use Rattle.ht_compose.specs.Items.{comes_next, Checks, Does, Finishes, Item, OnModel, OnTask, Step, activated, activates, begins, begins_with, closes, does, finished, first_entries, follows_by, has_ended, has_failed, is_automatic, is_in_progress, makes, makes_at, makes_entry, makes_of, makes_one, on_model, on_row, on_task, rises, still, sub_task, ups}
@@ -21,7 +23,7 @@ use Rattle.ht_tree.proofs.PublicLaws.{standing}
 use Rattle.ht_tree.specs.declared.row.Row.{Row}
 use Rattle.ht_tree.specs.Families.{is_final, is_made}
 use Rattle.ht_tree.specs.Soundness.{is_created}
-use Rattle.ht_tree.specs.Tables.{TablesOf, model_at, model_named, model_of, task_row, with_row}
+use Rattle.ht_tree.specs.Tables.{TablesOf, model_at, model_named, model_of, task_row, with_row, with_rows}
 
 -- in the order in which items lead to others where nothing less is to do
 abbrev pub rank : Item → ℕ
@@ -43,6 +45,7 @@ AreLight u n (i ∷ is) = ClosesForGood i × (weight u i < n) × AreLight u n is
 
 pub record Falls (u : TablesOf) (n : ℕ) (d : Step) : Type 0 where
   pub fit : Fit d.tables
+  pub there : StillThere u d.tables
   pub less : work d.tables ≤ work u
   pub light : AreLight d.tables n d.puts
 
@@ -54,18 +57,18 @@ pub record Steps (at : Moment) (u : TablesOf) (i : Item) : Type 0 where
 -- ---- items in general
 
 rests : (u : TablesOf) (n : ℕ) → Fit u → Falls u n (still u)
-rests u n fit = record { fit = fit; less = omega arith; light = tt }
+rests u n fit = record { fit = fit; there = there_before u; less = omega arith; light = tt }
 
 -- nothing is put
 alone : (u new : TablesOf) (n : ℕ) → NoMore u new → Falls u n (does new [])
-alone u new n h = record { fit = h.fit; less = h.less; light = tt }
+alone u new n h = record { fit = h.fit; there = h.there; less = h.less; light = tt }
 
 -- one item is put, of a lower rank
 puts_one : (u new : TablesOf) (i j : Item) → NoMore u new → ClosesForGood j → rank j < rank i → Falls u (weight u i) (does new (j ∷ []))
-puts_one u new i j h ends lower = record { fit = h.fit; less = h.less; light = (ends, let less = h.less in omega (arith, less, lower), tt) }
+puts_one u new i j h ends lower = record { fit = h.fit; there = h.there; less = h.less; light = (ends, let less = h.less in omega (arith, less, lower), tt) }
 
 unchanged : (u : TablesOf) → Fit u → NoMore u u
-unchanged u fit = record { fit = fit; less = omega arith }
+unchanged u fit = record { fit = fit; there = there_before u; less = omega arith }
 
 light_behind : (u : TablesOf) (n : ℕ) (is js : List Item) → AreLight u n is → AreLight u n js → AreLight u n (is ++ js)
 light_behind u n [] js a b = b
@@ -135,6 +138,7 @@ falls_begin u t fit = falls_task u n t fit (begins u) (λ row m at of. cases row
         let less = h.less in
         record {
           fit = h.fit;
+          there = h.there;
           less = less;
           light = light_behind new (weight u (Begin t)) (begins_with m row) (Check row.task.0 ∷ []) (begun row m new (not row.started && is_automatic m.instantiation) less) (tt, omega (arith, less), tt);
         }
@@ -148,7 +152,7 @@ falls_make at u t e fit = falls_task u (weight u (Make t e)) t fit (makes_one u 
     put_one row new is next =
         let h = made u t e row new fit is next in
         let less = h.less in
-        record { fit = h.fit; less = omega (arith, less); light = (tt, omega (arith, less), tt) }
+        record { fit = h.fit; there = h.there; less = omega (arith, less); light = (tt, omega (arith, less), tt) }
 
     of_model : (row : Row) (m : ModelOf) (entry : SubEntry) (place : ℕ) (o : Option ModelOf) → task_row u t ≡ Some row → model_of u row ≡ Some m → is_made row.task.0 e u.rows ≡ false → slice_get m.subs e ≡ Some entry → model_named u entry.model ≡ Some place → model_at u place ≡ o → Falls u (weight u (Make t e)) (makes_of u at row e entry place o)
     of_model row m entry place None is of new listed named there = rests u (weight u (Make t e)) fit
@@ -194,7 +198,7 @@ falls_finished u t row output fit at live =
     let skip = mapped (with_row u (record row { output = output })) (skipped row.task.0 rows) set.fit (skipped_stands row.task.0 rows) (skipped_stays row.task.0 rows) in
     let a = set.less in
     let b = skip.less in
-    record { fit = skip.fit; less = omega (arith, a, b); light = (refl, omega (arith, a, b), tt) }
+    record { fit = skip.fit; there = there_then u (with_row u (record row { output = output })) (with_rows u (map (skipped row.task.0 rows) rows)) set.there skip.there; less = omega (arith, a, b); light = (refl, omega (arith, a, b), tt) }
 
 record Checked (u : TablesOf) (t : ℕ) (Does : Step → Type 0) : Type 0 where
   done : Step
@@ -233,8 +237,8 @@ falls_close : (u : TablesOf) (t : ℕ) (end : State) → is_final end ≡ true �
 falls_close u t end final fit = falls_row u (weight u (Close t end)) t fit (closes u end) (λ row at. cases row at (is_final row.state) refl)
   where
     rising : (row : Row) (new : TablesOf) (o : Option (TaskId × ℕ)) → Less u new → Falls u (weight u (Close t end)) (does new (option_map_or (λ p. Up p.0.0 row.task.0 ∷ []) o []))
-    rising row new None h = let less = h.less in record { fit = h.fit; less = omega (arith, less); light = tt }
-    rising row new (Some p) h = let less = h.less in record { fit = h.fit; less = omega (arith, less); light = (tt, omega (arith, less), tt) }
+    rising row new None h = let less = h.less in record { fit = h.fit; there = h.there; less = omega (arith, less); light = tt }
+    rising row new (Some p) h = let less = h.less in record { fit = h.fit; there = h.there; less = omega (arith, less); light = (tt, omega (arith, less), tt) }
 
     cases : (row : Row) → task_row u t ≡ Some row → (b : Bool) → is_final row.state ≡ b → Falls u (weight u (Close t end)) (if b then still u else does (record u { rows = map (shut end row.task.0 u.rows) u.rows }) (ups row))
     cases row at true live = rests u (weight u (Close t end)) fit
@@ -248,7 +252,7 @@ falls_up u p c fit = falls_row u (weight u (Up p c)) c fit (λ child. on_task u 
     cases : (child row : Row) (m : ModelOf) → task_row u p ≡ Some row → (a b : Bool) → is_final row.state ≡ a → Falls u (weight u (Up p c)) (if a then still u else (if b then does (with_row u (record row { fault = child.fault })) (Close row.task.0 Failed ∷ []) else does u (Check row.task.0 ∷ Next row.task.0 child.task.0 ∷ [])))
     cases child row m is true b live = rests u (weight u (Up p c)) fit
     cases child row m is false true live = puts_one u (with_row u (record row { fault = child.fault })) (Up p c) (Close row.task.0 Failed) (changed u p row (record row { fault = child.fault }) fit is refl live) refl (omega arith)
-    cases child row m is false false live = record { fit = fit; less = omega arith; light = (tt, omega arith, (tt, omega arith, tt)) }
+    cases child row m is false false live = record { fit = fit; there = there_before u; less = omega arith; light = (tt, omega arith, (tt, omega arith, tt)) }
 
 falls_next : (u : TablesOf) (p c : ℕ) → Fit u → Falls u (weight u (Next p c)) (on_row u (λ child. on_task u (λ row m. follows_by u row m child.parent) (task_row u p)) (task_row u c))
 falls_next u p c fit = falls_row u (weight u (Next p c)) c fit (λ child. on_task u (λ row m. follows_by u row m child.parent) (task_row u p)) (λ child at. falls_task u (weight u (Next p c)) p fit (λ row m. follows_by u row m child.parent) (λ row m is of. follows row m child.parent))

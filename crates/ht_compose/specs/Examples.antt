@@ -30,13 +30,13 @@ at = record { 0 = 1000 }
 -- ---- a family of three steps, and rows of it
 
 -- each step is for the clerks, who are anna and ben
-abbrev step : ModelOf
+abbrev pub step : ModelOf
 step = record (plain_model (codes "step")) { potential_owners = group (codes "clerks") }
 
-abbrev entry : List ℕ → SubEntry
+abbrev pub entry : List ℕ → SubEntry
 entry name = sub_entry name (codes "step") ((codes "goods", codes "order") ∷ (codes "place", codes "address") ∷ [])
 
-abbrev family : Composition → ModelOf
+abbrev pub family : Composition → ModelOf
 family composition = record (plain_model (codes "family")) {
   composition = composition;
   instantiation = Automatic;
@@ -46,7 +46,7 @@ family composition = record (plain_model (codes "family")) {
 }
 
 -- whose entries are made by hand
-abbrev by_hand : ModelOf
+abbrev pub by_hand : ModelOf
 by_hand = record (family Parallel) { instantiation = Manual }
 
 abbrev pub tables : List ModelOf → List Row → TablesOf
@@ -64,14 +64,14 @@ abbrev pub task : ℕ → State → Row
 task n state = record (bare_row (record { 0 = n }) 0 None 3 [] None at) { state = state }
 
 -- a step of an entry of a task
-abbrev sub : ℕ → ℕ → ℕ → State → Row
+abbrev pub sub : ℕ → ℕ → ℕ → State → Row
 sub n parent e state = record (task n state) { parent = Some (record { 0 = parent }, e); model = 1 }
 
-abbrev begun : Row → Row
+abbrev pub begun : Row → Row
 begun row = record row { started = true }
 
 -- it ended in this state, and whose it was
-abbrev left_by : ℕ → Row → Row
+abbrev pub left_by : ℕ → Row → Row
 left_by person row = record row { last_owner = Some person }
 
 -- ---- activate
@@ -97,6 +97,13 @@ for_itself = refl
 once : Rests (record (family Parallel) { owner_required = false }) (task 1 InProgress ∷ []) (Activate 1)
 once = refl
 
+-- a task that is ready is not given to its one potential owner, and one that has ended stays so
+not_when_ready : Rests (family Parallel) (record (task 1 Ready) { potential_owners = 0 ∷ [] } ∷ []) (Activate 1)
+not_when_ready = refl
+
+not_when_obsolete : Rests (family Parallel) (record (task 1 Obsolete) { potential_owners = 0 ∷ [] } ∷ []) (Activate 1)
+not_when_obsolete = refl
+
 of_no_task : Rests (family Parallel) (task 1 Created ∷ []) (Activate 2)
 of_no_task = refl
 
@@ -117,6 +124,23 @@ none_by_hand = refl
 
 not_while_reserved : Rests (family Parallel) (task 1 Reserved ∷ []) (Begin 1)
 not_while_reserved = refl
+
+not_while_held : Rests (family Parallel) (task 1 SuspendedInProgress ∷ []) (Begin 1)
+not_while_held = refl
+
+not_behind_its_end : Rests (family Parallel) (task 1 Completed ∷ []) (Begin 1)
+not_behind_its_end = refl
+
+-- nor again, where entries come one behind another
+one_behind_another_again : Gives (family Sequential) (begun (task 1 InProgress) ∷ []) (Begin 1) (begun (task 1 InProgress) ∷ []) (Check 1 ∷ [])
+one_behind_another_again = refl
+
+one_by_hand : Gives (record by_hand { composition = Sequential }) (task 1 InProgress ∷ []) (Begin 1) (begun (task 1 InProgress) ∷ []) (Check 1 ∷ [])
+one_by_hand = refl
+
+-- there is no first entry of none
+without_entries : Gives (record (family Sequential) { subs = [] }) (task 1 InProgress ∷ []) (Begin 1) (begun (task 1 InProgress) ∷ []) (Check 1 ∷ [])
+without_entries = refl
 
 -- ---- make
 
@@ -141,6 +165,10 @@ a_sub_task = refl
 without_an_owner : Gives by_hand (record of_anna { owner = None } ∷ []) (Make 1 0) (record of_anna { owner = None } ∷ made 3 0 ∷ []) (Activate 2 ∷ [])
 without_an_owner = refl
 
+-- it is created when it is made, whenever its parent was
+long_after : Gives by_hand (record of_anna { created = record { 0 = 7 } } ∷ []) (Make 1 1) (record of_anna { created = record { 0 = 7 } } ∷ made 0 1 ∷ []) (Activate 2 ∷ [])
+long_after = refl
+
 made_already : Rests by_hand (of_anna ∷ sub 2 1 1 Obsolete ∷ []) (Make 1 1)
 made_already = refl
 
@@ -154,20 +182,23 @@ of_an_ended_task = refl
 of_no_entry : Rests by_hand (of_anna ∷ []) (Make 1 3)
 of_no_entry = refl
 
+of_no_model : Rests (record by_hand { subs = sub_entry (codes "x") (codes "other") [] ∷ [] }) (of_anna ∷ []) (Make 1 0)
+of_no_model = refl
+
 -- in the order of their own names
 in_order : mapped (sub_entry (codes "x") (codes "step") ((codes "b", codes "p") ∷ (codes "a", codes "q") ∷ [])) ((codes "p", Int (pos 1)) ∷ (codes "q", Int (pos 2)) ∷ []) ≡ (codes "a", Int (pos 2)) ∷ (codes "b", Int (pos 1)) ∷ []
 in_order = refl
 
 -- ---- check
 
-abbrev finish : Tree → FinishOf
+abbrev pub finish : Tree → FinishOf
 finish condition = record { when = Some condition; settings = [] }
 
-abbrev default : FinishOf
+abbrev pub default : FinishOf
 default = record { when = None; settings = setting (codes "sum") (codes "goods") how.Sum ∷ [] }
 
 -- finishes where so many steps are completed, and in any case where all have ended
-abbrev goal : ℕ → ModelOf
+abbrev pub goal : ℕ → ModelOf
 goal n = record (family Parallel) { finishes = finish (binary GreaterOrEqual (count Done) (integer n)) ∷ default ∷ [] }
 
 -- it doesn't look before a step has ended
@@ -178,8 +209,15 @@ not_yet = refl
 not_of_another : Rests (goal 0) (task 1 InProgress ∷ sub 2 3 0 Completed ∷ task 3 Ready ∷ []) (Check 1)
 not_of_another = refl
 
+-- and one that is further below isn't, either
+not_of_a_step : Rests (goal 0) (task 1 InProgress ∷ sub 2 1 0 InProgress ∷ sub 3 2 0 Completed ∷ []) (Check 1)
+not_of_a_step = refl
+
 not_while_suspended : Rests (goal 0) (task 1 SuspendedInProgress ∷ sub 2 1 0 Completed ∷ []) (Check 1)
 not_while_suspended = refl
+
+not_twice : Rests (goal 0) (task 1 Completed ∷ sub 2 1 0 Completed ∷ []) (Check 1)
+not_twice = refl
 
 not_by_hand : Rests (record (goal 0) { completion = Manual }) (task 1 InProgress ∷ sub 2 1 0 Completed ∷ []) (Check 1)
 not_by_hand = refl
@@ -187,6 +225,17 @@ not_by_hand = refl
 -- the steps that are left are skipped first, and those below them
 two_of_three : Gives (goal 1) (task 1 InProgress ∷ sub 2 1 0 Completed ∷ record (sub 3 1 1 InProgress) { owner = Some 1 } ∷ sub 4 3 0 Ready ∷ []) (Check 1) (task 1 InProgress ∷ sub 2 1 0 Completed ∷ left_by 1 (sub 3 1 1 Obsolete) ∷ sub 4 3 0 Obsolete ∷ []) (Close 1 Completed ∷ [])
 two_of_three = (_, refl, refl)
+
+-- a step that was skipped has ended too
+one_is_skipped : Gives (goal 0) (task 1 InProgress ∷ sub 2 1 0 Obsolete ∷ []) (Check 1) (task 1 InProgress ∷ sub 2 1 0 Obsolete ∷ []) (Close 1 Completed ∷ [])
+one_is_skipped = (_, refl, refl)
+
+-- without a finish it goes on, though all have ended
+without_a_finish : Rests (family Parallel) (task 1 InProgress ∷ sub 2 1 0 Completed ∷ sub 3 1 1 Completed ∷ sub 4 1 2 Completed ∷ []) (Check 1)
+without_a_finish = refl
+
+without_a_default : Rests (record (goal 0) { finishes = finish (truth false) ∷ [] }) (task 1 InProgress ∷ sub 2 1 0 Completed ∷ sub 3 1 1 Completed ∷ sub 4 1 2 Completed ∷ []) (Check 1)
+without_a_default = refl
 
 -- an entry that isn't made holds the default back, and so does a step that goes on
 two_are_made : Rests (goal 3) (task 1 InProgress ∷ sub 2 1 0 Exited ∷ sub 3 1 1 Failed ∷ []) (Check 1)
@@ -196,12 +245,27 @@ one_goes_on : Rests (goal 3) (task 1 InProgress ∷ sub 2 1 0 Exited ∷ sub 3 1
 one_goes_on = refl
 
 -- a step with a number of goods
-abbrev counted : ℕ → ℕ → ℕ → State → Row
+abbrev pub counted : ℕ → ℕ → ℕ → State → Row
 counted n e goods state = record (sub n 1 e state) { output = (codes "goods", Int (pos goods)) ∷ [] }
 
 -- Where all have ended, the default is chosen. It adds what the completed steps have, and only those.
 all_have_ended : Gives (goal 3) (task 1 InProgress ∷ counted 2 2 5 Completed ∷ counted 3 1 9 Failed ∷ counted 4 0 6 Completed ∷ []) (Check 1) (record (task 1 InProgress) { output = (codes "sum", Int (pos 11)) ∷ [] } ∷ counted 2 2 5 Completed ∷ counted 3 1 9 Failed ∷ counted 4 0 6 Completed ∷ []) (Close 1 Completed ∷ [])
 all_have_ended = (_, (Some (Int (pos 11)), refl, refl), refl)
+
+-- of two results for one part the later counts, and no result leaves the part as it was
+abbrev three_results : ModelOf
+three_results = record (goal 0) {
+  finishes = record {
+    when = Some (truth true);
+    settings = setting (codes "sum") (codes "goods") how.Sum ∷ setting (codes "sum") (codes "miles") how.Sum ∷ setting (codes "least") (codes "miles") how.Min ∷ [];
+  } ∷ [];
+}
+
+abbrev had : ℕ → Row
+had n = record (task 1 InProgress) { output = (codes "least", Int (pos 3)) ∷ (codes "sum", Int (pos n)) ∷ [] }
+
+the_later_result : Gives three_results (had 4 ∷ counted 2 0 5 Completed ∷ []) (Check 1) (had 0 ∷ counted 2 0 5 Completed ∷ []) (Close 1 Completed ∷ [])
+the_later_result = (_, (Some (Int (pos 5)), refl, (Some (Int (pos 0)), refl, (None, refl, refl))), refl)
 
 -- the first whose condition is true, though the default stands in front of it and a later one is true too
 the_first : chosen (task 1 InProgress ∷ []) (record (family Parallel) { subs = []; finishes = default ∷ finish (truth false) ∷ finish (binary GreaterOrEqual (count Done) (integer 0)) ∷ finish (truth true) ∷ [] }) (task 1 InProgress) ≡ Some (finish (binary GreaterOrEqual (count Done) (integer 0)))
@@ -241,6 +305,9 @@ at_the_top = refl
 closed_before : Rests by_hand (task 1 InProgress ∷ sub 2 1 0 Completed ∷ []) (Close 2 Failed)
 closed_before = refl
 
+closes_no_task : Rests by_hand (task 1 InProgress ∷ []) (Close 2 Failed)
+closes_no_task = refl
+
 -- all below are skipped, and the task stays
 skipped : skipping 1 three_levels ≡ record (task 1 InProgress) { owner = Some 0 } ∷ left_by 1 (sub 2 1 0 Obsolete) ∷ sub 3 2 0 Obsolete ∷ left_by 2 (sub 4 2 1 Failed) ∷ record (task 5 Reserved) { owner = Some 0 } ∷ []
 skipped = refl
@@ -264,6 +331,17 @@ it_looks = refl
 -- where the entries are made by hand, a failure ends nothing
 by_hand_it_looks : Gives by_hand (task 1 InProgress ∷ lost ∷ []) (Up 1 2) (task 1 InProgress ∷ lost ∷ []) (Check 1 ∷ Next 1 2 ∷ [])
 by_hand_it_looks = refl
+
+by_hand_in_error : Gives by_hand (task 1 InProgress ∷ sub 2 1 0 Error ∷ []) (Up 1 2) (task 1 InProgress ∷ sub 2 1 0 Error ∷ []) (Check 1 ∷ Next 1 2 ∷ [])
+by_hand_in_error = refl
+
+-- what is skipped is no failure, also while the parent is held
+it_looks_at_a_skip : Gives (family Sequential) (task 1 SuspendedReady ∷ sub 2 1 0 Obsolete ∷ []) (Up 1 2) (task 1 SuspendedReady ∷ sub 2 1 0 Obsolete ∷ []) (Check 1 ∷ Next 1 2 ∷ [])
+it_looks_at_a_skip = refl
+
+-- it goes on to the next entry itself, or not
+it_looks_at_all_at_once : Gives (family Parallel) (task 1 InProgress ∷ sub 2 1 2 Completed ∷ []) (Up 1 2) (task 1 InProgress ∷ sub 2 1 2 Completed ∷ []) (Check 1 ∷ Next 1 2 ∷ [])
+it_looks_at_all_at_once = refl
 
 it_had_ended : Rests (family Parallel) (task 1 Exited ∷ lost ∷ []) (Up 1 2)
 it_had_ended = refl

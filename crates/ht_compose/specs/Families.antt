@@ -3,6 +3,7 @@ use Rattle.std.specs.Prelude.{◌≡◌, ℕ, ◌==◌, zero, suc, Bool, false, 
 use Rattle.ht_base.specs.declared.task_id.TaskId.{TaskId}
 use Rattle.ht_tree.specs.declared.row.Row.{Row}
 use Rattle.ht_tree.specs.Families.{parent_at}
+use Rattle.ht_tree.specs.Tables.{TablesOf, task_row}
 
 -- a chain of one or more parents leads from a task to the one that is above it
 pub data Above (rows : List Row) (above : ℕ) : ℕ → Type 0 where
@@ -19,3 +20,7 @@ leads_to (suc n) rows task (Some p) = (p.0.0 == task) || leads_to n rows task (p
 -- than this number.
 abbrev pub is_above : List Row → ℕ → Row → Bool
 is_above rows task row = leads_to row.task.0 rows task row.parent
+
+-- each task is still there, with the same parent and of the same model
+abbrev pub StillThere : TablesOf → TablesOf → Type 0
+StillThere old new = (task : ℕ) (row : Row) → task_row old task ≡ Some row → (after : Row) × (task_row new task ≡ Some after) × (after.parent ≡ row.parent) × (after.model ≡ row.model)

@@ -79,3 +79,7 @@ with_result part (Some v) output = put part v output
 abbrev pub Sets : List Row → List Setting → Values → Values → Type 0
 Sets subs [] old new = new ≡ old
 Sets subs (s ∷ ss) old new = (result : Option Value) × IsAggregate s.how (values_for s.how s.from subs) result × Sets subs ss (with_result s.part result old) new
+
+-- the output of a task that finishes so
+abbrev pub HasResults : List Row → ModelOf → Row → FinishOf → Values → Type 0
+HasResults rows m row f output = Sets (completed row.task.0 (length m.subs) rows) f.settings row.output output

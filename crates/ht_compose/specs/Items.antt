@@ -11,7 +11,7 @@ use Rattle.ht_base.specs.Values.{updated, value_of}
 use Rattle.ht_compose.specs.Agenda.{Done}
 use Rattle.ht_compose.specs.Downward.{closing, skipping}
 use Rattle.ht_tree.specs.Families.{is_final, is_made, is_sub_of}
-use Rattle.ht_compose.specs.Finishes.{Sets, chosen, completed}
+use Rattle.ht_compose.specs.Finishes.{HasResults, chosen}
 use Rattle.ht_models.specs.declared.choices.Composition.{Composition}
 use Rattle.ht_models.specs.declared.choices.Composition.TheVariants.{Parallel, Sequential}
 use Rattle.ht_models.specs.declared.choices.Trigger.{Trigger}
@@ -142,7 +142,7 @@ finished u row output = does (with_rows u (skipping row.task.0 (put_in u.rows (r
 abbrev pub Finishes : TablesOf → Row → ModelOf → Option FinishOf → Step → Type 0
 Finishes u row m None d = d ≡ still u
 Finishes u row m (Some f) d =
-    (output : Values) × Sets (completed row.task.0 (length m.subs) u.rows) f.settings row.output output × (d ≡ finished u row output)
+    (output : Values) × HasResults u.rows m row f output × (d ≡ finished u row output)
 
 abbrev pub Checks : TablesOf → Row → ModelOf → Step → Type 0
 Checks u row m d = Finishes u row m (if is_checked u row m then chosen u.rows m row else None) d

@@ -1,9 +1,16 @@
 pub mod Agenda
+pub mod ByHand
+pub mod CallExamples
+pub mod Composing
 pub mod Downward
 pub mod Examples
 pub mod Families
 pub mod FamilyExamples
+pub mod Finding
 pub mod Finishes
+pub mod Freeing
+pub mod Gathering
 pub mod Items
 pub mod Reaching
+pub mod Running
 pub mod Work

@@ -1,4 +1,4 @@
-ghost use Rattle.std.specs.Prelude.{OnOk, IsTrue};
+ghost use Rattle.std.specs.Prelude.{◌≡◌, OnOk, IsTrue, OnErr};
 ghost use Rattle.ht_compose.specs.Downward.{closing, freeing, holding, skipping};
 ghost use Rattle.ht_compose.specs.Reaching.{IsTask};
 ghost use Rattle.ht_tree.specs.Families.{is_final};
@@ -20,6 +20,7 @@ pub fn hold(alloc: Global, tables: &Tables, plan: &mut Plan, task: TaskId) -> Re
     requires there { IsTask (planned tables.now.tables plan.old) task.0 }
     ensures goes { OnOk result (Goes tables.now.tables plan.old plan.new (planned tables.now.tables plan.old) (with_rows (planned tables.now.tables plan.old) (holding task.0 (planned tables.now.tables plan.old).rows))) }
     ensures sound { OnOk result (IsSound (planned tables.now.tables plan.new)) }
+    ensures marked { OnErr result (plan.new.marked ≡ plan.old.marked) }
 {
     spread(alloc, tables, plan, task, Reach::Hold)
 }
@@ -37,6 +38,7 @@ pub fn free_below(
     requires there { IsTask (planned tables.now.tables plan.old) task.0 }
     ensures goes { OnOk result (Goes tables.now.tables plan.old plan.new (planned tables.now.tables plan.old) (with_rows (planned tables.now.tables plan.old) (freeing task.0 (planned tables.now.tables plan.old).rows))) }
     ensures sound { OnOk result (IsSound (planned tables.now.tables plan.new)) }
+    ensures marked { OnErr result (plan.new.marked ≡ plan.old.marked) }
 {
     spread(alloc, tables, plan, task, Reach::Free)
 }
@@ -54,6 +56,7 @@ pub fn skip_below(
     requires there { IsTask (planned tables.now.tables plan.old) task.0 }
     ensures goes { OnOk result (Goes tables.now.tables plan.old plan.new (planned tables.now.tables plan.old) (with_rows (planned tables.now.tables plan.old) (skipping task.0 (planned tables.now.tables plan.old).rows))) }
     ensures sound { OnOk result (IsSound (planned tables.now.tables plan.new)) }
+    ensures marked { OnErr result (plan.new.marked ≡ plan.old.marked) }
 {
     spread(alloc, tables, plan, task, Reach::Skip)
 }
@@ -73,6 +76,7 @@ pub fn close_family(
     requires end { IsTrue (is_final end) }
     ensures goes { OnOk result (Goes tables.now.tables plan.old plan.new (planned tables.now.tables plan.old) (with_rows (planned tables.now.tables plan.old) (closing end task.0 (planned tables.now.tables plan.old).rows))) }
     ensures sound { OnOk result (IsSound (planned tables.now.tables plan.new)) }
+    ensures marked { OnErr result (plan.new.marked ≡ plan.old.marked) }
 {
     spread(alloc, tables, plan, task, Reach::Close(end))
 }

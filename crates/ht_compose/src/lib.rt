@@ -3,13 +3,31 @@
 #![tactic(auto)]
 
 mod above;
+mod activating;
+mod beginning;
+mod by_hand;
 mod changing;
+mod checking;
+mod closing;
+mod composing;
+#[cfg(test)]
+mod composing_tests;
 mod downward;
+mod finishing;
+mod freeing;
+mod gathering;
+mod item;
 mod laws;
+mod making;
 mod reaching;
+mod running;
 mod spreading;
 #[cfg(test)]
 mod tests;
 
+pub use by_hand::entry_to_make;
+pub use composing::{activate, begin, close, instantiate};
 pub use downward::{close_family, free_below, hold, skip_below};
+pub use freeing::free;
+pub use gathering::gather;
 pub use laws::{above_is_a_chain_of_parents, laws_of_the_agenda, the_end_is_always_reached};

@@ -1,4 +1,4 @@
-ghost use Rattle.std.specs.Prelude.{◌≡◌, OnOk};
+ghost use Rattle.std.specs.Prelude.{◌≡◌, OnOk, OnErr};
 ghost use Rattle.ht_compose.specs.Reaching.{Ends, IsLastBelow, IsTask, Reaches, ReachesAll};
 ghost use Rattle.ht_tree.specs.Plans.{IsPlanOf, planned};
 ghost use Rattle.ht_tree.specs.Soundness.{IsSound};
@@ -24,6 +24,7 @@ pub(crate) fn spread(
     requires ends { Ends reach }
     ensures reaches { OnOk result (ReachesAll tables.now.tables plan.old plan.new task.0 reach) }
     ensures sound { OnOk result (IsSound (planned tables.now.tables plan.new)) }
+    ensures marked { OnErr result (plan.new.marked ≡ plan.old.marked) }
 {
     let last = last_below(tables, plan, task);
     for done in 0..last - task.0 + 1 {
@@ -33,7 +34,7 @@ pub(crate) fn spread(
 }
 
 // The number behind which no task is below this one.
-fn last_below(tables: &Tables, plan: &Plan, task: TaskId) -> u32
+pub(crate) fn last_below(tables: &Tables, plan: &Plan, task: TaskId) -> u32
     requires plan { IsPlanOf tables.now.tables plan.now }
     requires sound { IsSound (planned tables.now.tables plan.now) }
     requires there { IsTask (planned tables.now.tables plan.now) task.0 }
@@ -60,7 +61,8 @@ fn reach_one(
 ) -> Result<(), Memory>
     requires plan { IsPlanOf tables.now.tables plan.old }
     requires there { IsTask (planned tables.now.tables plan.old) id.0 }
-    ensures { OnOk result (Reaches tables.now.tables plan.old plan.new task.0 reach id.0) }
+    ensures reaches { OnOk result (Reaches tables.now.tables plan.old plan.new task.0 reach id.0) }
+    ensures marked { OnErr result (plan.new.marked ≡ plan.old.marked) }
 {
     let Some(row) = plan.row(tables, id) else {
         unreachable!()

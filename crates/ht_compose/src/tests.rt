@@ -46,7 +46,7 @@ fn tables(alloc: Global) -> Result<Tables, Fail> {
 }
 
 // Nothing is planned yet.
-fn begun(alloc: Global, tables: &Tables) -> Result<Plan, Fail>
+pub(crate) fn begun(alloc: Global, tables: &Tables) -> Result<Plan, Fail>
     ensures fits { IfOk result (λ plan. IsPlanOf tables.now.tables plan) }
     ensures sound { IfOk result (λ plan. IsSound (planned tables.now.tables plan)) }
 {
@@ -57,7 +57,7 @@ fn begun(alloc: Global, tables: &Tables) -> Result<Plan, Fail>
 }
 
 // Plans a task of dan's.
-fn created(
+pub(crate) fn created(
     alloc: Global,
     tables: &Tables,
     plan: &mut Plan,
@@ -120,7 +120,7 @@ fn owned(row: Row, state: State, owner: Person) -> Row
 }
 
 // Plans that somebody owns a task.
-fn given(
+pub(crate) fn given(
     alloc: Global,
     tables: &Tables,
     plan: &mut Plan,

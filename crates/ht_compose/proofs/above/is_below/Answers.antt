@@ -1,4 +1,4 @@
-use Rattle.std.proofs.Common.{◌-◌, ◌+◌, ℕ, Option, Some, ap, sym, ◌∙◌, arith}
+use Rattle.std.proofs.Common.{◌-◌, ◌+◌, ℕ, Option, ap, sym, ◌∙◌}
 use Rattle.ht_base.specs.declared.task_id.TaskId.{TaskId}
 use Rattle.ht_compose.specs.Families.{leads_to}
 use Rattle.ht_compose.proofs.Chains.{leads_on}

@@ -1,4 +1,4 @@
-use Rattle.std.proofs.Common.{◌≡◌, length, Option, Some, sym, subst, ◌∙◌}
+use Rattle.std.proofs.Common.{◌≡◌, length, sym, subst, ◌∙◌}
 use Rattle.ht_compose.specs.Reaching.{changed, reached}
 use Rattle.ht_compose.proofs.Changed.{changed_fits}
 use Rattle.ht_compose.proofs.OneRow.{changed_next, left_alone, one, put_reached}
@@ -8,8 +8,8 @@ use Rattle.ht_tree.specs.Plans.{Goes, IsNext, planned}
 use Rattle.ht_tree.specs.Soundness.{Fits}
 use Rattle.ht_tree.specs.Tables.{task_row, with_row}
 
-pub returns-then-not-touches : goal.returns-then-not-touches
-returns-then-not-touches c =
+pub returns-then-not-touches-clause-reaches : goal.returns-then-not-touches-clause-reaches
+returns-then-not-touches-clause-reaches c =
     let t = c.args.tables.now.tables in
     left_alone t c.args.plan.now c.args.task.0 c.args.reach c.args.id.0 c.in-Some.row.now c.change_of-change.result c.requires.plan c.requires.there (sym c.in-Some.ensures.value) c.change_of-change.ensures (sym c.touches.ensures ∙ c.if-not-touches.true)
 
@@ -25,8 +25,8 @@ put-requires-clause-fits c =
     let P : Row → Type 0 = λ r. Fits t r in
     subst P (sym c.changed.ensures) (changed_fits t.models (length t.people.persons) c.change_of-change.result c.in_ok-row.row c.in_ok-row.ensures.fits)
 
-pub returns : goal.returns
-returns c =
+pub returns-clause-reaches : goal.returns-clause-reaches
+returns-clause-reaches c =
     let t = c.args.tables.now.tables in
     let u = planned t c.args.plan.now in
     let taken = c.take.new.self in

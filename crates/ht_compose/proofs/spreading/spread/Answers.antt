@@ -1,5 +1,5 @@
-use Rattle.std.proofs.Common.{◌≡◌, ℕ, ◌+◌, ◌-◌, ◌≤◌, suc, refl, subst, sym, arith}
-use Rattle.ht_compose.specs.Reaching.{IsTask, Reaches}
+use Rattle.std.proofs.Common.{◌≡◌, ℕ, ◌+◌, ◌-◌, suc, refl, subst, sym, arith}
+use Rattle.ht_compose.specs.Reaching.{Reaches}
 use Rattle.ht_compose.proofs.Reached.{all_sound}
 use Rattle.ht_compose.proofs.Spread.{Going, begins, done, goes_further, is_there}
 use Rattle.ht_compose.proofs.spreading.spread.Goals as goal
@@ -45,7 +45,7 @@ loop-done-preserved c =
     let is : c.last_below-last.result - c.loop-done.done ≡ suc j = omega arith in
     let P : ℕ → Type 0 = λ k. Going u c.requires.sound c.args.task.0 c.args.reach c.requires.ends t p mid k in
     let R : ℕ → Type 0 = λ k. Reaches t mid new c.args.task.0 c.args.reach k in
-    goes_further u c.requires.sound c.args.task.0 c.args.reach c.requires.ends t p mid new j (omega arith) (subst P is c.loop-done.invariant) (subst R is c.in_ok-reach_one.ensures)
+    goes_further u c.requires.sound c.args.task.0 c.args.reach c.requires.ends t p mid new j (omega arith) (subst P is c.loop-done.invariant) (subst R is c.in_ok-reach_one.ensures.reaches)
 
 pub returns-clause-reaches : goal.returns-clause-reaches
 returns-clause-reaches c =

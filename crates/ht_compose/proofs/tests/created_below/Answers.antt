@@ -9,7 +9,6 @@ use Rattle.ht_base.specs.declared.task_id.TaskId.{TaskId}
 use Rattle.ht_models.specs.Model.{ModelOf, names}
 use Rattle.ht_models.specs.Shown as shown
 use Rattle.ht_models.specs.SubEntries.{SubEntry}
-use Rattle.ht_tree.specs.declared.row.Row.{Row}
 use Rattle.ht_tree.specs.Families.{is_made, is_of_entry}
 use Rattle.ht_tree.specs.Plans.{planned}
 use Rattle.ht_tree.specs.Soundness.{IsSound}

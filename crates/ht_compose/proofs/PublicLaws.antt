@@ -1,0 +1,9 @@
+-- Laws of what is done on composite tasks, and of rows that are changed in their places, for the proofs
+-- of crates above.
+pub use Rattle.ht_compose.proofs.Acted.{MayReplace}
+pub use Rattle.ht_compose.proofs.ActivatedRows.{activated_filed, activated_goes_on, activated_sound}
+pub use Rattle.ht_compose.proofs.Ending.{one_behind_the_other, one_end}
+pub use Rattle.ht_compose.proofs.Determined.{determined}
+pub use Rattle.ht_compose.proofs.EntriesByHand.{is_to_make}
+pub use Rattle.ht_compose.proofs.OneField.{with_fault, with_started}
+pub use Rattle.ht_compose.proofs.RowsAlone.{OnlyRows, ends_rows, gathers_rows, one_gathered}

@@ -1,0 +1,79 @@
+ghost use Rattle.std.specs.Prelude.{◌≡◌, ◌≤◌, not, ◌&&◌, ◌||◌, IfOk, length};
+ghost use Rattle.std.specs.List.{list_any};
+ghost use Rattle.ht_compose.specs.ByHand.{IsEntryOf, named_from};
+ghost use Rattle.ht_compose.specs.Finding.{rows_of};
+ghost use Rattle.ht_compose.specs.Finishes.{all_ended};
+ghost use Rattle.ht_compose.specs.Items as spec;
+ghost use Rattle.ht_compose.specs.Reaching.{IsTask};
+ghost use Rattle.ht_models.specs.Shown.{model_of};
+ghost use Rattle.ht_tree.specs.Families as made;
+ghost use Rattle.ht_tree.specs.Plans.{IsPlanOf, planned};
+ghost use Rattle.ht_tree.specs.Soundness.{IsSound};
+
+use crate::finishing::all_ended;
+use crate::making::has_of_entry;
+use ht_base::{Memory, Name, TaskId};
+use ht_models::{Composition, Model, Trigger};
+use ht_tree::{Plan, Tables, sub_tasks};
+use std::alloc::Global;
+
+/// The place of the entry with this name, counted from 0, whose sub task may be made by hand as the
+/// task would be after the plan (WS-HumanTask 1.1, 4.7). None where there is no such entry, or its sub
+/// task may not be made now.
+pub fn entry_to_make(
+    alloc: Global,
+    tables: &Tables,
+    plan: &Plan,
+    task: TaskId,
+    name: Name,
+) -> Result<Option<u32>, Memory>
+    requires plan { IsPlanOf tables.now.tables plan.now }
+    requires sound { IsSound (planned tables.now.tables plan.now) }
+    requires there { IsTask (planned tables.now.tables plan.now) task.0 }
+    ensures { IfOk result (IsEntryOf (planned tables.now.tables plan.now) task.0 name) }
+{
+    let Some(row) = plan.row(tables, task) else {
+        unreachable!()
+    };
+    let model = tables.models().model(row.model);
+    let Some(entry) = place_of(model, name) else {
+        return Ok(None);
+    };
+    let subs = sub_tasks(alloc, tables, plan, task)?;
+    if may_be_made(tables, plan, &subs, task, model, entry) {
+        Ok(Some(entry))
+    } else {
+        Ok(None)
+    }
+}
+
+fn place_of(model: &Model, name: Name) -> Option<u32>
+    requires { length model.now.subs.items ≤ 8 }
+    ensures { result ≡ named_from 0 name (model_of model.now).subs }
+{
+    for (place, entry) in model.subs.iter().enumerate() {
+        if entry.name == name {
+            return Some(place as u32);
+        }
+    }
+    None
+}
+
+// Whether the sub task of an entry may be made, among these sub tasks of the task.
+fn may_be_made(
+    tables: &Tables,
+    plan: &Plan,
+    subs: &[TaskId],
+    task: TaskId,
+    model: &Model,
+    entry: u32,
+) -> bool
+    requires { IsPlanOf tables.now.tables plan.now }
+    ensures { let rows = rows_of (planned tables.now.tables plan.now) subs.now in let m = model_of model.now in
+        result ≡ (not (spec.is_automatic m.instantiation) && not (list_any (made.is_of_entry task.0 entry) rows) && (not (spec.is_sequential m.composition) || all_ended task.0 entry rows)) }
+{
+    model.instantiation == Trigger::Manual
+        && !has_of_entry(tables, plan, subs, task, entry)
+        && (model.composition == Composition::Parallel
+            || all_ended(tables, plan, subs, task, entry as usize))
+}

@@ -1,0 +1,288 @@
+ghost use Rattle.std.specs.Prelude.{◌≡◌, ◌++◌, IfOk, IsTrue, None, OnOk, Some, ◌&&◌, filter, find, if◌then◌else◌, length, map, option_map};
+ghost use Rattle.std.specs.List.{list_any};
+ghost use Rattle.ht_base.specs.Kinds.{kind_of_how, kind_of_value};
+ghost use Rattle.ht_base.specs.Values.{value_of};
+ghost use Rattle.ht_compose.specs.Finding.{Finds, rows_of};
+ghost use Rattle.ht_compose.specs.Finishes as spec;
+ghost use Rattle.ht_compose.specs.Finishes.{Sets, default, of_kind, or_default, with_result};
+ghost use Rattle.ht_expr.specs.Environment as environment;
+ghost use Rattle.ht_expr.specs.Environment.{has_parts};
+ghost use Rattle.ht_expr.specs.Kinds.{Declared};
+ghost use Rattle.ht_expr.specs.KindTable.{same_kind};
+ghost use Rattle.ht_models.specs.Kinded.{HasTruth, IsKinded, parts_of};
+ghost use Rattle.ht_models.specs.Shown as shown;
+ghost use Rattle.ht_tree.specs.Families as families;
+ghost use Rattle.ht_tree.specs.Families.{is_final};
+ghost use Rattle.ht_tree.specs.Plans.{IsPlanOf, planned};
+ghost use Rattle.ht_tree.specs.Soundness.{IsSound};
+ghost use Rattle.ht_tree.specs.Tables.{model_of, task_row};
+
+use ht_aggregate::aggregate;
+use ht_base::{How, Memory, Name, State, TaskId, Value, ValueList, Values};
+use ht_expr::Env;
+use ht_models::{Finish, Model, Setting};
+use ht_rules::FINAL;
+use ht_tree::{Plan, Row, Tables, env, sub_tasks};
+use std::alloc::Global;
+
+/// The output that a composite task has when it finishes, as it would be after the plan (WS-HumanTask
+/// 1.1, 4.8). None where it doesn't finish yet.
+pub(crate) fn finish(
+    alloc: Global,
+    tables: &Tables,
+    plan: &Plan,
+    row: &Row,
+    model: &Model,
+) -> Result<Option<Values>, Memory>
+    requires plan { IsPlanOf tables.now.tables plan.now }
+    requires sound { IsSound (planned tables.now.tables plan.now) }
+    requires row { task_row (planned tables.now.tables plan.now) row.now.task.0 ≡ Some row.now }
+    requires model { model_of (planned tables.now.tables plan.now) row.now ≡ Some (shown.model_of model.now) }
+    requires kinds { IsKinded model.now }
+    ensures { IfOk result (Finds (planned tables.now.tables plan.now) row.now (shown.model_of model.now)) }
+{
+    let subs = sub_tasks(alloc, tables, plan, row.task)?;
+    let env = env(alloc, tables, plan, row)?;
+    let Some(finish) = chosen(tables, plan, &subs, row.task, model, &env) else {
+        return Ok(None);
+    };
+    let completed = completed(alloc, tables, plan, &subs, row.task, model.subs.len())?;
+    let output = row.output.copy(alloc)?;
+    let output = results(alloc, tables, plan, &completed, &finish.settings, output)?;
+    Ok(Some(output))
+}
+
+// ---- the finish that is chosen
+
+// The first finish whose condition is true. Where there is none, and the sub task of every entry has
+// ended, it is the one without a condition.
+fn chosen<'a>(
+    tables: &Tables,
+    plan: &Plan,
+    subs: &[TaskId],
+    task: TaskId,
+    model: &'a Model,
+    env: &Env,
+) -> Option<&'a Finish>
+    requires plan { IsPlanOf tables.now.tables plan.now }
+    requires kinds { IsKinded model.now }
+    requires parts { IsTrue (has_parts (parts_of model.now.input.items model.now.output.items) env.now) }
+    ensures { let finishes = (shown.model_of model.now).finishes in
+        option_map (λ f. shown.finish_of f.now) result
+        ≡ or_default (find (spec.applies (parts_of model.now.input.items model.now.output.items) env.now) finishes)
+        (if spec.all_ended task.0 (length model.now.subs.items) (rows_of (planned tables.now.tables plan.now) subs.now) then default finishes else None) }
+{
+    if let Some(finish) = first_true(model, env) {
+        return Some(finish);
+    }
+    if all_ended(tables, plan, subs, task, model.subs.len()) {
+        default_finish(model)
+    } else {
+        None
+    }
+}
+
+fn first_true<'a>(model: &'a Model, env: &Env) -> Option<&'a Finish>
+    requires kinds { IsKinded model.now }
+    requires parts { IsTrue (has_parts (parts_of model.now.input.items model.now.output.items) env.now) }
+    ensures { option_map (λ f. shown.finish_of f.now) result ≡ find (spec.applies (parts_of model.now.input.items model.now.output.items) env.now) (shown.model_of model.now).finishes }
+{
+    for finish in &model.finishes {
+        if applies(finish, env) {
+            return Some(finish);
+        }
+    }
+    None
+}
+
+// Whether the condition of a finish is true.
+fn applies(finish: &Finish, env: &Env) -> bool
+    requires { (kinds : Declared) × HasTruth kinds finish.now × IsTrue (has_parts kinds env.now) }
+    ensures { (kinds : Declared) → HasTruth kinds finish.now → result ≡ spec.applies kinds env.now (shown.finish_of finish.now) }
+{
+    match &finish.when {
+        Some(condition) => condition.truth(env),
+        None => false,
+    }
+}
+
+// The finish without a condition.
+fn default_finish(model: &Model) -> Option<&Finish>
+    ensures { option_map (λ f. shown.finish_of f.now) result ≡ default (shown.model_of model.now).finishes }
+{
+    for finish in &model.finishes {
+        if finish.when.is_none() {
+            return Some(finish);
+        }
+    }
+    None
+}
+
+// Whether of each of as many entries of a task the sub task is there, and has ended.
+pub(crate) fn all_ended(
+    tables: &Tables,
+    plan: &Plan,
+    subs: &[TaskId],
+    task: TaskId,
+    entries: usize,
+) -> bool
+    requires { IsPlanOf tables.now.tables plan.now }
+    ensures { result ≡ spec.all_ended task.0 entries (rows_of (planned tables.now.tables plan.now) subs.now) }
+{
+    let mut all = true;
+    for entry in 0..entries {
+        all = all && entry_ended(tables, plan, subs, task, entry);
+    }
+    all
+}
+
+fn entry_ended(tables: &Tables, plan: &Plan, subs: &[TaskId], task: TaskId, entry: usize) -> bool
+    requires { IsPlanOf tables.now.tables plan.now }
+    ensures { result ≡ list_any (λ s. families.is_of_entry task.0 entry s && is_final s.state) (rows_of (planned tables.now.tables plan.now) subs.now) }
+{
+    for id in subs {
+        if let Some(row) = plan.row(tables, *id) {
+            if is_of_entry(row, task, entry) && FINAL.contains(row.state) {
+                return true;
+            }
+        }
+    }
+    false
+}
+
+pub(crate) fn is_of_entry(row: &Row, task: TaskId, entry: usize) -> bool
+    ensures { result ≡ families.is_of_entry task.0 entry row.now }
+{
+    match row.parent {
+        Some((parent, place)) => parent == task && place as usize == entry,
+        None => false,
+    }
+}
+
+// ---- what it sets
+
+// The numbers of the completed sub tasks of as many entries of a task, in the order of the entries.
+fn completed(
+    alloc: Global,
+    tables: &Tables,
+    plan: &Plan,
+    subs: &[TaskId],
+    task: TaskId,
+    entries: usize,
+) -> Result<Vec<TaskId>, Memory>
+    requires { IsPlanOf tables.now.tables plan.now }
+    ensures { IfOk result (λ ids. ids.items ≡ map (λ s. s.task) (spec.completed task.0 entries (rows_of (planned tables.now.tables plan.now) subs.now))) }
+{
+    let mut found = Vec::new(alloc);
+    for entry in 0..entries {
+        push_completed(tables, plan, subs, task, entry, &mut found)?;
+    }
+    Ok(found)
+}
+
+fn push_completed(
+    tables: &Tables,
+    plan: &Plan,
+    subs: &[TaskId],
+    task: TaskId,
+    entry: usize,
+    found: &mut Vec<TaskId>,
+) -> Result<(), Memory>
+    requires { IsPlanOf tables.now.tables plan.now }
+    ensures { OnOk result (found.new.items ≡ found.old.items ++ map (λ s. s.task) (filter (λ s. families.is_of_entry task.0 entry s && environment.is_completed s.state) (rows_of (planned tables.now.tables plan.now) subs.now))) }
+{
+    for id in subs {
+        if let Some(row) = plan.row(tables, *id) {
+            if is_of_entry(row, task, entry) && is_completed(row.state) {
+                found.push(row.task)?;
+            }
+        }
+    }
+    Ok(())
+}
+
+fn is_completed(state: State) -> bool
+    ensures { result ≡ environment.is_completed state }
+{
+    matches!(state, State::Completed)
+}
+
+// The output of a task, when all of these are set one after another.
+fn results(
+    alloc: Global,
+    tables: &Tables,
+    plan: &Plan,
+    subs: &[TaskId],
+    settings: &[Setting],
+    output: Values,
+) -> Result<Values, Memory>
+    requires { IsPlanOf tables.now.tables plan.now }
+    ensures { IfOk result (Sets (rows_of (planned tables.now.tables plan.now) subs.now) settings.now output) }
+{
+    let mut output = output;
+    for setting in settings {
+        let values = values_for(alloc, tables, plan, subs, setting)?;
+        let result = aggregate(alloc, &setting.how, &values)?;
+        put_result(&mut output, setting.part, result)?;
+    }
+    Ok(output)
+}
+
+// The values of these tasks of which a part is set.
+fn values_for(
+    alloc: Global,
+    tables: &Tables,
+    plan: &Plan,
+    subs: &[TaskId],
+    setting: &Setting,
+) -> Result<ValueList, Memory>
+    requires { IsPlanOf tables.now.tables plan.now }
+    ensures { IfOk result (λ vs. vs ≡ spec.values_for setting.now.how setting.now.from (rows_of (planned tables.now.tables plan.now) subs.now)) }
+{
+    let mut values = ValueList::new(alloc);
+    for id in subs {
+        if let Some(row) = plan.row(tables, *id) {
+            if let Some(value) = value_for(row, setting) {
+                values.push(value.copy(alloc)?)?;
+            }
+        }
+    }
+    Ok(values)
+}
+
+// The value of the output part, where it is set and of the aggregate's kind.
+fn value_for<'a>(row: &'a Row, setting: &Setting) -> Option<&'a Value>
+    ensures { option_map (λ v. v.now) result ≡ of_kind (kind_of_how setting.now.how) (value_of setting.now.from row.now.output) }
+{
+    let value = row.output.value_of(&setting.from)?;
+    if takes(&setting.how, value) {
+        Some(value)
+    } else {
+        None
+    }
+}
+
+// Whether the value is of the aggregate's kind.
+fn takes(how: &How, value: &Value) -> bool
+    ensures { result ≡ same_kind (kind_of_how how.now) (kind_of_value value.now) }
+{
+    match how {
+        How::Concat
+        | How::ConcatWithDelimiter(_)
+        | How::MostFrequent
+        | How::LeastFrequent
+        | How::VoteOnString(_) => matches!(value, Value::Text(_)),
+        How::And | How::Or | How::Vote(_) => matches!(value, Value::Truth(_)),
+        How::Min | How::Max | How::Sum | How::Avg => matches!(value, Value::Int(_)),
+    }
+}
+
+// No result leaves the part as it was.
+fn put_result(output: &mut Values, part: Name, value: Option<Value>) -> Result<(), Memory>
+    ensures { OnOk result (output.new ≡ with_result part value output.old) }
+{
+    match value {
+        Some(value) => output.put(part, value),
+        None => Ok(()),
+    }
+}

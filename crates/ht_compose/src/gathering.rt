@@ -1,0 +1,45 @@
+ghost use Rattle.std.specs.Prelude.{◌≡◌, OnErr, OnOk};
+ghost use Rattle.ht_compose.specs.Gathering.{IsGathered};
+ghost use Rattle.ht_compose.specs.Items as spec;
+ghost use Rattle.ht_compose.specs.Reaching.{IsTask};
+ghost use Rattle.ht_tree.specs.Plans.{IsPlanOf, planned};
+ghost use Rattle.ht_tree.specs.Soundness.{IsSound};
+
+use crate::finishing::finish;
+use ht_base::{Memory, TaskId};
+use ht_models::Trigger;
+use ht_tree::{Plan, Tables};
+use std::alloc::Global;
+
+/// Plans what a task has of its sub tasks that its owner is about to complete: the results of the
+/// chosen finish, where its completion is manual (WS-HumanTask 1.1, 4.8). After want of memory the plan
+/// can still go back to its mark.
+pub fn gather(alloc: Global, tables: &Tables, plan: &mut Plan, task: TaskId) -> Result<(), Memory>
+    requires plan { IsPlanOf tables.now.tables plan.old }
+    requires sound { IsSound (planned tables.now.tables plan.old) }
+    requires there { IsTask (planned tables.now.tables plan.old) task.0 }
+    ensures gathers { OnOk result (IsGathered tables.now.tables plan.old plan.new task.0) }
+    ensures marked { OnErr result (plan.new.marked ≡ plan.old.marked) }
+{
+    let Some(row) = plan.row(tables, task) else {
+        unreachable!()
+    };
+    let model = tables.models().model(row.model);
+    if is_automatic(model.completion) {
+        return Ok(());
+    }
+    let found = finish(alloc, tables, plan, row, model)?;
+    let Some(output) = found else {
+        return Ok(());
+    };
+    let mut row = plan.take(alloc, tables, task)?;
+    row.output = output;
+    plan.put(tables, row)?;
+    Ok(())
+}
+
+fn is_automatic(trigger: Trigger) -> bool
+    ensures { result ≡ spec.is_automatic trigger }
+{
+    matches!(trigger, Trigger::Automatic)
+}
