@@ -1,10 +1,12 @@
 -- That the effects of commands keep rows sound.
-use Rattle.std.proofs.Common.{◌≡◌, ℕ, ◌<◌, nat_lt, Bool, true, false, ◌&&◌, ◌||◌, not, ◌+◌, ◌≤◌, if◌then◌else◌, List, [], ◌∷◌, ◌++◌, filter, Option, Some, None, IfSome, IsTrue, unwrap_or, length, get_or, slice_get, zero, suc, refl, ap, sym, ◌∙◌, subst, arith}
+use Rattle.std.proofs.Common.{◌≡◌, ℕ, ◌<◌, nat_lt, Bool, true, false, ◌&&◌, ◌||◌, not, ◌+◌, ◌≤◌, if◌then◌else◌, List, [], ◌∷◌, ◌++◌, filter, Option, Some, None, IfSome, IsTrue, is_some, unwrap_or, length, get_or, slice_get, zero, suc, refl, ap, sym, ◌∙◌, subst, arith}
 use Rattle.std.proofs.lemmas.Bool.Decides.{nat_tests}
 use Rattle.std.proofs.lemmas.List.{length-append}
 use Rattle.std.proofs.lemmas.List.Elements.{All-append}
 use Rattle.std.specs.List.{range_with_len}
 use Rattle.std.specs.Option.{option_map_or}
+use Rattle.ht_base.specs.declared.end.End.{End}
+use Rattle.ht_base.specs.declared.end.End.TheVariants as ends
 use Rattle.ht_base.specs.declared.event.Command.{Command}
 use Rattle.ht_base.specs.declared.event.Command.TheVariants as command
 use Rattle.ht_base.specs.declared.moment.Moment.{Moment}
@@ -18,7 +20,7 @@ use Rattle.ht_base.specs.declared.role_list.RoleList.TheVariants as list
 use Rattle.ht_base.specs.declared.scalar.Scalar.{Scalar}
 use Rattle.ht_base.specs.declared.state.State.{State}
 use Rattle.ht_base.specs.declared.state.State.TheVariants as state
-use Rattle.ht_base.specs.Events.{AreGiven, IsCommand, op_of}
+use Rattle.ht_base.specs.Events.{AreGiven, IsCommand, IsEnd, op_of}
 use Rattle.ht_base.specs.Moment.{last_moment}
 use Rattle.ht_base.specs.Persons.{AllBelow, Ascends, has}
 use Rattle.ht_base.specs.Values.{updated}
@@ -30,8 +32,9 @@ use Rattle.ht_owner.specs.declared.follow.Follow.TheVariants as follow
 use Rattle.ht_owner.specs.Acting.{Ends}
 use Rattle.ht_owner.specs.Effects.{Effect, does, effect, following, is_forwarder, leaves, moved_now, named_owner, prepared, prepared_leaves, refuses, unless, with_comment, with_output, with_role}
 use Rattle.ht_owner.specs.Faults.{fully_commented, excluded, fault, faults, first_fault, no_output, owned, ownerless, role_faults, told, unknown_person}
-use Rattle.ht_owner.specs.Moving.{end_of, ending, is_final, moved}
+use Rattle.ht_owner.specs.Moving.{end_of, ending, is_final, moved, only_if}
 use Rattle.ht_owner.specs.Naming.{is_named, persons_named}
+use Rattle.ht_owner.specs.Suspending.{end_at}
 use Rattle.ht_owner.proofs.Moved.{MayOwn, moved_sound, no_end, serves_ownerless}
 use Rattle.ht_owner.proofs.Named.{found_person, known_name, named_alone, no_fault, none_excluded, owner_unnamed}
 use Rattle.ht_people.specs.Directory.{DirectoryOf, find}
@@ -45,7 +48,7 @@ use Rattle.ht_tree.specs.declared.comments.Comment.{Comment}
 use Rattle.ht_tree.specs.declared.row.Row.{Row}
 use Rattle.ht_tree.specs.Giving.{values_given}
 use Rattle.ht_tree.specs.Roles.{roles_in}
-use Rattle.ht_tree.specs.Soundness.{AreApart, ArePeople, IsHeldBy, IsSoundRow, needs_owner}
+use Rattle.ht_tree.specs.Soundness.{AreApart, ArePeople, IsHeldBy, IsSoundRow, is_suspended, needs_owner}
 use Rattle.ht_tree.specs.Tables.{TablesOf, model_of}
 use Rattle.ht_tree.proofs.PublicLaws.{all_selected, filed_of, given_output_held, has_selected, selected_apart, selected_ascends, updated_held}
 
@@ -76,6 +79,32 @@ ending_final s o end e = at (changing s o).after e
     at (after.To t) h = test t (is_final t) refl h
     at after.Same h = cc
     at after.ByPeople h = cc
+
+-- ---- suspensions that end by themselves
+
+abbrev HasBegun : Command → Type 0
+HasBegun (command.SuspendUntil end) = ⊥
+HasBegun _ = Unit {0}
+
+never_ends : (s : State) → ending s op.SuspendUntil ≡ None
+never_ends state.Created = refl
+never_ends s = refl
+
+begun_before : (c : Command) (s : State) (end : State) → ending s (op_of c) ≡ Some end → HasBegun c
+begun_before (command.SuspendUntil e) s end ends = let never = never_ends s in cc
+begun_before c s end ends = tt
+
+end_within : (at : Moment) (end : End) → IsEnd end → (end_at at end).0 ≤ last_moment
+end_within at (ends.At m) is = is
+end_within at (ends.After period) is = omega arith
+
+only_then : (b : Bool) (m : Moment) → IsTrue (is_some (only_if b (Some m))) → IsTrue b
+only_then true m h = refl
+only_then false m h = cc
+
+within_end : (b : Bool) (m : Moment) → m.0 ≤ last_moment → IfSome (only_if b (Some m)) (λ x. x.0 ≤ last_moment)
+within_end true m h = h
+within_end false m h = tt
 
 first_true : (a b : Bool) → (a && b) ≡ true → a ≡ true
 first_true true b h = refl
@@ -214,18 +243,19 @@ module _ (u : TablesOf) (m : ModelOf) (caller : ℕ) (moment : Moment) (row : Ro
           few true low h = grind (arith, nat_tests)
           few false low h = cc
 
-  prepared_sound : (c : Command) → IsCommand c → fault d u.rows m row c ≡ None → IsSoundRow u (prepared d m caller moment c row)
-  prepared_sound (command.Delegate name) is none =
-      let out = no_fault (faults d u.rows m row (command.Delegate name)) none 2 (excluded d row.excluded_owners (name ∷ [])) refl in
+  -- a suspension that ends by itself begins first
+  prepared_sound : (c : Command) → HasBegun c → IsCommand c → fault d u.rows m moment row c ≡ None → IsSoundRow u (prepared d m caller moment c row)
+  prepared_sound (command.Delegate name) begun is none =
+      let out = no_fault (faults d u.rows m moment row (command.Delegate name)) none 2 (excluded d row.excluded_owners (name ∷ [])) refl in
       with_owners (λ p. has p row.potential_owners || is_named d (name ∷ []) p) row.by_group (apart_of (λ p. has p row.potential_owners) (is_named d (name ∷ [])) n row.excluded_owners (sound.who).apart (none_excluded d row.excluded_owners (name ∷ []) out))
-  prepared_sound (command.Forward names) is none =
-      let out = no_fault (faults d u.rows m row (command.Forward names)) none 3 (excluded d row.excluded_owners names) refl in
+  prepared_sound (command.Forward names) begun is none =
+      let out = no_fault (faults d u.rows m moment row (command.Forward names)) none 3 (excluded d row.excluded_owners names) refl in
       with_owners (λ p. (has p row.potential_owners && not (is_forwarder caller row.state row.owner p)) || is_named d names p) row.by_group (apart_of (λ p. has p row.potential_owners && not (is_forwarder caller row.state row.owner p)) (is_named d names) n row.excluded_owners (λ p h. (sound.who).apart p (first_true _ _ h)) (none_excluded d row.excluded_owners names out))
-  prepared_sound (command.Nominate names) is none =
-      let out = no_fault (faults d u.rows m row (command.Nominate names)) none 2 (excluded d row.excluded_owners names) refl in
+  prepared_sound (command.Nominate names) begun is none =
+      let out = no_fault (faults d u.rows m moment row (command.Nominate names)) none 2 (excluded d row.excluded_owners names) refl in
       with_owners (is_named d names) false (apart_one (is_named d names) n row.excluded_owners (none_excluded d row.excluded_owners names out))
-  prepared_sound (command.SetRole role names) is none = role_sound role names none
-  prepared_sound (command.SetPriority priority) is none =
+  prepared_sound (command.SetRole role names) begun is none = role_sound role names none
+  prepared_sound (command.SetPriority priority) begun is none =
       let how = sound.how in
       record {
         filed = sound.filed;
@@ -235,11 +265,12 @@ module _ (u : TablesOf) (m : ModelOf) (caller : ℕ) (moment : Moment) (row : Ro
         when = sound.when;
         how = record { priority_within = is; few = how.few; known = how.known; moments_within = how.moments_within; texts_within = how.texts_within };
       }
-  prepared_sound (command.SetOutput output) is none = output_sound output is.0
-  prepared_sound (command.Complete output) is none = output_sound output is
-  prepared_sound (command.Fail name) is none = record { filed = sound.filed; held = sound.held; who = sound.who; whose = sound.whose; when = sound.when; how = sound.how }
-  prepared_sound (command.AddComment text) is none = comment_sound text is.0 is.1 (no_fault (faults d u.rows m row (command.AddComment text)) none 0 (fully_commented row) refl)
-  prepared_sound c is none = sound
+  prepared_sound (command.SetOutput output) begun is none = output_sound output is.0
+  prepared_sound (command.Complete output) begun is none = output_sound output is
+  prepared_sound (command.Fail name) begun is none = record { filed = sound.filed; held = sound.held; who = sound.who; whose = sound.whose; when = sound.when; how = sound.how }
+  prepared_sound (command.AddComment text) begun is none = comment_sound text is.0 is.1 (no_fault (faults d u.rows m moment row (command.AddComment text)) none 0 (fully_commented row) refl)
+  prepared_sound (command.SuspendUntil end) begun is none = absurd begun
+  prepared_sound c begun is none = sound
 
   -- ---- whose it becomes
 
@@ -248,14 +279,14 @@ module _ (u : TablesOf) (m : ModelOf) (caller : ℕ) (moment : Moment) (row : Ro
   owns o h may = record { known = known; allowed = (sound.who).apart caller (caller_is_potential (roles_in u row caller) row.state o h may) }
 
   -- who is named as the owner
-  named_owns : (name : List ℕ) → fault d u.rows m row (command.Delegate name) ≡ None → MayOwn n (unwrap_or (find name d) caller) row.excluded_owners
+  named_owns : (name : List ℕ) → fault d u.rows m moment row (command.Delegate name) ≡ None → MayOwn n (unwrap_or (find name d) caller) row.excluded_owners
   named_owns name none = at (find name d) refl
     where
       out : excluded d row.excluded_owners (name ∷ []) ≡ None
-      out = no_fault (faults d u.rows m row (command.Delegate name)) none 2 (excluded d row.excluded_owners (name ∷ [])) refl
+      out = no_fault (faults d u.rows m moment row (command.Delegate name)) none 2 (excluded d row.excluded_owners (name ∷ [])) refl
 
       there : unknown_person d (name ∷ []) ≡ None
-      there = no_fault (faults d u.rows m row (command.Delegate name)) none 1 (unknown_person d (name ∷ [])) refl
+      there = no_fault (faults d u.rows m moment row (command.Delegate name)) none 1 (unknown_person d (name ∷ [])) refl
 
       at : (o : Option ℕ) → find name d ≡ o → MayOwn n (unwrap_or o caller) row.excluded_owners
       at None is = absurd (known_name d name there is)
@@ -277,7 +308,7 @@ module _ (u : TablesOf) (m : ModelOf) (caller : ℕ) (moment : Moment) (row : Ro
   not_named : (o : Op) (s : State) (persons p : ℕ) (others : List ℕ) → (o ≡ op.Delegate → ⊥) → IsNamed (changing s o).owner → MayOwn persons p others
   not_named o s persons p others other h = absurd (other (named_is_delegate s o h))
 
-  told_owns : (c : Command) → fault d u.rows m row c ≡ None → IsNamed (changing (prepared d m caller moment c row).state (op_of c)).owner → MayOwn n (named_owner d caller c) (prepared d m caller moment c row).excluded_owners
+  told_owns : (c : Command) → fault d u.rows m moment row c ≡ None → IsNamed (changing (prepared d m caller moment c row).state (op_of c)).owner → MayOwn n (named_owner d caller c) (prepared d m caller moment c row).excluded_owners
   told_owns (command.Delegate name) none h = named_owns name none
   told_owns (command.SetRole role names) none h = not_named op.SetRole (prepared d m caller moment (command.SetRole role names) row).state n caller _ (λ e. cc) h
   told_owns c none h = not_named (op_of c) row.state n caller _ (λ e. cc) h
@@ -285,28 +316,50 @@ module _ (u : TablesOf) (m : ModelOf) (caller : ℕ) (moment : Moment) (row : Ro
   -- ---- the whole effect
 
   -- a command whose first fault is that a task never has an owner is done on one that has
-  has_owner : (c : Command) → fault d u.rows m row c ≡ None → slice_get (faults d u.rows m row c) 0 ≡ Some (ownerless m) → needs_owner u.models row.model ≡ true
-  has_owner c none first = ap (λ (o : Option ModelOf). option_map_or (λ x. x.owner_required) o true) of_model ∙ required m.owner_required (no_fault (faults d u.rows m row c) none 0 (ownerless m) first)
+  has_owner : (c : Command) → fault d u.rows m moment row c ≡ None → slice_get (faults d u.rows m moment row c) 0 ≡ Some (ownerless m) → needs_owner u.models row.model ≡ true
+  has_owner c none first = ap (λ (o : Option ModelOf). option_map_or (λ x. x.owner_required) o true) of_model ∙ required m.owner_required (no_fault (faults d u.rows m moment row c) none 0 (ownerless m) first)
     where
       required : (b : Bool) → told (not b) refusal.Ownerless ≡ None → b ≡ true
       required true h = refl
       required false h = cc
 
-  moves_sound : (c : Command) → IsCommand c → verdict (op_of c) row.state (roles_in u row caller) ≡ Yes → fault d u.rows m row c ≡ None → (serves_ownerless (op_of c) || needs_owner u.models (prepared d m caller moment c row).model) ≡ true → IsSoundRow u (moved (op_of c) caller (named_owner d caller c) (prepared d m caller moment c row))
-  moves_sound c is may none serves = moved_sound u n caller (named_owner d caller c) (prepared d m caller moment c row) (prepared_sound c is none) (op_of c) serves (caller_owns c may) (told_owns c none)
+  moves_sound : (c : Command) → HasBegun c → IsCommand c → verdict (op_of c) row.state (roles_in u row caller) ≡ Yes → fault d u.rows m moment row c ≡ None → (serves_ownerless (op_of c) || needs_owner u.models (prepared d m caller moment c row).model) ≡ true → IsSoundRow u (moved (op_of c) caller (named_owner d caller c) (prepared d m caller moment c row))
+  moves_sound c begun is may none serves = moved_sound u n caller (named_owner d caller c) (prepared d m caller moment c row) (prepared_sound c begun is none) (op_of c) serves (caller_owns c may) (told_owns c none)
 
   -- the row of a command that is no end
   abbrev row_now : Command → Row
   row_now c = moved_now (following c) (prepared d m caller moment c row) (moved (op_of c) caller (named_owner d caller c) (prepared d m caller moment c row))
 
-  now_sound : (c : Command) → IsCommand c → verdict (op_of c) row.state (roles_in u row caller) ≡ Yes → fault d u.rows m row c ≡ None → IsSoundRow u (row_now c)
+  -- its end is later than its beginning, and no later than the last moment there is
+  until_sound : (end : End) → IsEnd end → verdict op.SuspendUntil row.state (roles_in u row caller) ≡ Yes → IsSoundRow u (moved op.SuspendUntil caller caller (record row { until = Some (end_at moment end) }))
+  until_sound end is may =
+      let base = moved_sound u n caller caller row sound op.SuspendUntil refl (λ h. owns op.SuspendUntil h may) (λ h. not_named op.SuspendUntil row.state n caller _ (λ e. cc) h) in
+      let when = base.when in
+      let state = (moved op.SuspendUntil caller caller row).state in
+      record {
+        filed = base.filed;
+        held = base.held;
+        who = base.who;
+        whose = base.whose;
+        when = record {
+          waits = when.waits;
+          until = only_then (is_suspended state) (end_at moment end);
+          created_within = when.created_within;
+          waits_within = when.waits_within;
+          until_within = within_end (is_suspended state) (end_at moment end) (end_within moment end is);
+        };
+        how = base.how;
+      }
+
+  now_sound : (c : Command) → IsCommand c → verdict (op_of c) row.state (roles_in u row caller) ≡ Yes → fault d u.rows m moment row c ≡ None → IsSoundRow u (row_now c)
   now_sound command.Activate is may none = sound
-  now_sound command.Stop is may none = moves_sound command.Stop is may none (has_owner command.Stop none refl)
-  now_sound command.Release is may none = moves_sound command.Release is may none (has_owner command.Release none refl)
-  now_sound (command.Delegate name) is may none = moves_sound (command.Delegate name) is may none (has_owner (command.Delegate name) none refl)
-  now_sound (command.Forward names) is may none = moves_sound (command.Forward names) is may none (has_owner (command.Forward names) none refl)
-  now_sound (command.Nominate names) is may none = moves_sound (command.Nominate names) is may none (has_owner (command.Nominate names) none refl)
-  now_sound c is may none = moves_sound c is may none refl
+  now_sound (command.SuspendUntil end) is may none = until_sound end is may
+  now_sound command.Stop is may none = moves_sound command.Stop tt is may none (has_owner command.Stop none refl)
+  now_sound command.Release is may none = moves_sound command.Release tt is may none (has_owner command.Release none refl)
+  now_sound (command.Delegate name) is may none = moves_sound (command.Delegate name) tt is may none (has_owner (command.Delegate name) none refl)
+  now_sound (command.Forward names) is may none = moves_sound (command.Forward names) tt is may none (has_owner (command.Forward names) none refl)
+  now_sound (command.Nominate names) is may none = moves_sound (command.Nominate names) tt is may none (has_owner (command.Nominate names) none refl)
+  now_sound c is may none = moves_sound c tt is may none refl
 
   same_file : (c : Command) → filed_of (prepared d m caller moment c row) ≡ filed_of row
   same_file (command.SetRole list.PotentialOwners names) = refl
@@ -344,7 +397,7 @@ module _ (u : TablesOf) (m : ModelOf) (caller : ℕ) (moment : Moment) (row : Ro
   follow_in (does r f) = f
   follow_in (refuses why) = follow.Nothing
 
-  left_by : (c : Command) (new : Row) (next : Follow) → IsCommand c → verdict (op_of c) row.state (roles_in u row caller) ≡ Yes → fault d u.rows m row c ≡ None → (o : Option State) → ending (prepared d m caller moment c row).state (op_of c) ≡ o → leaves d caller c (prepared d m caller moment c row) o ≡ does new next → IsMade u row new next
+  left_by : (c : Command) (new : Row) (next : Follow) → IsCommand c → verdict (op_of c) row.state (roles_in u row caller) ≡ Yes → fault d u.rows m moment row c ≡ None → (o : Option State) → ending (prepared d m caller moment c row).state (op_of c) ≡ o → leaves d caller c (prepared d m caller moment c row) o ≡ does new next → IsMade u row new next
   left_by c new next is may none None e h =
       let before = prepared d m caller moment c row in
       let R : Row → Type 0 = λ r. IsSoundRow u r × (filed_of r ≡ filed_of row) × (is_final row.state ≡ is_final r.state) in
@@ -354,17 +407,17 @@ module _ (u : TablesOf) (m : ModelOf) (caller : ℕ) (moment : Moment) (row : Ro
       record { sound = made.0; same = made.1; final = made.2; ends = subst F (ap follow_in h) (quiet c) }
   left_by c new next is may none (Some end) e h =
       let R : Row → Type 0 = λ r. IsSoundRow u r × (filed_of r ≡ filed_of row) × (is_final row.state ≡ is_final r.state) in
-      let made : R new = subst R (ap row_in h) (prepared_sound c is none, same_file c, final_before c) in
+      let made : R new = subst R (ap row_in h) (prepared_sound c (begun_before c (prepared d m caller moment c row).state end e) is none, same_file c, final_before c) in
       let F : Follow → Type 0 = λ f. Ends f in
       record { sound = made.0; same = made.1; final = made.2; ends = subst F (ap follow_in h) (ending_final (prepared d m caller moment c row).state (op_of c) end e) }
 
   pub effect_makes : (c : Command) (new : Row) (next : Follow) → IsCommand c → verdict (op_of c) row.state (roles_in u row caller) ≡ Yes → effect d u.rows m caller moment c row ≡ does new next → IsMade u row new next
-  effect_makes c new next is may done = first (fault d u.rows m row c) refl done
+  effect_makes c new next is may done = first (fault d u.rows m moment row c) refl done
     where
-      second : (o : Option Refusal) → fault d u.rows m row c ≡ None → unless o (leaves d caller c (prepared d m caller moment c row) (ending (prepared d m caller moment c row).state (op_of c))) ≡ does new next → IsMade u row new next
+      second : (o : Option Refusal) → fault d u.rows m moment row c ≡ None → unless o (leaves d caller c (prepared d m caller moment c row) (ending (prepared d m caller moment c row).state (op_of c))) ≡ does new next → IsMade u row new next
       second (Some why) none h = cc
       second None none h = left_by c new next is may none (ending (prepared d m caller moment c row).state (op_of c)) refl h
 
-      first : (o : Option Refusal) → fault d u.rows m row c ≡ o → unless o (prepared_leaves d m caller c (prepared d m caller moment c row)) ≡ does new next → IsMade u row new next
+      first : (o : Option Refusal) → fault d u.rows m moment row c ≡ o → unless o (prepared_leaves d m caller c (prepared d m caller moment c row)) ≡ does new next → IsMade u row new next
       first (Some why) e h = cc
       first None none h = second (no_output m (prepared d m caller moment c row) c) none h

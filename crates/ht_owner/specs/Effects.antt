@@ -20,6 +20,7 @@ use Rattle.ht_owner.specs.declared.refusal.ActRefusal.TheVariants as why
 use Rattle.ht_owner.specs.Faults.{fault, no_output}
 use Rattle.ht_owner.specs.Moving.{ending, moved}
 use Rattle.ht_owner.specs.Naming.{is_named, is_this, persons_named}
+use Rattle.ht_owner.specs.Suspending.{end_at}
 use Rattle.ht_people.specs.Directory.{DirectoryOf, find}
 use Rattle.ht_people.specs.Membership.{everybody}
 use Rattle.ht_tree.specs.declared.row.Row.{Row}
@@ -67,6 +68,7 @@ prepared d m caller at (command.Forward names) row = record row { potential_owne
 prepared d m caller at (command.Nominate names) row = record row { potential_owners = persons_named d names; by_group = false }
 prepared d m caller at (command.SetRole role names) row = with_role d row names role
 prepared d m caller at (command.SetPriority priority) row = record row { priority = priority }
+prepared d m caller at (command.SuspendUntil end) row = record row { until = Some (end_at at end) }
 prepared d m caller at (command.SetOutput output) row = with_output d m row output
 prepared d m caller at (command.Complete output) row = with_output d m row output
 prepared d m caller at (command.Fail fault) row = record row { fault = fault }
@@ -84,6 +86,7 @@ abbrev pub following : Command → Follow
 following command.Start = follow.Began
 following command.Activate = follow.Activate
 following command.Suspend = follow.Held
+following (command.SuspendUntil end) = follow.Held
 following command.Resume = follow.Freed
 following _ = follow.Nothing
 
@@ -107,7 +110,7 @@ prepared_leaves d m caller c row = unless (no_output m row c) (leaves d caller c
 
 -- of a caller's command at a moment on a task of this model, among the rows of all tasks
 abbrev pub effect : DirectoryOf → List Row → ModelOf → ℕ → Moment → Command → Row → Effect
-effect d rows m caller at c row = unless (fault d rows m row c) (prepared_leaves d m caller c (prepared d m caller at c row))
+effect d rows m caller at c row = unless (fault d rows m at row c) (prepared_leaves d m caller c (prepared d m caller at c row))
 
 -- what is answered is what comes of it
 abbrev pub Gives : Effect → Result (Row × Follow) ActRefusal → Type 0

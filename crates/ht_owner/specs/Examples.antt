@@ -1,5 +1,6 @@
 -- Worked examples of rows that operations move. A wrong reading of one fails the check.
 use Rattle.std.specs.Prelude.{◌≡◌, refl, ℕ, List, replicate, [], ◌∷◌, Some, None, codes, true, false}
+use Rattle.ht_base.specs.declared.end.End.TheVariants as ends
 use Rattle.ht_base.specs.declared.event.Command.{Command}
 use Rattle.ht_base.specs.declared.event.Command.TheVariants as command
 use Rattle.ht_base.specs.declared.kind.Kind.TheVariants as kind
@@ -23,6 +24,7 @@ use Rattle.ht_owner.specs.declared.follow.Follow.TheVariants as follow
 use Rattle.ht_owner.specs.declared.follow.Follow.TheVariants.{Began, Close, Freed, Held, Nothing}
 use Rattle.ht_owner.specs.Effects.{Effect, does, effect, refuses}
 use Rattle.ht_owner.specs.Moving.{moved}
+use Rattle.ht_owner.specs.Suspending.{end_at}
 use Rattle.ht_tree.specs.declared.comments.Comment.{Comment}
 use Rattle.ht_tree.specs.declared.row.Row.{Row}
 use Rattle.ht_tree.specs.Creating.{bare_row}
@@ -193,6 +195,24 @@ another_kind_first = refl
 -- its output is set, and then it is to end
 a_completion : comes ballot 0 (command.Complete ((codes "agreed", scalar.Truth false) ∷ [])) voted ≡ does (record voted { output = (codes "agreed", values.Truth false) ∷ (codes "vote", values.Text (codes "yes")) ∷ [] }) (Close state.Completed)
 a_completion = refl
+
+-- ---- suspensions that end by themselves, of a command that acts at 2000
+
+until_a_moment : comes unit 0 (command.SuspendUntil (ends.At (at 5000))) reserved ≡ does (record reserved { state = state.SuspendedReserved; until = Some (at 5000) }) Held
+until_a_moment = refl
+
+for_a_period : comes unit 0 (command.SuspendUntil (ends.After 3000)) reserved ≡ does (record reserved { state = state.SuspendedReserved; until = Some (at 5000) }) Held
+for_a_period = refl
+
+until_now : comes unit 0 (command.SuspendUntil (ends.At (at 2000))) reserved ≡ refuses refusal.UntilPast
+until_now = refl
+
+for_no_time : comes unit 0 (command.SuspendUntil (ends.After 0)) reserved ≡ refuses refusal.UntilPast
+for_no_time = refl
+
+-- a sum is no later than the last moment there is
+to_the_last_moment : end_at (at 253402300799000) (ends.After 1000) ≡ at 253402300799999
+to_the_last_moment = refl
 
 a_failure : comes ballot 0 (command.Fail (Some (codes "torn"))) started ≡ does (record started { fault = Some (codes "torn") }) (Close state.Failed)
 a_failure = refl

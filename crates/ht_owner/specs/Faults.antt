@@ -2,8 +2,10 @@
 -- operation, of which the first is told.
 use Rattle.std.specs.Prelude.{ℕ, ◌==◌, nat_lt, Bool, true, false, not, ◌&&◌, List, [], ◌∷◌, find, is_none, length, Option, Some, None, option_map, if◌then◌else◌}
 use Rattle.std.specs.Option.{option_map_or}
+use Rattle.ht_base.specs.declared.end.End.{End}
 use Rattle.ht_base.specs.declared.event.Command.{Command}
 use Rattle.ht_base.specs.declared.event.Command.TheVariants as command
+use Rattle.ht_base.specs.declared.moment.Moment.{Moment}
 use Rattle.ht_base.specs.declared.parts.Parts.{Parts}
 use Rattle.ht_base.specs.declared.reply.Limit.TheVariants.{Comments}
 use Rattle.ht_base.specs.declared.reply.Refusal.{Refusal}
@@ -19,6 +21,7 @@ use Rattle.ht_models.specs.declared.choices.Delegation.TheVariants as delegation
 use Rattle.ht_models.specs.Model.{ModelOf}
 use Rattle.ht_models.specs.Parts.{Part}
 use Rattle.ht_owner.specs.Naming.{is_this}
+use Rattle.ht_owner.specs.Suspending.{end_at}
 use Rattle.ht_people.specs.Directory as people
 use Rattle.ht_people.specs.Directory.{DirectoryOf}
 use Rattle.ht_tree.specs.declared.row.Row.{Row}
@@ -84,7 +87,11 @@ not_skipable m = told (not m.skipable) refusal.NotSkipable
 abbrev pub fully_commented : Row → Option Refusal
 fully_commented row = told (not (nat_lt (length row.comments) 32)) (refusal.Limit Comments)
 
--- ---- of each operation, in their order
+-- a suspension that begins at a moment would have ended by then
+abbrev pub until_past : Moment → End → Option Refusal
+until_past at end = told (not (nat_lt at.0 (end_at at end).0)) refusal.UntilPast
+
+-- ---- of each operation at a moment, in their order
 
 abbrev pub role_faults : DirectoryOf → ModelOf → Row → List (List ℕ) → RoleList → List (Option Refusal)
 role_faults d m row names list.PotentialOwners = ownerless m ∷ unknown_person d names ∷ excluded d row.excluded_owners names ∷ []
@@ -92,35 +99,37 @@ role_faults d m row names list.ExcludedOwners = unknown_person d names ∷ owned
 role_faults d m row names list.Administrators = unknown_person d names ∷ []
 role_faults d m row names list.Stakeholders = unknown_person d names ∷ []
 
-abbrev pub faults : DirectoryOf → List Row → ModelOf → Row → Command → List (Option Refusal)
-faults d rows m row (command.Create model input) = []
-faults d rows m row command.Claim = []
-faults d rows m row command.Start = []
-faults d rows m row command.Stop = ownerless m ∷ []
-faults d rows m row command.Release = ownerless m ∷ []
-faults d rows m row (command.Delegate name) = ownerless m ∷ unknown_person d (name ∷ []) ∷ excluded d row.excluded_owners (name ∷ []) ∷ not_delegatee d rows m row name ∷ []
-faults d rows m row (command.Forward names) = ownerless m ∷ by_group row ∷ unknown_person d names ∷ excluded d row.excluded_owners names ∷ []
-faults d rows m row (command.Nominate names) = ownerless m ∷ unknown_person d names ∷ excluded d row.excluded_owners names ∷ []
-faults d rows m row command.Activate = no_owners m row ∷ []
-faults d rows m row (command.SetRole role names) = role_faults d m row names role
-faults d rows m row (command.SetPriority priority) = []
-faults d rows m row command.Suspend = []
-faults d rows m row command.Resume = []
-faults d rows m row (command.SetOutput output) = output_refused d m output ∷ []
-faults d rows m row (command.Complete output) = output_refused d m output ∷ []
-faults d rows m row (command.Fail name) = []
-faults d rows m row command.Skip = not_skipable m ∷ []
-faults d rows m row command.Exit = []
-faults d rows m row command.Error = []
-faults d rows m row (command.AddComment text) = fully_commented row ∷ []
+abbrev pub faults : DirectoryOf → List Row → ModelOf → Moment → Row → Command → List (Option Refusal)
+faults d rows m at row (command.Create model input activate_at) = []
+faults d rows m at row command.Claim = []
+faults d rows m at row command.Start = []
+faults d rows m at row command.Stop = ownerless m ∷ []
+faults d rows m at row command.Release = ownerless m ∷ []
+faults d rows m at row (command.Delegate name) = ownerless m ∷ unknown_person d (name ∷ []) ∷ excluded d row.excluded_owners (name ∷ []) ∷ not_delegatee d rows m row name ∷ []
+faults d rows m at row (command.Forward names) = ownerless m ∷ by_group row ∷ unknown_person d names ∷ excluded d row.excluded_owners names ∷ []
+faults d rows m at row (command.Nominate names) = ownerless m ∷ unknown_person d names ∷ excluded d row.excluded_owners names ∷ []
+faults d rows m at row command.Activate = no_owners m row ∷ []
+faults d rows m at row (command.SetRole role names) = role_faults d m row names role
+faults d rows m at row (command.SetPriority priority) = []
+faults d rows m at row command.Suspend = []
+faults d rows m at row (command.SuspendUntil end) = until_past at end ∷ []
+faults d rows m at row command.Resume = []
+faults d rows m at row (command.SetOutput output) = output_refused d m output ∷ []
+faults d rows m at row (command.Complete output) = output_refused d m output ∷ []
+faults d rows m at row (command.Fail name) = []
+faults d rows m at row command.Skip = not_skipable m ∷ []
+faults d rows m at row command.Exit = []
+faults d rows m at row command.Error = []
+faults d rows m at row (command.AddComment text) = fully_commented row ∷ []
+faults d rows m at row (command.InstantiateSubTask sub) = []
 
 abbrev pub first_fault : List (Option Refusal) → Option Refusal
 first_fault [] = None
 first_fault (None ∷ fs) = first_fault fs
 first_fault (Some why ∷ fs) = Some why
 
-abbrev pub fault : DirectoryOf → List Row → ModelOf → Row → Command → Option Refusal
-fault d rows m row c = first_fault (faults d rows m row c)
+abbrev pub fault : DirectoryOf → List Row → ModelOf → Moment → Row → Command → Option Refusal
+fault d rows m at row c = first_fault (faults d rows m at row c)
 
 -- ---- behind what a command sets
 

@@ -4,3 +4,4 @@ pub mod Examples
 pub mod Faults
 pub mod Moving
 pub mod Naming
+pub mod Suspending

@@ -13,6 +13,7 @@ ghost use Rattle.ht_tree.specs.Tables.{directory};
 use crate::faults::{fault, no_output};
 use crate::moving::{ending, moved};
 use crate::naming::{forwarded, persons_named, with_named, without_named};
+use crate::suspending::end_at;
 use crate::{ActRefusal, Follow};
 use ht_base::{Command, Memory, Moment, Name, Op, Parts, Person, RoleList};
 use ht_models::Model;
@@ -38,7 +39,7 @@ pub(crate) fn effect(
     requires kinds { IsKinded model.now }
     ensures { Gives (spec.effect (directory tables.now.tables) (planned tables.now.tables plan.now).rows (model_of model.now) caller at command.now row) result }
 {
-    if let Some(refusal) = fault(alloc, tables, plan, model, &row, command)? {
+    if let Some(refusal) = fault(alloc, tables, plan, model, at, &row, command)? {
         return Err(ActRefusal::Refused(refusal));
     }
     let people = tables.people();
@@ -83,6 +84,7 @@ fn following(command: &Command) -> Follow
         Command::Start => Follow::Began,
         Command::Activate => Follow::Activate,
         Command::Suspend => Follow::Held,
+        Command::SuspendUntil { .. } => Follow::Held,
         Command::Resume => Follow::Freed,
         _ => Follow::Nothing,
     }
@@ -117,6 +119,7 @@ fn prepared(
             return with_role(alloc, people, row, *role, persons.as_slice());
         }
         Command::SetPriority { priority } => row.priority = *priority,
+        Command::SuspendUntil { end } => row.until = Some(end_at(at, *end)),
         Command::SetOutput { output } => return with_output(alloc, people, model, row, output),
         Command::Complete { output } => return with_output(alloc, people, model, row, output),
         Command::Fail { fault } => row.fault = *fault,

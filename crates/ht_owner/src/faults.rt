@@ -7,8 +7,10 @@ ghost use Rattle.ht_tree.specs.Soundness.{Fits, IsSound};
 ghost use Rattle.ht_tree.specs.Tables as tables_of;
 ghost use Rattle.ht_tree.specs.Tables.{directory};
 
+use crate::suspending::end_at;
 use ht_base::{
-    Command, Limit, Memory, Name, Parts, Person, Persons, Refusal, RoleList, Unknown, Values,
+    Command, End, Limit, Memory, Moment, Name, Parts, Person, Persons, Refusal, RoleList, Unknown,
+    Values,
 };
 use ht_models::{Delegation, Model, Part};
 use ht_people::Directory;
@@ -24,6 +26,7 @@ pub(crate) fn fault(
     tables: &Tables,
     plan: &Plan,
     model: &Model,
+    at: Moment,
     row: &Row,
     command: &Command,
 ) -> Result<Option<Refusal>, Memory>
@@ -32,7 +35,7 @@ pub(crate) fn fault(
     requires row { Fits tables.now.tables row.now }
     requires model { tables_of.model_of tables.now.tables row.now ≡ Some (model_of model.now) }
     requires kinds { IsKinded model.now }
-    ensures { IfOk result (λ o. o ≡ spec.fault (directory tables.now.tables) (planned tables.now.tables plan.now).rows (model_of model.now) row.now command.now) }
+    ensures { IfOk result (λ o. o ≡ spec.fault (directory tables.now.tables) (planned tables.now.tables plan.now).rows (model_of model.now) at row.now command.now) }
 {
     let people = tables.people();
     let excluded_owners = &row.excluded_owners;
@@ -65,6 +68,7 @@ pub(crate) fn fault(
         }
         Command::SetPriority { .. } => Ok(None),
         Command::Suspend => Ok(None),
+        Command::SuspendUntil { end } => Ok(first(&[until_past(at, *end)])),
         Command::Resume => Ok(None),
         Command::SetOutput { output } => Ok(first(&[output_refused(people, model, output)])),
         Command::Complete { output } => Ok(first(&[output_refused(people, model, output)])),
@@ -73,6 +77,7 @@ pub(crate) fn fault(
         Command::Exit => Ok(None),
         Command::Error => Ok(None),
         Command::AddComment { .. } => Ok(first(&[fully_commented(row)])),
+        Command::InstantiateSubTask { .. } => Ok(None),
     }
 }
 
@@ -155,6 +160,16 @@ fn not_skipable(model: &Model) -> Option<Refusal>
         None
     } else {
         Some(Refusal::NotSkipable)
+    }
+}
+
+fn until_past(at: Moment, end: End) -> Option<Refusal>
+    ensures { result ≡ spec.until_past at end }
+{
+    if at < end_at(at, end) {
+        None
+    } else {
+        Some(Refusal::UntilPast)
     }
 }
 

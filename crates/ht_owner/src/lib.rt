@@ -8,6 +8,7 @@ mod follow;
 mod moving;
 mod naming;
 mod refusal;
+mod suspending;
 
 pub use acting::act;
 pub use follow::Follow;
