@@ -4,31 +4,27 @@ use Rattle.ht_base.specs.declared.event.Command.{Command}
 use Rattle.ht_base.specs.declared.event.Command.TheVariants as command
 use Rattle.ht_base.specs.declared.operation.Op.{Op}
 use Rattle.ht_base.specs.declared.record.Record.{Record}
-use Rattle.ht_base.specs.declared.record.Record.TheVariants.{Asked}
 use Rattle.ht_base.specs.declared.reply.Answer.{Answer}
 use Rattle.ht_base.specs.declared.reply.Answer.TheVariants.{Refused}
 use Rattle.ht_base.specs.declared.reply.Refusal.{Refusal}
 use Rattle.ht_base.specs.declared.retry.Retry.{Retry}
 use Rattle.ht_base.specs.declared.task_id.TaskId.{TaskId}
 use Rattle.ht_base.specs.Events.{IsRetry, IsTaskOf, op_of}
-use Rattle.ht_base.specs.Moment.{last_moment}
+use Rattle.ht_compose.specs.ByHand.{IsEntryOf}
 use Rattle.ht_machine.specs.declared.asking.Asked.{Asked as Ask}
 use Rattle.ht_machine.specs.declared.sending.Sending.{Sending}
 use Rattle.ht_machine.specs.declared.sending.Sending.TheVariants.{New}
-use Rattle.ht_machine.specs.Commands.{ActsOn, AfterEffect, BehindGate, Comes, Outcome, accepted, refused}
-use Rattle.ht_machine.specs.Deciding.{AsksAs, NamesOwner, Shows, done}
+use Rattle.ht_machine.specs.Commands.{ActsOn, AfterEffect, BehindGate, Comes, DoesOn, MakesEntry, Outcome, accepted, refused}
+use Rattle.ht_machine.specs.Deciding.{AsksAs, NamesOwner, Shows}
 use Rattle.ht_machine.specs.Gate.{Gate, gate, opens, shuts}
 use Rattle.ht_machine.specs.Planning.{Does, IsAsked, Leaves, PlansAsk, PlansNew, record_of}
 use Rattle.ht_machine.specs.Sending.{IsSent, answer_of, keeping_reply, slot_of, with_reply}
 use Rattle.ht_owner.specs.Effects.{Effect, does, effect, refuses}
-use Rattle.ht_people.specs.Directory.{DirectoryOf}
-use Rattle.ht_tree.specs.declared.row.Row.{Row}
 use Rattle.ht_tree.specs.declared.slot.Kept.{Kept}
-use Rattle.ht_tree.specs.declared.slot.Slot.{Slot}
-use Rattle.ht_tree.specs.Plans.{IsPlanOf, PlanOf, no_plan, planned}
-use Rattle.ht_tree.specs.Slots.{IsNamedBy, IsOneOf, IsSoundReply, IsSoundSlot}
+use Rattle.ht_tree.specs.Plans.{ChangesOf, IsPlanOf, PlanOf, no_plan, planned}
+use Rattle.ht_tree.specs.Slots.{IsNamedBy, IsSoundReply}
 use Rattle.ht_tree.specs.Soundness.{IsSound}
-use Rattle.ht_tree.specs.Tables.{TablesOf, at_moment, directory, task_row}
+use Rattle.ht_tree.specs.Tables.{TablesOf, at_moment, directory}
 use Rattle.ht_tree.proofs.PublicLaws.{keeping_fits, keeping_planned, no_plan_fits, planned_nothing, slot_sound, sound_at, within}
 
 -- where nothing changes
@@ -50,26 +46,40 @@ none_found (Some x) other = absurd (other x refl)
 
 -- ---- the reply that is kept
 
--- a command on a task is about that task
-acts_on_it : (u : TablesOf) (caller moment task : ℕ) (c : Command) (v : TablesOf) (about : ℕ) → ActsOn u caller moment task c (accepted v about) → about ≡ task
-acts_on_it u caller moment task c v about = at (gate u (op_of c) caller task)
+-- a command on a task names it: it is about that task, or about a new one behind it
+acts_on_it : (u : TablesOf) (caller moment task : ℕ) (c : Command) (v : TablesOf) (about tasks : ℕ) → (1 ≤ about) × (about ≤ tasks) → ActsOn u caller moment task c (accepted v about) → (1 ≤ task) × (task ≤ tasks)
+acts_on_it u caller moment task c v about tasks there = at (gate u (op_of c) caller task)
   where
-    by : (e : Effect) → AfterEffect u task e (accepted v about) → about ≡ task
-    by (does row follow) a = a.1
-    by (refuses why) a = absurd cc
+    by : (w : TablesOf) (e : Effect) → AfterEffect w moment task e (accepted v about) → (1 ≤ task) × (task ≤ tasks)
+    by w (does row follow) a =
+        let it = a.1 in
+        let low = there.0 in
+        let high = there.1 in
+        (omega arith, omega arith)
+    by w (refuses why) a = absurd cc
 
-    at : (g : Gate) → BehindGate u caller moment task c g (accepted v about) → about ≡ task
-    at (opens row) a = by (effect (directory u) u.rows a.0 caller (record { 0 = moment }) c row) a.2
+    made : (found : Option ℕ) (sub : List ℕ) → IsEntryOf u task sub found → MakesEntry u moment task sub found (accepted v about) → (1 ≤ task) × (task ≤ tasks)
+    made None sub is m = absurd cc
+    made (Some entry) sub is m =
+        let place = within u.rows is.0 task is.2 in
+        let low = place.0 in
+        let high = place.1 in
+        let it = m.1 in
+        let last = there.1 in
+        (omega arith, omega arith)
+
+    on_it : (d : Command) → DoesOn u caller moment task d (accepted v about) → (1 ≤ task) × (task ≤ tasks)
+    on_it (command.InstantiateSubTask sub) a = made a.0 sub a.1 a.2
+    on_it d a = let h = a.2 in by a.0 (effect (directory a.0) (a.0).rows h.1 caller (record { 0 = moment }) d h.0) h.4
+
+    at : (g : Gate) → BehindGate u caller moment task c g (accepted v about) → (1 ≤ task) × (task ≤ tasks)
+    at (opens row) a = on_it c a
     at (shuts why) a = absurd cc
 
--- and names it, or none for a create
+-- or none for a create
 named : (u : TablesOf) (caller moment : ℕ) (task : TaskId) (c : Command) (v : TablesOf) (about tasks : ℕ) → Comes u caller moment task.0 c (accepted v about) → IsTaskOf c task → (1 ≤ about) × (about ≤ tasks) → IsNamedBy tasks (op_of c) task
-named u caller moment task (command.Create model input) v about tasks comes is there = is
-named u caller moment task c v about tasks comes is there =
-    let it = acts_on_it u caller moment task.0 c v about comes in
-    let low = there.0 in
-    let high = there.1 in
-    (omega arith, omega arith)
+named u caller moment task (command.Create model input activate_at) v about tasks comes is there = is
+named u caller moment task c v about tasks comes is there = acts_on_it u caller moment task.0 c v about tasks there comes
 
 reply_is_sound : (u : TablesOf) (about : ℕ) (reply : Kept) → IsSound u → Shows u about reply → NamesOwner u.people reply → IsSoundReply u.people (length u.rows) reply
 reply_is_sound u about reply sound shows names =
@@ -125,13 +135,16 @@ module _ (t : TablesOf) (p q : PlanOf) (person : ℕ) (a : Ask) (sound : IsSound
           };
         }
 
-  -- that is refused
-  pub refused_anew : (why : Refusal) → q ≡ p → Comes (planned t p) person a.at.0 a.task.0 a.command.now (refused why) → PlansNew t q a.at.0 person a.retry a.task a.command.now (record_of a) None (Refused why)
-  refused_anew why same comes = record {
-    after = t;
-    asks = (refused why, on_nothing t p person a.at.0 a.task.0 a.command.now (refused why) none comes, ((refl, refl), refl));
-    leaves = stays_leaves t q (same ∙ none) sound;
-  }
+  -- that is refused, behind which the plan goes back
+  pub refused_anew : (back : PlanOf) (why : Refusal) → back ≡ record q { changes = q.marked } → q.marked ≡ p.marked → Comes (planned t p) person a.at.0 a.task.0 a.command.now (refused why) → PlansNew t back a.at.0 person a.retry a.task a.command.now (record_of a) None (Refused why)
+  refused_anew back why is same comes =
+      let empty = same ∙ ap (λ (x : PlanOf). x.marked) none in
+      let nothing : back ≡ no_plan = is ∙ ap (λ (m : ChangesOf). let x : PlanOf = record { changes = m; marked = m } in x) empty in
+      record {
+        after = t;
+        asks = (refused why, on_nothing t p person a.at.0 a.task.0 a.command.now (refused why) none comes, ((refl, refl), refl));
+        leaves = stays_leaves t back nothing sound;
+      }
 
 -- ---- any command
 

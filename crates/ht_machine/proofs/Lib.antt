@@ -1,9 +1,9 @@
-mod Activated
 mod Asked
 mod Commanded
 mod CommentsShown
 mod Created
 mod Followed
+mod MadeByHand
 mod OneOutcome
 mod PartsShown
 mod Remembering

@@ -1,9 +1,10 @@
 -- An event has one outcome on given tables.
-use Rattle.std.proofs.Common.{◌≡◌, ℕ, ◌<◌, List, Option, None, Some, ap, sym, subst, ◌∙◌, inl, inr, arith}
+use Rattle.std.proofs.Common.{◌≡◌, ℕ, List, [], ◌∷◌, Option, None, Some, ap, sym, subst, ◌∙◌, inl, inr, arith}
 use Rattle.ht_base.specs.declared.event.Command.{Command}
 use Rattle.ht_base.specs.declared.event.Command.TheVariants as command
 use Rattle.ht_base.specs.declared.event.Event.{Event}
 use Rattle.ht_base.specs.declared.event.Event.TheVariants.{Ask, Read}
+use Rattle.ht_base.specs.declared.moment.Moment.{Moment}
 use Rattle.ht_base.specs.declared.parts.Parts.{Parts}
 use Rattle.ht_base.specs.declared.record.Record.{Record}
 use Rattle.ht_base.specs.declared.record.Record.TheVariants.{Asked}
@@ -14,94 +15,137 @@ use Rattle.ht_base.specs.declared.operation.Op.{Op}
 use Rattle.ht_base.specs.declared.retry.Retry.{Retry}
 use Rattle.ht_base.specs.declared.task_id.TaskId.{TaskId}
 use Rattle.ht_base.specs.Events.{op_of}
-use Rattle.ht_machine.specs.Activating.{Activates, activated_once}
-use Rattle.ht_machine.specs.Commands.{ActsOn, AfterEffect, BehindGate, Comes, Creates, CreatesAt, CreatesNamed, CreatesOf, CreatesUnless, Outcome, accepted, new_task, refused, why_not_created}
+use Rattle.ht_machine.specs.Commands.{ActivatesUnless, ActsOn, AfterEffect, BehindGate, Comes, Creates, CreatesAt, CreatesNamed, CreatesOf, CreatesUnless, DoesOn, GathersFirst, HasEffect, MakesEntry, Outcome, accepted, new_task, refused, waits_until, why_not_created}
+use Rattle.ht_compose.proofs.PublicLaws.{determined, one_end, one_gathered}
+use Rattle.ht_compose.specs.Agenda.{Ends}
+use Rattle.ht_compose.specs.ByHand.{IsEntryOf, entry_of}
+use Rattle.ht_compose.specs.Downward.{freeing}
+use Rattle.ht_compose.specs.Freeing.{checks_of}
+use Rattle.ht_compose.specs.Items as items
+use Rattle.ht_compose.specs.Items.Item.{Activate, Begin, Close, Make}
 use Rattle.ht_machine.specs.declared.sending.Sending.{Sending}
 use Rattle.ht_machine.specs.declared.sending.Sending.TheVariants as sending
 use Rattle.ht_machine.specs.declared.sending.Sending.TheVariants.{New, Answered}
 use Rattle.ht_machine.specs.Deciding.{AsksAs, Leads, Settles, Shows, done, effective}
 use Rattle.ht_machine.specs.Gate.{Gate, gate, opens, shuts}
-use Rattle.ht_machine.specs.Following.{Spreads, begun}
+use Rattle.ht_machine.specs.Following.{Spreads}
 use Rattle.ht_machine.specs.Sending.{ByCaller, ByLast, BySlot, answer_of, with_reply}
 use Rattle.ht_machine.proofs.Rows.{one}
 use Rattle.ht_models.specs.Model.{ModelOf}
 use Rattle.ht_owner.specs.declared.follow.Follow.{Follow}
-use Rattle.ht_owner.specs.declared.follow.Follow.TheVariants.{Activate, Began, Close, Freed, Held, Nothing}
+use Rattle.ht_owner.specs.declared.follow.Follow.TheVariants as follow
+use Rattle.ht_owner.specs.declared.follow.Follow.TheVariants.{Began, Freed, Held, Nothing}
 use Rattle.ht_owner.specs.Effects.{Effect, does, effect, refuses}
 use Rattle.ht_people.specs.Directory.{find}
 use Rattle.ht_tree.specs.declared.row.Row.{Row}
 use Rattle.ht_tree.specs.declared.slot.Kept.{Kept}
 use Rattle.ht_tree.specs.declared.slot.Slot.{Slot}
-use Rattle.ht_tree.specs.Tables.{TablesOf, at_moment, device_slot, directory, model_at, model_named, model_of, task_row, with_row}
+use Rattle.ht_tree.specs.Tables.{TablesOf, at_moment, device_slot, directory, model_at, model_named, model_of, task_row, with_row, with_rows}
 
 both : (u v : TablesOf) (m n : ℕ) → u ≡ v → m ≡ n → accepted u m ≡ accepted v n
 both u v m n e f = ap (λ x. accepted x m) e ∙ ap (λ k. accepted v k) f
 
+-- ---- what is done to its end
+
+same_end : (at : Moment) (u v w : TablesOf) (is : List items.Item) → Ends (items.Does at) u is v → Ends (items.Does at) u is w → v ≡ w
+same_end at u v w is a b = one_end (items.Does at) (determined at) u v w is a b
+
 -- ---- creates
 
-same_activation : (u : TablesOf) (task : ℕ) (v w : TablesOf) → Activates u task v → Activates u task w → v ≡ w
-same_activation u task v w (r, m, there, of_model, is) (s, n, found, named, as_well) =
-    let row : r ≡ s = one (task_row u task) r s there found in
-    let model : m ≡ n = one (model_of u s) m n (ap (λ (x : Row). model_of u x) (sym row) ∙ of_model) named in
-    is
-    ∙ ap (λ (x : Row). with_row u (activated_once m.owner_required x)) row
-    ∙ ap (λ (x : ModelOf). with_row u (activated_once x.owner_required s)) model
-    ∙ sym as_well
+same_activation : (at : Moment) (waits : Option Moment) (task : ℕ) (u v w : TablesOf) → ActivatesUnless at waits task u v → ActivatesUnless at waits task u w → v ≡ w
+same_activation at None task u v w a b = same_end at u v w (Activate task ∷ []) a b
+same_activation at (Some m) task u v w a b = a ∙ sym b
 
-same_new : (u : TablesOf) (caller moment place : ℕ) (input : Parts) (m : ModelOf) (o p : Outcome) → CreatesOf u caller moment place input m o → CreatesOf u caller moment place input m p → o ≡ p
-same_new u caller moment place input m (accepted v j) (accepted w k) a b =
+same_new : (u : TablesOf) (caller moment place : ℕ) (input : Parts) (waits : Option Moment) (m : ModelOf) (o p : Outcome) → CreatesOf u caller moment place input waits m o → CreatesOf u caller moment place input waits m p → o ≡ p
+same_new u caller moment place input waits m (accepted v j) (accepted w k) a b =
     let task : j ≡ k = a.1 ∙ sym b.1 in
-    let u1 = with_row u (new_task u caller moment place input m) in
-    let A : ℕ → Type 0 = λ n. Activates u1 n v in
-    both v w j k (same_activation u1 k v w (subst A task a.2) b.2) task
-same_new u caller moment place input m (accepted v j) (refused why) a b = absurd (a.0 b.0)
-same_new u caller moment place input m (refused why) (accepted w k) a b = absurd (b.0 a.0)
-same_new u caller moment place input m (refused why) (refused other) a b = ap refused (a.1 ∙ sym b.1)
+    let u1 = with_row u (new_task u caller moment place input waits m) in
+    let A : ℕ → Type 0 = λ n. ActivatesUnless (record { 0 = moment }) waits n u1 v in
+    both v w j k (same_activation (record { 0 = moment }) waits k u1 v w (subst A task a.2) b.2) task
+same_new u caller moment place input waits m (accepted v j) (refused why) a b = absurd (a.0 b.0)
+same_new u caller moment place input waits m (refused why) (accepted w k) a b = absurd (b.0 a.0)
+same_new u caller moment place input waits m (refused why) (refused other) a b = ap refused (a.1 ∙ sym b.1)
 
-same_unless : (u : TablesOf) (caller moment place : ℕ) (input : Parts) (m : ModelOf) (why : Option Refusal) (o p : Outcome) → CreatesUnless u caller moment place input m why o → CreatesUnless u caller moment place input m why p → o ≡ p
-same_unless u caller moment place input m None o p a b = same_new u caller moment place input m o p a b
-same_unless u caller moment place input m (Some why) o p a b = a ∙ sym b
+same_unless : (u : TablesOf) (caller moment place : ℕ) (input : Parts) (waits : Option Moment) (m : ModelOf) (why : Option Refusal) (o p : Outcome) → CreatesUnless u caller moment place input waits m why o → CreatesUnless u caller moment place input waits m why p → o ≡ p
+same_unless u caller moment place input waits m None o p a b = same_new u caller moment place input waits m o p a b
+same_unless u caller moment place input waits m (Some why) o p a b = a ∙ sym b
 
-same_at : (u : TablesOf) (caller moment place : ℕ) (input : Parts) (o p : Outcome) → CreatesAt u caller moment place input o → CreatesAt u caller moment place input p → o ≡ p
-same_at u caller moment place input o p a b =
-    let P : ModelOf → Type 0 = λ m. CreatesUnless u caller moment place input m (why_not_created (directory u) m input) o in
-    same_unless u caller moment place input b.0 (why_not_created (directory u) b.0 input) o p (subst P (one (model_at u place) a.0 b.0 a.1 b.1) a.2) b.2
+same_at : (u : TablesOf) (caller moment place : ℕ) (input : Parts) (waits : Option Moment) (o p : Outcome) → CreatesAt u caller moment place input waits o → CreatesAt u caller moment place input waits p → o ≡ p
+same_at u caller moment place input waits o p (m, at, a) (n, found, b) =
+    let same = one (model_at u place) m n at found in
+    let P : ModelOf → Type 0 = λ x. CreatesUnless u caller moment place input waits x (why_not_created (directory u) x input) o in
+    same_unless u caller moment place input waits n (why_not_created (directory u) n input) o p (subst P same a) b
 
-same_create : (u : TablesOf) (caller moment : ℕ) (named : Option (List ℕ)) (input : Parts) (o p : Outcome) → Creates u caller moment named input o → Creates u caller moment named input p → o ≡ p
-same_create u caller moment None input o p a b = same_at u caller moment 0 input o p a b
-same_create u caller moment (Some name) input o p a b = at (model_named u name) a b
+same_create : (u : TablesOf) (caller moment : ℕ) (name : Option (List ℕ)) (input : Parts) (waits : Option Moment) (o p : Outcome) → Creates u caller moment name input waits o → Creates u caller moment name input waits p → o ≡ p
+same_create u caller moment None input waits o p a b = same_at u caller moment 0 input waits o p a b
+same_create u caller moment (Some name) input waits o p a b = at (model_named u name) a b
   where
-    at : (k : Option ℕ) → CreatesNamed u caller moment name input k o → CreatesNamed u caller moment name input k p → o ≡ p
+    at : (k : Option ℕ) → CreatesNamed u caller moment name input waits k o → CreatesNamed u caller moment name input waits k p → o ≡ p
     at None a b = a ∙ sym b
-    at (Some place) a b = same_at u caller moment place input o p a b
+    at (Some place) a b = same_at u caller moment place input waits o p a b
 
 -- ---- the other commands
 
-same_spread : (f : Follow) (u : TablesOf) (task : ℕ) (v w : TablesOf) → Spreads f task u v → Spreads f task u w → v ≡ w
-same_spread Nothing u task v w a b = a ∙ sym b
-same_spread Began u task v w a b = a.2 ∙ ap (λ (r : Row). with_row u (begun r)) (one (task_row u task) a.0 b.0 a.1 b.1) ∙ sym b.2
-same_spread Activate u task v w a b = same_activation u task v w a b
-same_spread Held u task v w a b = a ∙ sym b
-same_spread Freed u task v w a b = a ∙ sym b
-same_spread (Close end) u task v w a b = a ∙ sym b
+same_spread : (at : Moment) (f : Follow) (u : TablesOf) (task : ℕ) (v w : TablesOf) → Spreads at f task u v → Spreads at f task u w → v ≡ w
+same_spread at Nothing u task v w a b = a ∙ sym b
+same_spread at Began u task v w a b = same_end at u v w (Begin task ∷ []) a b
+same_spread at follow.Activate u task v w a b = same_end at u v w (Activate task ∷ []) a b
+same_spread at Held u task v w a b = a ∙ sym b
+same_spread at Freed u task v w a b = same_end at (with_rows u (freeing task u.rows)) v w (checks_of task u.rows) a b
+same_spread at (follow.Close end) u task v w a b = same_end at u v w (Close task end ∷ []) a b
 
-same_effect : (u : TablesOf) (task : ℕ) (e : Effect) (o p : Outcome) → AfterEffect u task e o → AfterEffect u task e p → o ≡ p
-same_effect u task (does row follow) (accepted v j) (accepted w k) a b = both v w j k (same_spread follow (with_row u row) task v w a.0 b.0) (a.1 ∙ sym b.1)
-same_effect u task (does row follow) (accepted v j) (refused why) a b = absurd b
-same_effect u task (does row follow) (refused why) p a b = absurd a
-same_effect u task (refuses why) o p a b = a ∙ sym b
+same_effect : (u : TablesOf) (moment task : ℕ) (e : Effect) (o p : Outcome) → AfterEffect u moment task e o → AfterEffect u moment task e p → o ≡ p
+same_effect u moment task (does row follow) (accepted v j) (accepted w k) a b = both v w j k (same_spread (record { 0 = moment }) follow (with_row u row) task v w a.0 b.0) (a.1 ∙ sym b.1)
+same_effect u moment task (does row follow) (accepted v j) (refused why) a b = absurd b
+same_effect u moment task (does row follow) (refused why) p a b = absurd a
+same_effect u moment task (refuses why) o p a b = a ∙ sym b
+
+same_has : (u : TablesOf) (caller moment task : ℕ) (c : Command) (o p : Outcome) → HasEffect u caller moment task c o → HasEffect u caller moment task c p → o ≡ p
+same_has u caller moment task c o p (r, m, there, of, a) (s, n, found, named, b) =
+    let row : r ≡ s = one (task_row u task) r s there found in
+    let M : Row → Type 0 = λ x. model_of u x ≡ Some m in
+    let model : m ≡ n = one (model_of u s) m n (subst M row of) named in
+    let R : Row → Type 0 = λ x. AfterEffect u moment task (effect (directory u) u.rows m caller (record { 0 = moment }) c x) o in
+    let E : ModelOf → Type 0 = λ x. AfterEffect u moment task (effect (directory u) u.rows x caller (record { 0 = moment }) c s) o in
+    same_effect u moment task (effect (directory u) u.rows n caller (record { 0 = moment }) c s) o p (subst E model (subst R row a)) b
+
+same_gathered : (c : Command) (task : ℕ) (u v w : TablesOf) → GathersFirst c task u v → GathersFirst c task u w → v ≡ w
+same_gathered (command.Complete output) task u v w a b = one_gathered u task v w a b
+same_gathered c task u v w a b = a ∙ sym b
+
+same_first : (u : TablesOf) (caller moment task : ℕ) (c : Command) (o p : Outcome) (v w : TablesOf) → GathersFirst c task u v → GathersFirst c task u w → HasEffect v caller moment task c o → HasEffect w caller moment task c p → o ≡ p
+same_first u caller moment task c o p v w a b x y =
+    let H : TablesOf → Type 0 = λ t. HasEffect t caller moment task c o in
+    same_has w caller moment task c o p (subst H (same_gathered c task u v w a b) x) y
+
+same_entry : (u : TablesOf) (task : ℕ) (name : List ℕ) (o p : Option ℕ) → IsEntryOf u task name o → IsEntryOf u task name p → o ≡ p
+same_entry u task name o p (r, m, there, of, a) (s, n, found, named, b) =
+    let row : r ≡ s = one (task_row u task) r s there found in
+    let M : Row → Type 0 = λ x. model_of u x ≡ Some m in
+    let model : m ≡ n = one (model_of u s) m n (subst M row of) named in
+    a ∙ ap (λ (x : ModelOf). entry_of u.rows x task name) model ∙ sym b
+
+same_made : (u : TablesOf) (moment task : ℕ) (name : List ℕ) (found : Option ℕ) (o p : Outcome) → MakesEntry u moment task name found o → MakesEntry u moment task name found p → o ≡ p
+same_made u moment task name None o p a b = a ∙ sym b
+same_made u moment task name (Some entry) (accepted v j) (accepted w k) a b = both v w j k (same_end (record { 0 = moment }) u v w (Make task entry ∷ []) a.0 b.0) (a.1 ∙ sym b.1)
+same_made u moment task name (Some entry) (accepted v j) (refused why) a b = absurd b
+same_made u moment task name (Some entry) (refused why) p a b = absurd a
+
+same_on : (u : TablesOf) (caller moment task : ℕ) (c : Command) (o p : Outcome) → DoesOn u caller moment task c o → DoesOn u caller moment task c p → o ≡ p
+same_on u caller moment task (command.InstantiateSubTask sub) o p (f, is, a) (g, as_well, b) =
+    let E : Option ℕ → Type 0 = λ k. MakesEntry u moment task sub k o in
+    same_made u moment task sub g o p (subst E (same_entry u task sub f g is as_well) a) b
+same_on u caller moment task c o p a b = same_first u caller moment task c o p a.0 b.0 a.1 b.1 a.2 b.2
 
 same_act : (u : TablesOf) (caller moment task : ℕ) (c : Command) (o p : Outcome) → ActsOn u caller moment task c o → ActsOn u caller moment task c p → o ≡ p
 same_act u caller moment task c o p = at (gate u (op_of c) caller task)
   where
     at : (g : Gate) → BehindGate u caller moment task c g o → BehindGate u caller moment task c g p → o ≡ p
-    at (opens row) a b =
-        let E : ModelOf → Type 0 = λ m. AfterEffect u task (effect (directory u) u.rows m caller (record { 0 = moment }) c row) o in
-        same_effect u task (effect (directory u) u.rows b.0 caller (record { 0 = moment }) c row) o p (subst E (one (model_of u row) a.0 b.0 a.1 b.1) a.2) b.2
+    at (opens row) a b = same_on u caller moment task c o p a b
     at (shuts why) a b = a ∙ sym b
 
 same_outcome : (t : TablesOf) (person moment task : ℕ) (c : Command) (o p : Outcome) → Comes t person moment task c o → Comes t person moment task c p → o ≡ p
-same_outcome t person moment task (command.Create model input) o p a b = same_create t person moment model input o p a b
+same_outcome t person moment task (command.Create model input activate_at) o p a b = same_create t person moment model input (waits_until moment activate_at) o p a b
 same_outcome t person moment task c o p a b = same_act t person moment task c o p a b
 
 -- ---- what is known of a command

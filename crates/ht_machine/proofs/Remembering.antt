@@ -1,5 +1,5 @@
 -- What the last command of a device says of one that is sent again.
-use Rattle.std.proofs.Common.{◌≡◌, ◌⊎◌, ◌<◌, ℕ, List, [], ◌∷◌, Bool, Option, None, Some, refl, ap, sym, subst, ◌∙◌, inl, inr, arith}
+use Rattle.std.proofs.Common.{◌≡◌, ◌⊎◌, ◌<◌, ℕ, List, [], ◌∷◌, Option, None, Some, refl, ap, sym, subst, ◌∙◌, inl, inr, arith}
 use Rattle.std.proofs.lemmas.Bool.{cases_eq}
 use Rattle.ht_base.specs.declared.event.Command.{Command}
 use Rattle.ht_base.specs.declared.event.Command.TheVariants as command
@@ -22,20 +22,26 @@ use Rattle.ht_base.specs.Ordered.{AscendBy}
 use Rattle.ht_machine.specs.declared.sending.Sending.{Sending}
 use Rattle.ht_machine.specs.declared.sending.Sending.TheVariants as sending
 use Rattle.ht_machine.specs.declared.sending.Sending.TheVariants.{New, Answered}
-use Rattle.ht_machine.specs.Commands.{ActsOn, AfterEffect, BehindGate, Comes, Creates, CreatesAt, CreatesNamed, CreatesOf, CreatesUnless, Outcome, accepted, refused, why_not_created}
-use Rattle.ht_machine.specs.Deciding.{Asks, AsksAs, Decides, IsIdle, Leads, Settles, effective}
+use Rattle.ht_machine.specs.Commands.{ActivatesUnless, ActsOn, AfterEffect, BehindGate, Comes, CreatesAt, CreatesNamed, CreatesUnless, DoesOn, GathersFirst, HasEffect, MakesEntry, Outcome, accepted, new_task, refused, waits_until, why_not_created}
+use Rattle.ht_machine.specs.Deciding.{AsksAs, IsIdle, Leads, Settles, effective}
 use Rattle.ht_machine.specs.Gate.{Gate, gate, opens, shuts}
-use Rattle.ht_machine.specs.History.{History, IsHistory, IsStep, memory_reply}
+use Rattle.ht_machine.specs.History.{History, IsHistory, IsStep}
 use Rattle.ht_machine.specs.Once.{ActsOnce, IsAccepted, IsLast, IsOf, IsRepeat, IsSame, IsSince, Remembers}
 use Rattle.ht_machine.specs.Sending.{ByCaller, ByLast, ByNumber, BySlot, IsSent, answer_of, slot_of, with_reply}
-use Rattle.ht_models.specs.Model.{ModelOf}
-use Rattle.ht_owner.specs.declared.follow.Follow.TheVariants.{Activate, Began, Close, Freed, Held, Nothing}
+use Rattle.ht_compose.proofs.PublicLaws.{ends_rows, gathers_rows}
+use Rattle.ht_compose.specs.Agenda.{Ends}
+use Rattle.ht_compose.specs.Downward.{freeing}
+use Rattle.ht_compose.specs.Freeing.{checks_of}
+use Rattle.ht_compose.specs.Items as items
+use Rattle.ht_compose.specs.Items.Item.{Activate, Begin, Close, Make}
+use Rattle.ht_owner.specs.declared.follow.Follow.TheVariants as follow
+use Rattle.ht_owner.specs.declared.follow.Follow.TheVariants.{Began, Freed, Held, Nothing}
 use Rattle.ht_owner.specs.Effects.{Effect, does, effect, refuses}
 use Rattle.ht_people.specs.Directory.{find}
 use Rattle.ht_tree.specs.declared.slot.Kept.{Kept}
 use Rattle.ht_tree.specs.declared.slot.Slot.{Slot}
 use Rattle.ht_tree.specs.Slots.{slot_cmp, slot_in, slots_with}
-use Rattle.ht_tree.specs.Tables.{TablesOf, at_moment, device_slot, directory, model_named}
+use Rattle.ht_tree.specs.Tables.{TablesOf, at_moment, device_slot, directory, model_named, with_row, with_rows}
 use Rattle.ht_tree.proofs.PublicLaws.{new_slot_found, other_slot_found, slot_is, slots_with_ascend}
 
 -- ---- one event
@@ -86,36 +92,59 @@ acts_once t (Read caller what) left answer after leads = record {
 
 -- ---- what a command leaves of the slots
 
-create_keeps : (u : TablesOf) (caller moment place : ℕ) (input : Parts) (v : TablesOf) (about : ℕ) → CreatesAt u caller moment place input (accepted v about) → v.slots ≡ u.slots
-create_keeps u caller moment place input v about made = at (why_not_created (directory u) made.0 input) made.2
+ends_keep : (at : Moment) (u v : TablesOf) (is : List items.Item) → Ends (items.Does at) u is v → v.slots ≡ u.slots
+ends_keep at u v is ends = ap (λ (x : TablesOf). x.slots) (ends_rows at u v is ends)
+
+new_keeps : (at : Moment) (waits : Option Moment) (task : ℕ) (u v : TablesOf) → ActivatesUnless at waits task u v → v.slots ≡ u.slots
+new_keeps at None task u v is = ends_keep at u v (Activate task ∷ []) is
+new_keeps at (Some m) task u v is = ap (λ (x : TablesOf). x.slots) is
+
+create_keeps : (u : TablesOf) (caller moment place : ℕ) (input : Parts) (waits : Option Moment) (v : TablesOf) (about : ℕ) → CreatesAt u caller moment place input waits (accepted v about) → v.slots ≡ u.slots
+create_keeps u caller moment place input waits v about made = at (why_not_created (directory u) made.0 input) made.2
   where
-    at : (why : Option Refusal) → CreatesUnless u caller moment place input made.0 why (accepted v about) → v.slots ≡ u.slots
-    at None is = ap (λ (x : TablesOf). x.slots) is.2.4
+    at : (why : Option Refusal) → CreatesUnless u caller moment place input waits made.0 why (accepted v about) → v.slots ≡ u.slots
+    at None is = new_keeps (record { 0 = moment }) waits about (with_row u (new_task u caller moment place input waits made.0)) v is.2
     at (Some why) is = absurd cc
+
+effect_keeps : (u : TablesOf) (moment task : ℕ) (e : Effect) (v : TablesOf) (about : ℕ) → AfterEffect u moment task e (accepted v about) → v.slots ≡ u.slots
+effect_keeps u moment task (does row Began) v about a = ends_keep (record { 0 = moment }) (with_row u row) v (Begin task ∷ []) a.0
+effect_keeps u moment task (does row follow.Activate) v about a = ends_keep (record { 0 = moment }) (with_row u row) v (Activate task ∷ []) a.0
+effect_keeps u moment task (does row Nothing) v about a = ap (λ (x : TablesOf). x.slots) a.0
+effect_keeps u moment task (does row Held) v about a = ap (λ (x : TablesOf). x.slots) a.0
+effect_keeps u moment task (does row Freed) v about a = ends_keep (record { 0 = moment }) (with_rows (with_row u row) (freeing task (with_row u row).rows)) v (checks_of task (with_row u row).rows) a.0
+effect_keeps u moment task (does row (follow.Close end)) v about a = ends_keep (record { 0 = moment }) (with_row u row) v (Close task end ∷ []) a.0
+effect_keeps u moment task (refuses why) v about a = absurd cc
+
+gathered_keeps : (c : Command) (task : ℕ) (u v : TablesOf) → GathersFirst c task u v → v.slots ≡ u.slots
+gathered_keeps (command.Complete output) task u v is = ap (λ (x : TablesOf). x.slots) (gathers_rows u task v is)
+gathered_keeps c task u v is = ap (λ (x : TablesOf). x.slots) is
+
+made_keeps : (u : TablesOf) (moment task : ℕ) (name : List ℕ) (found : Option ℕ) (v : TablesOf) (about : ℕ) → MakesEntry u moment task name found (accepted v about) → v.slots ≡ u.slots
+made_keeps u moment task name None v about a = absurd cc
+made_keeps u moment task name (Some entry) v about a = ends_keep (record { 0 = moment }) u v (Make task entry ∷ []) a.0
+
+first_keeps : (u w : TablesOf) (caller moment task : ℕ) (c : Command) (v : TablesOf) (about : ℕ) → GathersFirst c task u w → HasEffect w caller moment task c (accepted v about) → v.slots ≡ u.slots
+first_keeps u w caller moment task c v about first (row, m, there, of, a) =
+    effect_keeps w moment task (effect (directory w) w.rows m caller (record { 0 = moment }) c row) v about a ∙ gathered_keeps c task u w first
+
+on_keeps : (u : TablesOf) (caller moment task : ℕ) (c : Command) (v : TablesOf) (about : ℕ) → DoesOn u caller moment task c (accepted v about) → v.slots ≡ u.slots
+on_keeps u caller moment task (command.InstantiateSubTask sub) v about a = made_keeps u moment task sub a.0 v about a.2
+on_keeps u caller moment task c v about a = first_keeps u a.0 caller moment task c v about a.1 a.2
 
 acts_keeps : (u : TablesOf) (caller moment task : ℕ) (c : Command) (v : TablesOf) (about : ℕ) → ActsOn u caller moment task c (accepted v about) → v.slots ≡ u.slots
 acts_keeps u caller moment task c v about = at (gate u (op_of c) caller task)
   where
-    by : (e : Effect) → AfterEffect u task e (accepted v about) → v.slots ≡ u.slots
-    by (does row Began) a = ap (λ (x : TablesOf). x.slots) a.0.2
-    by (does row Activate) a = ap (λ (x : TablesOf). x.slots) a.0.4
-    by (does row Nothing) a = ap (λ (x : TablesOf). x.slots) a.0
-    by (does row Held) a = ap (λ (x : TablesOf). x.slots) a.0
-    by (does row Freed) a = ap (λ (x : TablesOf). x.slots) a.0
-    by (does row (Close end)) a = ap (λ (x : TablesOf). x.slots) a.0
-    by (refuses why) a = absurd cc
-
     at : (g : Gate) → BehindGate u caller moment task c g (accepted v about) → v.slots ≡ u.slots
-    at (opens row) a = by (effect (directory u) u.rows a.0 caller (record { 0 = moment }) c row) a.2
+    at (opens row) a = on_keeps u caller moment task c v about a
     at (shuts why) a = absurd cc
 
 comes_keeps : (u : TablesOf) (caller moment task : ℕ) (c : Command) (v : TablesOf) (about : ℕ) → Comes u caller moment task c (accepted v about) → v.slots ≡ u.slots
-comes_keeps u caller moment task (command.Create None input) v about comes = create_keeps u caller moment 0 input v about comes
-comes_keeps u caller moment task (command.Create (Some name) input) v about comes = at (model_named u name) comes
+comes_keeps u caller moment task (command.Create None input activate_at) v about comes = create_keeps u caller moment 0 input (waits_until moment activate_at) v about comes
+comes_keeps u caller moment task (command.Create (Some name) input activate_at) v about comes = at (model_named u name) comes
   where
-    at : (k : Option ℕ) → CreatesNamed u caller moment name input k (accepted v about) → v.slots ≡ u.slots
+    at : (k : Option ℕ) → CreatesNamed u caller moment name input (waits_until moment activate_at) k (accepted v about) → v.slots ≡ u.slots
     at None is = absurd cc
-    at (Some place) is = create_keeps u caller moment place input v about is
+    at (Some place) is = create_keeps u caller moment place input (waits_until moment activate_at) v about is
 comes_keeps u caller moment task c v about comes = acts_keeps u caller moment task c v about comes
 
 -- ---- from one state to the next

@@ -20,9 +20,9 @@ use Rattle.ht_base.specs.declared.scalar.Scalar.TheVariants as scalar
 use Rattle.ht_base.specs.declared.task_id.TaskId.{TaskId}
 use Rattle.ht_base.specs.declared.state.State.TheVariants.{Created, Ready, Reserved, InProgress, SuspendedReady, SuspendedReserved, SuspendedInProgress, Exited, Obsolete}
 use Rattle.ht_expr.specs.Assignments.{user}
+use Rattle.ht_compose.specs.Agenda.Ends.{end, on}
 use Rattle.ht_compose.specs.Downward.{closed}
-use Rattle.ht_machine.specs.Activating.{activated, activated_once}
-use Rattle.ht_machine.specs.Commands.{accepted, refused, why_not_created}
+use Rattle.ht_machine.specs.Commands.{accepted, refused, waits_until, why_not_created}
 use Rattle.ht_machine.specs.declared.sending.Sending.TheVariants as sending
 use Rattle.ht_machine.specs.declared.sending.Sending.TheVariants.{New, Answered}
 use Rattle.ht_machine.specs.Deciding.{Decides, reply_of}
@@ -88,63 +88,65 @@ no_such_part = refl
 no_output_is_asked : why_not_created office (record unit { output = input (codes "a") false ∷ [] }) [] ≡ None
 no_output_is_asked = refl
 
-a_composite_task : why_not_created office (record unit { input = input (codes "a") false ∷ []; subs = sub_entry (codes "x") (codes "solo") [] ∷ [] }) [] ≡ Some (Unknown (Model (codes "unit")))
+-- tasks with sub tasks, with a finish and without an owner are created
+a_composite_task : why_not_created office (record unit { subs = sub_entry (codes "x") (codes "solo") [] ∷ []; finishes = record { when = None; settings = [] } ∷ []; owner_required = false }) [] ≡ None
 a_composite_task = refl
-
-a_task_with_a_finish : why_not_created office (record unit { finishes = record { when = None; settings = [] } ∷ [] }) [] ≡ Some (Unknown (Model (codes "unit")))
-a_task_with_a_finish = refl
-
-a_task_without_an_owner : why_not_created office (record unit { owner_required = false }) [] ≡ Some (Unknown (Model (codes "unit")))
-a_task_without_an_owner = refl
 
 a_task_with_a_deadline : why_not_created office (record unit { deadlines = record { name = codes "one"; kind = Start; period = Some 1000; at = None; part = None; escalations = [] } ∷ [] }) [] ≡ Some (Unknown (Model (codes "unit")))
 a_task_with_a_deadline = refl
 
--- ---- activation
-
-several_owners : activated true (task_of unit 0) ≡ record (task_of unit 0) { state = Ready }
-several_owners = refl
-
-one_owner : activated true (task_of solo 1) ≡ record (task_of solo 1) { state = Reserved; owner = Some 0 }
-one_owner = refl
-
--- its only potential owner is excluded
-no_owner : activated true (task_of shut 2) ≡ task_of shut 2
-no_owner = refl
-
--- a task that never has an owner
-nobodys : activated false (task_of unit 0) ≡ record (task_of unit 0) { state = InProgress; started = true }
-nobodys = refl
-
--- nothing comes of a second activation
-activated_before : activated_once true (record (task_of unit 0) { state = Ready }) ≡ record (task_of unit 0) { state = Ready }
-activated_before = refl
-
 -- ---- a create
 
+abbrev ready : Row
+ready = record (task_of unit 0) { state = Ready }
+
 abbrev one_task : TablesOf
-one_task = record nothing_yet { rows = record (task_of unit 0) { state = Ready } ∷ []; last = 1000 }
+one_task = record nothing_yet { rows = ready ∷ []; last = 1000 }
 
 -- dan creates a task of the first model
-a_create : Decides nothing_yet (asks (codes "dan") 1000 0 (Create None [])) (kept (codes "dan") 1000 0 (Create None [])) (reply_of (Done (record { 0 = 1 }) Ready None)) one_task
+a_create : Decides nothing_yet (asks (codes "dan") 1000 0 (Create None [] None)) (kept (codes "dan") 1000 0 (Create None [] None)) (reply_of (Done (record { 0 = 1 }) Ready None)) one_task
 a_create = (
   refl,
   record {
     sending = New 3;
     sent = refl;
     asks = (
-      accepted (record nothing_yet { rows = record (task_of unit 0) { state = Ready } ∷ [] }) 1,
-      (unit, refl, ((λ full. absurd (omega arith)), refl, (task_of unit 0, unit, refl, refl, refl))),
-      (reply.Done (record { 0 = 1 }) Ready None, (record (task_of unit 0) { state = Ready }, refl, refl), refl, refl, refl),
+      accepted (record nothing_yet { rows = ready ∷ [] }) 1,
+      (unit, refl, ((λ full. absurd (omega arith)), refl, on refl end)),
+      (reply.Done (record { 0 = 1 }) Ready None, (ready, refl, refl), refl, refl, refl),
     );
   },
 )
 
-no_such_model : Decides one_task (asks (codes "dan") 2000 0 (Create (Some (codes "sole")) [])) None (reply_of (Refused (Unknown (Model (codes "sole"))))) one_task
+-- a task that waits isn't activated yet, and a moment that has come is none to wait for
+abbrev waiting : Row
+waiting = new_row nothing_yet unit 0 None 3 [] (Some (record { 0 = 5000 })) (record { 0 = 1000 })
+
+abbrev later : Command
+later = Create None [] (Some (record { 0 = 5000 }))
+
+a_task_that_waits : Decides nothing_yet (asks (codes "dan") 1000 0 later) (kept (codes "dan") 1000 0 later) (reply_of (Done (record { 0 = 1 }) Created None)) (record nothing_yet { rows = waiting ∷ []; last = 1000 })
+a_task_that_waits = (
+  refl,
+  record {
+    sending = New 3;
+    sent = refl;
+    asks = (
+      accepted (record nothing_yet { rows = waiting ∷ [] }) 1,
+      (unit, refl, ((λ full. absurd (omega arith)), refl, refl)),
+      (reply.Done (record { 0 = 1 }) Created None, (waiting, refl, refl), refl, refl, refl),
+    );
+  },
+)
+
+at_its_moment : waits_until 5000 (Some (record { 0 = 5000 })) ≡ None
+at_its_moment = refl
+
+no_such_model : Decides one_task (asks (codes "dan") 2000 0 (Create (Some (codes "sole")) [] None)) None (reply_of (Refused (Unknown (Model (codes "sole"))))) one_task
 no_such_model = (refl, record { sending = New 3; sent = refl; asks = (refused (Unknown (Model (codes "sole"))), refl, ((refl, refl), refl)) })
 
 -- a stranger changes nothing, not even the last moment
-a_stranger : Decides one_task (asks (codes "eve") 5000 0 (Create None [])) None (reply_of (Refused Person)) one_task
+a_stranger : Decides one_task (asks (codes "eve") 5000 0 (Create None [] None)) None (reply_of (Refused Person)) one_task
 a_stranger = (refl, record { sending = sending.Refused Person; sent = refl; asks = ((refl, refl), refl) })
 
 -- ---- a claim
@@ -160,11 +162,11 @@ abbrev annas : Kept
 annas = reply.Done (record { 0 = 1 }) Reserved (Some (codes "anna"))
 
 a_claim : Decides one_task (asks (codes "anna") 2000 1 Claim) (kept (codes "anna") 2000 1 Claim) (reply_of (Done (record { 0 = 1 }) Reserved (Some (codes "anna")))) (claimed_at 2000)
-a_claim = (refl, record { sending = New 0; sent = refl; asks = (accepted (claimed_at 1000) 1, (unit, refl, (refl, refl)), (annas, (claimed, refl, refl), refl, refl, refl)) })
+a_claim = (refl, record { sending = New 0; sent = refl; asks = (accepted (claimed_at 1000) 1, (one_task, refl, (ready, unit, refl, refl, (refl, refl))), (annas, (claimed, refl, refl), refl, refl, refl)) })
 
 -- an event acts never before the last accepted command, and is kept as of then
 an_earlier_moment : Decides one_task (asks (codes "anna") 10 1 Claim) (kept (codes "anna") 1000 1 Claim) (reply_of (Done (record { 0 = 1 }) Reserved (Some (codes "anna")))) (claimed_at 1000)
-an_earlier_moment = (refl, record { sending = New 0; sent = refl; asks = (accepted (claimed_at 1000) 1, (unit, refl, (refl, refl)), (annas, (claimed, refl, refl), refl, refl, refl)) })
+an_earlier_moment = (refl, record { sending = New 0; sent = refl; asks = (accepted (claimed_at 1000) 1, (one_task, refl, (ready, unit, refl, refl, (refl, refl))), (annas, (claimed, refl, refl), refl, refl, refl)) })
 
 a_second_claim : gate (claimed_at 2000) op.Claim 1 1 ≡ shuts (State (states_of (Ready ∷ [])) Reserved)
 a_second_claim = refl
@@ -200,7 +202,7 @@ abbrev claims : ℕ → ℕ → ℕ → Event
 claims device number task = Ask (record { 0 = 2000 }) (codes "anna") (of_device device number) (record { 0 = task }) Claim
 
 a_numbered_claim : Decides one_task (claims 1 5 1) (Some (Asked (record { 0 = 2000 }) (codes "anna") (of_device 1 5) (record { 0 = 1 }) Claim)) (reply_of (Done (record { 0 = 1 }) Reserved (Some (codes "anna")))) claimed_once
-a_numbered_claim = (refl, record { sending = New 0; sent = refl; asks = (accepted (claimed_at 1000) 1, (unit, refl, (refl, refl)), (annas, (claimed, refl, refl), refl, refl, refl)) })
+a_numbered_claim = (refl, record { sending = New 0; sent = refl; asks = (accepted (claimed_at 1000) 1, (one_task, refl, (ready, unit, refl, refl, (refl, refl))), (annas, (claimed, refl, refl), refl, refl, refl)) })
 
 -- It is answered as before, though the task is reserved now, and leaves nothing.
 sent_again : Decides claimed_once (claims 1 5 1) None (reply_of (Done (record { 0 = 1 }) Reserved (Some (codes "anna")))) claimed_once
@@ -230,7 +232,7 @@ abbrev commented_at : ℕ → TablesOf
 commented_at moment = record nothing_yet { rows = commented ∷ []; last = moment }
 
 a_comment : Decides (claimed_at 2000) (asks (codes "dan") 10 1 (AddComment (codes "why"))) (kept (codes "dan") 2000 1 (AddComment (codes "why"))) (reply_of (Done (record { 0 = 1 }) Reserved (Some (codes "anna")))) (commented_at 2000)
-a_comment = (refl, record { sending = New 3; sent = refl; asks = (accepted (commented_at 2000) 1, (unit, refl, (refl, refl)), (annas, (commented, refl, refl), refl, refl, refl)) })
+a_comment = (refl, record { sending = New 3; sent = refl; asks = (accepted (commented_at 2000) 1, (claimed_at 2000, refl, (claimed, unit, refl, refl, (refl, refl))), (annas, (commented, refl, refl), refl, refl, refl)) })
 
 its_comments : (sheet_of (commented_at 2000) commented).comments ≡ record { moment = record { 0 = 2000 }; person = codes "dan"; text = codes "why" } ∷ []
 its_comments = refl
@@ -245,7 +247,7 @@ abbrev exited_at : ℕ → TablesOf
 exited_at moment = record nothing_yet { rows = exited ∷ []; last = moment }
 
 an_exit : Decides (claimed_at 2000) (asks (codes "root") 3000 1 Exit) (kept (codes "root") 3000 1 Exit) (reply_of (Done (record { 0 = 1 }) Exited None)) (exited_at 3000)
-an_exit = (refl, record { sending = New 4; sent = refl; asks = (accepted (exited_at 2000) 1, (unit, refl, (refl, refl)), (reply.Done (record { 0 = 1 }) Exited None, (exited, refl, refl), refl, refl, refl)) })
+an_exit = (refl, record { sending = New 4; sent = refl; asks = (accepted (exited_at 2000) 1, (claimed_at 2000, refl, (claimed, unit, refl, refl, (on refl end, refl))), (reply.Done (record { 0 = 1 }) Exited None, (exited, refl, refl), refl, refl, refl)) })
 
 -- all states that are not final are told
 a_second_exit : gate (exited_at 3000) op.Exit 4 1 ≡ shuts (State (states_of (Created ∷ Ready ∷ Reserved ∷ InProgress ∷ SuspendedReady ∷ SuspendedReserved ∷ SuspendedInProgress ∷ [])) Exited)

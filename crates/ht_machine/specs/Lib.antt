@@ -1,4 +1,3 @@
-pub mod Activating
 pub mod Commands
 pub mod Deciding
 pub mod Examples

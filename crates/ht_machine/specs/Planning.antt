@@ -2,8 +2,9 @@
 use Rattle.std.specs.Prelude.{◌≡◌, ◌≤◌, ℕ, List, Option, Some, None, IfSome, Result, Ok, Err}
 use Rattle.ht_base.specs.declared.event.Command.{Command}
 use Rattle.ht_base.specs.declared.event.Event.{Event}
+use Rattle.ht_base.specs.declared.moment.Moment.{Moment}
 use Rattle.ht_base.specs.declared.record.Record.{Record}
-use Rattle.ht_base.specs.declared.record.Record.TheVariants.{Asked}
+use Rattle.ht_base.specs.declared.record.Record.TheVariants.{Asked, Opening, Turn}
 use Rattle.ht_base.specs.declared.reply.Answer.{Answer}
 use Rattle.ht_base.specs.declared.reply.Limit.TheVariants.{Tasks}
 use Rattle.ht_base.specs.declared.reply.Refusal.TheVariants as refusal
@@ -22,7 +23,7 @@ use Rattle.ht_tree.specs.Soundness.{IsSound, KeepsSound}
 use Rattle.ht_tree.specs.Tables.{RoomyTables, TablesOf, model_named, task_row}
 use Rattle.ht_machine.specs.declared.asking.Asked.{Asked as Ask}
 use Rattle.ht_machine.specs.declared.deciding.Decision.{Decision}
-use Rattle.ht_machine.specs.Commands.{Outcome, accepted, refused}
+use Rattle.ht_machine.specs.Commands.{ActivatesUnless, Outcome, accepted, refused}
 use Rattle.ht_machine.specs.declared.sending.Sending.TheVariants.{New}
 use Rattle.ht_machine.specs.Deciding.{Asks, AsksAs, Decides, Leads}
 
@@ -37,10 +38,10 @@ pub record Does (t : TablesOf) (old new : PlanOf) (May : Outcome → Type 0) (ta
   pub row : Row
   pub there : task_row after task.0 ≡ Some row
 
--- or it is refused, without a change of the plan
+-- or it is refused, and the plan can go back to its mark
 abbrev pub Tries : TablesOf → PlanOf → PlanOf → (Outcome → Type 0) → Result TaskId ActRefusal → Type 0
 Tries t old new May (Ok task) = Does t old new May task
-Tries t old new May (Err (why.Refused other)) = May (refused other) × (new ≡ old)
+Tries t old new May (Err (why.Refused other)) = May (refused other) × (new.marked ≡ old.marked)
 Tries t old new May (Err why.Memory) = Unit {0}
 
 -- the place of the model that a create names, or of the first
@@ -56,6 +57,15 @@ abbrev pub refusal_of : CreateRefusal → ActRefusal
 refusal_of create.Memory = why.Memory
 refusal_of create.TaskLimit = why.Refused (refusal.Limit Tasks)
 
+-- a new task is activated, unless it waits
+pub record IsActivated (t : TablesOf) (old new : PlanOf) (at : Moment) (waits : Option Moment) (task : ℕ) : Type 0 where
+  pub after : TablesOf
+  pub activates : ActivatesUnless at waits task (planned t old) after
+  pub goes : Goes t old new (planned t old) after
+  pub sound : IsSound after
+  pub row : Row
+  pub there : task_row after task ≡ Some row
+
 -- ---- decisions
 
 -- a command as it is asked is valid
@@ -69,14 +79,12 @@ pub record IsAsked (a : Ask) : Type 0 where
 abbrev pub record_of : Ask → Record
 record_of a = Asked a.at a.caller a.retry a.task a.command.now
 
--- the moment of a record
-abbrev pub moment_of : Record → ℕ
-moment_of (Asked at caller retry task command) = at.0
-
--- the last moment rises exactly where a record is kept
+-- the last moment is that of the record that is kept
 abbrev pub last_after : TablesOf → Option Record → ℕ
 last_after t None = t.last
-last_after t (Some kept) = moment_of kept
+last_after t (Some (Opening models people)) = t.last
+last_after t (Some (Turn at)) = at.0
+last_after t (Some (Asked at caller retry task command)) = at.0
 
 -- the plan makes the tables after what leaves this record; they are sound, and no earlier
 pub record Leaves (t : TablesOf) (p : PlanOf) (left : Option Record) (after : TablesOf) : Type 0 where

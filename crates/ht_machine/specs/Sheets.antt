@@ -1,8 +1,9 @@
 -- The sheet of a task: its row, with persons and the model by name and parts as they are given (WS-HumanTask 1.1, 7.1.1
 -- "getTaskDetails").
-use Rattle.std.specs.Prelude.{ℕ, List, [], option_map, unwrap_or}
+use Rattle.std.specs.Prelude.{ℕ, List, [], map, option_map, unwrap_or}
 use Rattle.ht_base.specs.declared.sheet.Sheet.{Sheet}
 use Rattle.ht_tree.specs.declared.row.Row.{Row}
+use Rattle.ht_tree.specs.Families.{sub_tasks}
 use Rattle.ht_tree.specs.Tables.{TablesOf, administrators_of, directory, excluded_owners_of, model_of, potential_owners_of, stakeholders_of}
 use Rattle.ht_machine.specs.Naming.{comments_of, name_of, name_or_none, names_of, parts_of}
 
@@ -29,6 +30,7 @@ sheet_of t row = record {
   stakeholders = names_of (directory t) (stakeholders_of t row);
   started = row.started;
   state = row.state;
+  subs = map (λ r. r.task) (sub_tasks row.task.0 t.rows);
   task = row.task;
   until = row.until;
   waits = row.waits;

@@ -52,6 +52,8 @@ fn fault_of(refusal: &Refusal) -> &'static str {
         Refusal::NoOwners => "NoOwners",
         Refusal::NoOutput(_) => "NoOutput",
         Refusal::NotSkipable => "NotSkipable",
+        Refusal::UntilPast => "UntilPast",
+        Refusal::SubRefused(_) => "SubRefused",
         Refusal::Limit(Limit::Tasks) => "Limit tasks",
         Refusal::Limit(Limit::Comments) => "Limit comments",
         Refusal::Memory => "Memory",
@@ -66,6 +68,7 @@ fn name_in(refusal: &Refusal) -> Option<Name> {
         Refusal::Excluded(name) => Some(*name),
         Refusal::NotDelegatee(name) => Some(*name),
         Refusal::NoOutput(name) => Some(*name),
+        Refusal::SubRefused(name) => Some(*name),
         _ => None,
     }
 }
@@ -84,7 +87,7 @@ pub(crate) fn shown(alloc: Global, tables: &mut Tables, key: &str) -> Result<Str
     shown_of(alloc, &sheet, key)
 }
 
-fn shown_of(alloc: Global, sheet: &Sheet, key: &str) -> Result<String, Fail> {
+pub(crate) fn shown_of(alloc: Global, sheet: &Sheet, key: &str) -> Result<String, Fail> {
     match key {
         "potentialOwners" => text_of(alloc, &sheet.potential_owners),
         "excludedOwners" => text_of(alloc, &sheet.excluded_owners),
@@ -96,6 +99,9 @@ fn shown_of(alloc: Global, sheet: &Sheet, key: &str) -> Result<String, Fail> {
         "lastOwner" => word_of(alloc, &sheet.last_owner),
         "fault" => word_of(alloc, &sheet.fault),
         "output" => shown_parts(alloc, &sheet.output),
+        "state" => Ok(format!(in alloc; " {}", sheet.state.name())?),
+        "parent" => parent_of(alloc, sheet),
+        "subs" => subs_of(alloc, sheet),
         "comments" => shown_comments(alloc, &sheet.comments),
         _ => Err(Fail::from("no such key")),
     }
@@ -106,6 +112,21 @@ fn word_of(alloc: Global, name: &Option<Name>) -> Result<String, Fail> {
         Some(name) => Ok(format!(in alloc; " {}", name.as_str())?),
         None => Ok(String::new(alloc)),
     }
+}
+
+fn parent_of(alloc: Global, sheet: &Sheet) -> Result<String, Fail> {
+    match sheet.parent {
+        Some(parent) => Ok(format!(in alloc; " {}", parent.0)?),
+        None => Ok(String::new(alloc)),
+    }
+}
+
+fn subs_of(alloc: Global, sheet: &Sheet) -> Result<String, Fail> {
+    let mut text = String::new(alloc);
+    for sub in sheet.subs.as_slice() {
+        write!(text, " {}", sub.0)?;
+    }
+    Ok(text)
 }
 
 fn shown_comments(alloc: Global, comments: &ShownComments) -> Result<String, Fail> {

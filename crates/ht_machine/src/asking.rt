@@ -81,7 +81,10 @@ fn ask_anew(
             );
             Ok((Some(left), answer_of(&kept)))
         }
-        Err(ActRefusal::Refused(refusal)) => Ok((None, Answer::Refused(refusal))),
+        Err(ActRefusal::Refused(refusal)) => {
+            plan.back();
+            Ok((None, Answer::Refused(refusal)))
+        }
         Err(ActRefusal::Memory) => Err(Memory),
     }
 }

@@ -1,23 +1,25 @@
-ghost use Rattle.std.specs.Prelude.{◌≡◌, ◌<◌, ◌≤◌, IfOk, length};
+ghost use Rattle.std.specs.Prelude.{◌≡◌, ◌<◌, ◌≤◌, IfOk, IfSome, OnOk, length};
 ghost use Rattle.ht_base.specs.Events.{AreGiven};
 ghost use Rattle.ht_base.specs.Moment.{last_moment};
+ghost use Rattle.ht_compose.specs.Reaching.{IsTask};
 ghost use Rattle.ht_machine.specs.Commands as commands;
 ghost use Rattle.ht_machine.specs.Commands.{Creates};
 ghost use Rattle.ht_machine.specs.Planning as spec;
-ghost use Rattle.ht_machine.specs.Planning.{Finds, Tries};
+ghost use Rattle.ht_machine.specs.Planning.{Finds, IsActivated, Tries};
 ghost use Rattle.ht_models.specs.Shown.{model_of};
 ghost use Rattle.ht_tree.specs.Plans.{IsPlanOf, planned};
 ghost use Rattle.ht_tree.specs.Soundness.{IsSound};
 
-use crate::activating::activate;
-use ht_base::{Limit, Moment, Name, Parts, Person, Refusal, TaskId, Unknown};
+use ht_base::{Limit, Memory, Moment, Name, Parts, Person, Refusal, TaskId, Unknown};
+use ht_compose::activate;
 use ht_models::Model;
 use ht_owner::ActRefusal;
 use ht_people::Directory;
 use ht_tree::{CreateRefusal, Plan, Tables, refused_part, values_given};
 use std::alloc::Global;
 
-/// Plans a new task of the model with this name, or else of the first, and its activation.
+/// Plans a new task of the model with this name, or else of the first, and its activation, unless it
+/// waits until a later moment.
 pub(crate) fn create(
     alloc: Global,
     tables: &Tables,
@@ -26,13 +28,15 @@ pub(crate) fn create(
     at: Moment,
     model: Option<Name>,
     input: &Parts,
+    waits: Option<Moment>,
 ) -> Result<TaskId, ActRefusal>
     requires plan { IsPlanOf tables.now.tables plan.old }
     requires sound { IsSound (planned tables.now.tables plan.old) }
     requires caller { caller < length tables.now.tables.people.persons }
     requires at { at.0 ≤ last_moment }
     requires input { AreGiven input.now }
-    ensures { Tries tables.now.tables plan.old plan.new (Creates (planned tables.now.tables plan.old) caller at.0 model input.now) result }
+    requires waits { IfSome waits (λ m. m.0 ≤ last_moment) }
+    ensures { Tries tables.now.tables plan.old plan.new (Creates (planned tables.now.tables plan.old) caller at.0 model input.now waits) result }
 {
     let place = place_of(tables, model)?;
     let model = tables.models().model(place);
@@ -40,13 +44,34 @@ pub(crate) fn create(
         return Err(ActRefusal::Refused(refusal));
     }
     let values = values_given(alloc, tables.people(), &model.input, input)?;
-    let created = ht_tree::create(alloc, tables, plan, place, None, caller, values, None, at);
+    let created = ht_tree::create(alloc, tables, plan, place, None, caller, values, waits, at);
     match created {
         Ok(task) => {
-            activate(alloc, tables, plan, task)?;
+            activate_unless(alloc, tables, plan, at, waits, task)?;
             Ok(task)
         }
         Err(refusal) => Err(refusal_of(refusal)),
+    }
+}
+
+// Plans the activation of a new task, unless it waits.
+fn activate_unless(
+    alloc: Global,
+    tables: &Tables,
+    plan: &mut Plan,
+    at: Moment,
+    waits: Option<Moment>,
+    task: TaskId,
+) -> Result<(), Memory>
+    requires plan { IsPlanOf tables.now.tables plan.old }
+    requires sound { IsSound (planned tables.now.tables plan.old) }
+    requires there { IsTask (planned tables.now.tables plan.old) task.0 }
+    requires at { at.0 ≤ last_moment }
+    ensures { OnOk result (IsActivated tables.now.tables plan.old plan.new at waits task.0) }
+{
+    match waits {
+        None => activate(alloc, tables, plan, task, at),
+        Some(_) => Ok(()),
     }
 }
 
@@ -83,10 +108,7 @@ fn why_not_created(people: &Directory, model: &Model, input: &Parts) -> Option<R
 fn is_coming(model: &Model) -> bool
     ensures { result ≡ commands.is_coming (model_of model.now) }
 {
-    !model.subs.is_empty()
-        || !model.finishes.is_empty()
-        || !model.owner_required
-        || !model.deadlines.is_empty()
+    !model.deadlines.is_empty()
 }
 
 fn refusal_of(refusal: CreateRefusal) -> ActRefusal

@@ -141,10 +141,10 @@ unit => Ready
 solo => Reserved
 shut => Created
 pair => Ready
-both => Unknown
-seq => Unknown
+both => Reserved
+seq => Reserved
 ballot => Ready
-vote => Unknown
+vote => Reserved
 timed => Unknown
 late => Unknown";
 
@@ -154,11 +154,12 @@ fn samples_are_created_or_refused(rt: HostRuntime) -> Result<(), Fail> {
     for line in SAMPLES.lines() {
         assert!(rt; has_outcome(rt.alloc(), &mut tables, line)?, "{line}");
     }
-    assert_eq!(rt; tables.rows(), 5);
+    assert_eq!(rt; tables.rows(), 8);
     Ok(())
 }
 
-// Models each with something that a task can't have yet, or with parts.
+// Models with parts, with sub entries, with a finish, without an owner, and with a deadline, which a
+// task can't have yet.
 const PARTS: &str = "\
 [[model]]
 name = \"spare\"
@@ -191,19 +192,19 @@ deadline = [{name = \"one\", kind = \"start\", for = \"PT1S\"}]
 const REFUSALS: &str = "\
 spare => Created
 asks => b
-whole => Unknown
-ends => Unknown
-free => Unknown
+whole => Created
+ends => Created
+free => InProgress
 due => Unknown
 asks-due => Unknown";
 
 #[test]
-fn what_is_not_there_yet_is_refused(rt: HostRuntime) -> Result<(), Fail> {
+fn models_with_deadlines_are_refused(rt: HostRuntime) -> Result<(), Fail> {
     let mut tables = tables_of(rt.alloc(), PARTS)?;
     for line in REFUSALS.lines() {
         assert!(rt; has_outcome(rt.alloc(), &mut tables, line)?, "{line}");
     }
-    assert_eq!(rt; tables.rows(), 1);
+    assert_eq!(rt; tables.rows(), 4);
     Ok(())
 }
 
@@ -237,7 +238,14 @@ fn create_with(alloc: Global, name: &str, kind: &str, value: &str) -> Result<Eve
 {
     let input = parts_with(alloc, name, kind, value)?;
     let caller = Name::of(b"dan").ok_or("a name")?;
-    Ok(asked(caller, Command::Create { model: None, input }))
+    Ok(asked(
+        caller,
+        Command::Create {
+            model: None,
+            input,
+            activate_at: None,
+        },
+    ))
 }
 
 // The name of a part, the kind of what is given for it, and its value.

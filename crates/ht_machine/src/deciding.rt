@@ -52,8 +52,8 @@ fn last_after(tables: &Tables, left: &Option<Record>) -> Moment
     ensures { result.0 ≡ spec.last_after tables.now.tables left.now }
 {
     match left {
-        Some(Record::Asked { at, .. }) => *at,
-        None => tables.last(),
+        Some(Record::Turn { at } | Record::Asked { at, .. }) => *at,
+        Some(Record::Opening { .. }) | None => tables.last(),
     }
 }
 

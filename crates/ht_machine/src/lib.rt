@@ -2,7 +2,6 @@
 //! then committed.
 #![tactic(auto)]
 
-mod activating;
 mod answering;
 #[cfg(test)]
 mod answers_in_words;
@@ -16,9 +15,12 @@ mod creating;
 #[cfg(test)]
 mod creating_tests;
 mod deciding;
+#[cfg(test)]
+mod family_tests;
 mod following;
 mod gating;
 mod laws;
+mod making;
 mod naming;
 #[cfg(test)]
 mod operation_tests;

@@ -141,6 +141,7 @@ pub(crate) fn command_of(alloc: Global, op: &str, given: &str) -> Result<Command
         "create" => Command::Create {
             model: Name::of(given.as_bytes()),
             input: Parts::new(alloc),
+            activate_at: None,
         },
         "claim" => Command::Claim,
         "start" => Command::Start,
@@ -173,6 +174,9 @@ pub(crate) fn command_of(alloc: Global, op: &str, given: &str) -> Result<Command
         "skip" => Command::Skip,
         "exit" => Command::Exit,
         "error" => Command::Error,
+        "instantiateSubTask" => Command::InstantiateSubTask {
+            sub: Name::of(given.as_bytes()).ok_or("a name")?,
+        },
         "addComment" => Command::AddComment {
             text: comment_of(alloc, given)?,
         },

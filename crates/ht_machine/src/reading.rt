@@ -37,7 +37,7 @@ fn show(alloc: Global, tables: &Tables, person: Person, task: TaskId) -> Result<
         return Ok(Answer::Refused(refusal));
     }
     match tables.row(task) {
-        Some(row) => Ok(Answer::Sheet(sheet(alloc, tables, row)?)),
+        Some(row) => Ok(Answer::Sheet(sheet(alloc, tables, &nothing, row)?)),
         None => unreachable!(),
     }
 }

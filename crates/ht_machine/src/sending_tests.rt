@@ -135,7 +135,7 @@ fn retry_of(words: &str) -> Result<Retry, Fail>
 }
 
 // The task of this number, if the command may name it.
-fn task_of(command: &Command, number: u32) -> Result<TaskId, Fail>
+pub(crate) fn task_of(command: &Command, number: u32) -> Result<TaskId, Fail>
     ensures { IfOk result (IsTaskOf command.now) }
 {
     let fits = match command {

@@ -1,18 +1,27 @@
-ghost use Rattle.std.specs.Prelude.{◌≡◌, IfOk};
+ghost use Rattle.std.specs.Prelude.{◌≡◌, IfOk, map};
 ghost use Rattle.ht_machine.specs.Sheets as spec;
+ghost use Rattle.ht_tree.specs.Families.{sub_tasks};
+ghost use Rattle.ht_tree.specs.Plans.{no_plan};
 ghost use Rattle.ht_tree.specs.Soundness.{IsSoundRow};
 
 use crate::naming::{comments_of, name_or_none, names_of, parts_of};
-use ht_base::{Memory, Sheet};
-use ht_tree::{Row, Tables};
+use ht_base::{Ids, Memory, Sheet, TaskId};
+use ht_tree::{Plan, Row, Tables, sub_tasks};
 use std::alloc::Global;
 
 /// The sheet of a task.
 #[tactic(auto, using(crate::proofs::PartsShown::input_shown, crate::proofs::PartsShown::output_shown))]
-pub(crate) fn sheet(alloc: Global, tables: &Tables, row: &Row) -> Result<Sheet, Memory>
-    requires { IsSoundRow tables.now.tables row.now }
+pub(crate) fn sheet(
+    alloc: Global,
+    tables: &Tables,
+    nothing: &Plan,
+    row: &Row,
+) -> Result<Sheet, Memory>
+    requires sound { IsSoundRow tables.now.tables row.now }
+    requires nothing { nothing.now ≡ no_plan }
     ensures { IfOk result (λ s. s ≡ spec.sheet_of tables.now.tables row.now) }
 {
+    let subs = subs_of(alloc, tables, nothing, row.task)?;
     let people = tables.people();
     let parent = match row.parent {
         Some((task, _)) => Some(task),
@@ -37,8 +46,18 @@ pub(crate) fn sheet(alloc: Global, tables: &Tables, row: &Row) -> Result<Sheet, 
         stakeholders: names_of(alloc, people, &row.stakeholders)?,
         started: row.started,
         state: row.state,
+        subs,
         task: row.task,
         until: row.until,
         waits: row.waits,
     })
+}
+
+// The sub tasks of a task, where nothing is planned.
+fn subs_of(alloc: Global, tables: &Tables, nothing: &Plan, task: TaskId) -> Result<Ids, Memory>
+    requires { nothing.now ≡ no_plan }
+    ensures { IfOk result (λ ids. ids ≡ map (λ r. r.task) (sub_tasks task.0 tables.now.tables.rows)) }
+{
+    let _last = tables.last();
+    Ok(Ids::of(sub_tasks(alloc, tables, nothing, task)?))
 }

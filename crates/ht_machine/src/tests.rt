@@ -40,6 +40,7 @@ pub(crate) fn create(alloc: Global, caller: &str, at: u64, model: &str) -> Optio
         command: Command::Create {
             model,
             input: Parts::new(alloc),
+            activate_at: None,
         },
     })
 }
@@ -60,13 +61,16 @@ fn claim(caller: &str, at: u64) -> Option<Event>
     })
 }
 
-fn get(caller: &str) -> Option<Event>
+fn get(caller: &str, task: u32) -> Option<Event>
     ensures { IfSome result IsValid }
 {
     let caller = Name::of(caller.as_bytes())?;
+    if task == 0 {
+        return None;
+    }
     Some(Event::Read {
         caller,
-        query: Query::Sheet(TaskId(1)),
+        query: Query::Sheet(TaskId(task)),
     })
 }
 
@@ -156,7 +160,17 @@ fn is_refused(
 }
 
 pub(crate) fn sheet_for(alloc: Global, tables: &mut Tables, caller: &str) -> Result<Sheet, Fail> {
-    let event = get(caller).ok_or("an event")?;
+    sheet_of(alloc, tables, caller, 1)
+}
+
+// The sheet of this task for this caller.
+pub(crate) fn sheet_of(
+    alloc: Global,
+    tables: &mut Tables,
+    caller: &str,
+    task: u32,
+) -> Result<Sheet, Fail> {
+    let event = get(caller, task).ok_or("an event")?;
     match run_one(alloc, tables, &event)?.answer {
         Answer::Sheet(sheet) => Ok(sheet),
         _ => Err(Fail::from("no sheet")),
@@ -266,7 +280,7 @@ fn is_get_refused(
     caller: &str,
     refusal: Refusal,
 ) -> Result<bool, Fail> {
-    let event = get(caller).ok_or("an event")?;
+    let event = get(caller, 1).ok_or("an event")?;
     is_refused(alloc, tables, &event, refusal)
 }
 
@@ -299,7 +313,7 @@ fn kept_of_claim(alloc: Global, tables: &mut Tables) -> Result<Option<(Moment, T
 fn kept_of(left: &Option<Record>) -> Option<(Moment, TaskId)> {
     match left {
         Some(Record::Asked { at, task, .. }) => Some((*at, *task)),
-        None => None,
+        _ => None,
     }
 }
 

@@ -1,29 +1,16 @@
-use Rattle.std.proofs.lemmas.Result.{err_from_is_err_and}
 use Rattle.ht_base.specs.Events.{op_of}
-use Rattle.ht_machine.proofs.Commanded.{act_tries, followed_after, passed, sound_acted, task_acted}
+use Rattle.ht_machine.specs.Commands.{ActsOn, DoesOn}
+use Rattle.ht_machine.proofs.Commanded.{behind_gate, passed, tries_as}
 use Rattle.ht_machine.proofs.commanding.act_on.Goals as goal
 use Rattle.ht_tree.specs.Plans.{planned}
 
-pub returns-in_err-next : goal.returns-in_err-next
-returns-in_err-next c =
-    let t = c.args.tables.now.tables in
-    let command = c.args.command.now in
-    let allowed = passed (planned t c.args.plan.now) c.op.result (op_of command) c.args.caller c.args.task.0 c.refusal_at_gate.result c.in_default.not-Some c.op.ensures c.refusal_at_gate.ensures in
-    let p = err_from_is_err_and c.from_residual.result c.from_residual.ensures.1 in
-    rw (p.1, p.2) (act_tries t c.args.plan.now c.act.new.plan c.args.caller c.args.at c.args.task command c.in_err-next.field-0.0 allowed c.in_err-next.ensures)
-
-pub follow-requires-clause-sound : goal.follow-requires-clause-sound
-follow-requires-clause-sound c = sound_acted c.args.tables.now.tables c.args.plan.now c.act.new.plan c.args.caller c.args.at c.args.task c.args.command.now c.in_ok-next.next c.requires.sound c.in_ok-next.ensures
-
-pub follow-requires-clause-there : goal.follow-requires-clause-there
-follow-requires-clause-there c = task_acted c.args.tables.now.tables c.args.plan.now c.act.new.plan c.args.caller c.args.at c.args.task c.args.command.now c.in_ok-next.next c.requires.sound c.in_ok-next.ensures
-
-pub follow-requires-clause-ends : goal.follow-requires-clause-ends
-follow-requires-clause-ends c = c.in_ok-next.ensures.ends
+pub do_on-requires-clause-allowed : goal.do_on-requires-clause-allowed
+do_on-requires-clause-allowed c = passed (planned c.args.tables.now.tables c.args.plan.now) c.op.result (op_of c.args.command.now) c.args.caller c.args.task.0 c.refusal_at_gate.result c.in_default.not-Some c.op.ensures c.refusal_at_gate.ensures
 
 pub returns : goal.returns
 returns c =
     let t = c.args.tables.now.tables in
+    let u = planned t c.args.plan.now in
     let command = c.args.command.now in
-    let allowed = passed (planned t c.args.plan.now) c.op.result (op_of command) c.args.caller c.args.task.0 c.refusal_at_gate.result c.in_default.not-Some c.op.ensures c.refusal_at_gate.ensures in
-    followed_after t c.args.plan.now c.act.new.plan c.follow.new.plan c.args.caller c.args.at c.args.task command c.in_ok-next.next allowed c.in_ok-next.ensures c.in_ok-follow.ensures
+    let allowed = passed u c.op.result (op_of command) c.args.caller c.args.task.0 c.refusal_at_gate.result c.in_default.not-Some c.op.ensures c.refusal_at_gate.ensures in
+    tries_as t c.args.plan.now c.do_on.new.plan (DoesOn u c.args.caller c.args.at.0 c.args.task.0 command) (ActsOn u c.args.caller c.args.at.0 c.args.task.0 command) c.do_on.result (λ o. behind_gate u c.args.caller c.args.at.0 c.args.task.0 command o allowed) c.do_on.ensures
