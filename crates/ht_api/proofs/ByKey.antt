@@ -5,7 +5,7 @@ use Rattle.ht_base.specs.declared.role_list.RoleList.{RoleList}
 use Rattle.ht_base.specs.declared.scalar.Scalar.{Scalar}
 use Rattle.ht_api.specs.declared.fields.Fields.{Fields}
 use Rattle.ht_api.specs.declared.keys.Key.{Key}
-use Rattle.ht_api.specs.declared.keys.Key.TheVariants.{Device, Number, Model, Person, Fault, Role, Owners, Persons, Priority, Text, Input, Output, SomeOutput}
+use Rattle.ht_api.specs.declared.keys.Key.TheVariants.{Device, Number, Model, Person, Fault, Role, Owners, Persons, Priority, Text, Sub, Input, Output, SomeOutput}
 use Rattle.ht_api.specs.Fields.{with_key}
 use Rattle.ht_api.specs.Fits.{device_in, name_in, number_in, owners_in, parts_in, persons_in, priority_in, role_in, some_parts_in, text_in}
 use Rattle.ht_api.proofs.Fitting.{from_mapped}
@@ -23,6 +23,7 @@ Value Owners = List (List ℕ)
 Value Persons = List (List ℕ)
 Value Priority = ℕ
 Value Text = List ℕ
+Value Sub = List ℕ
 Value Input = List (List ℕ × Scalar)
 Value Output = List (List ℕ × Scalar)
 Value SomeOutput = List (List ℕ × Scalar)
@@ -38,6 +39,7 @@ fitting Owners d = owners_in d
 fitting Persons d = persons_in d
 fitting Priority d = priority_in d
 fitting Text d = text_in d
+fitting Sub d = name_in d
 fitting Input d = parts_in d
 fitting Output d = parts_in d
 fitting SomeOutput d = some_parts_in d
@@ -53,6 +55,7 @@ field Owners f = f.owners
 field Persons f = f.persons
 field Priority f = f.priority
 field Text f = f.text
+field Sub f = f.sub
 field Input f = f.input
 field Output f = f.output
 field SomeOutput f = f.some_output
@@ -68,6 +71,7 @@ with_field Owners f a = record f { owners = Some a }
 with_field Persons f a = record f { persons = Some a }
 with_field Priority f a = record f { priority = Some a }
 with_field Text f a = record f { text = Some a }
+with_field Sub f a = record f { sub = Some a }
 with_field Input f a = record f { input = Some a }
 with_field Output f a = record f { output = Some a }
 with_field SomeOutput f a = record f { some_output = Some a }
@@ -106,6 +110,8 @@ module _ (P : (key : Key) → Option (Value key) → Type 0) where
   put_keeps Priority f a here all k = all k
   put_keeps Text f a here all Text = here
   put_keeps Text f a here all k = all k
+  put_keeps Sub f a here all Sub = here
+  put_keeps Sub f a here all k = all k
   put_keeps Input f a here all Input = here
   put_keeps Input f a here all k = all k
   put_keeps Output f a here all Output = here

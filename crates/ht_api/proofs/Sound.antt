@@ -12,7 +12,7 @@ use Rattle.ht_api.specs.declared.asked.Asked.{Asked}
 use Rattle.ht_api.specs.declared.asked.Asked.TheVariants as asked
 use Rattle.ht_api.specs.declared.fields.Fields.{Fields}
 use Rattle.ht_api.specs.declared.keys.Key.{Key}
-use Rattle.ht_api.specs.declared.keys.Key.TheVariants.{Device, Number, Model, Person, Role, Owners, Persons, Priority, Text, Input, Output, SomeOutput}
+use Rattle.ht_api.specs.declared.keys.Key.TheVariants.{Device, Number, Model, Person, Role, Owners, Persons, Priority, Text, Sub, Input, Output, SomeOutput}
 use Rattle.ht_api.specs.declared.refusal.ApiRefusal.{ApiRefusal}
 use Rattle.ht_api.specs.Commands.{Numbered, command_from, command_in, command_of, needing, numbered, retry_from}
 use Rattle.ht_api.specs.Bodies.{json_in}
@@ -89,7 +89,7 @@ module _ (task : TaskId) (c : Command) where
   need key (Some a) make e all = all a refl e
 
   fits : (what : Asked) (f : Fields) → command_of what f ≡ Ok c → AreSound f → IsTask what task → FitsTask task c
-  fits asked.Create f e s t = plain (command.Create f.model (unwrap_or f.input [])) e (t, given_or_none f.input (s Input))
+  fits asked.Create f e s t = plain (command.Create f.model (unwrap_or f.input []) None) e (t, (given_or_none f.input (s Input), tt))
   fits asked.Delegate f e s t = need Person f.person (λ person. Ok (command.Delegate person)) e (λ person is made. plain (command.Delegate person) made (t, tt))
   fits asked.Forward f e s t =
       need Owners f.owners (λ persons. Ok (command.Forward persons)) e (λ persons is made. plain (command.Forward persons) made (t, if_there f.owners _ persons (s Owners) is))
@@ -105,6 +105,7 @@ module _ (task : TaskId) (c : Command) where
   fits asked.Complete f e s t = plain (command.Complete (unwrap_or f.output [])) e (t, given_or_none f.output (s Output))
   fits asked.AddComment f e s t =
       need Text f.text (λ text. Ok (command.AddComment text)) e (λ text is made. plain (command.AddComment text) made (t, if_there f.text _ text (s Text) is))
+  fits asked.InstantiateSubTask f e s t = need Sub f.sub (λ sub. Ok (command.InstantiateSubTask sub)) e (λ sub is made. plain (command.InstantiateSubTask sub) made (t, tt))
   fits what f e s t = plain _ e (t, tt)
 
 -- ---- numbers

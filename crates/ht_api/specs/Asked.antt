@@ -24,6 +24,7 @@ operations =
     ∷ (codes "exit", asked.Exit)
     ∷ (codes "error", asked.Error)
     ∷ (codes "addComment", asked.AddComment)
+    ∷ (codes "instantiateSubTask", asked.InstantiateSubTask)
     ∷ []
 
 -- the first of this name

@@ -7,7 +7,7 @@ use Rattle.ht_api.specs.declared.asked.Asked.{Asked}
 use Rattle.ht_api.specs.declared.asked.Asked.TheVariants as asked
 use Rattle.ht_api.specs.declared.fields.Fields.{Fields}
 use Rattle.ht_api.specs.declared.keys.Key.{Key}
-use Rattle.ht_api.specs.declared.keys.Key.TheVariants.{Device, Number, Model, Person, Fault, Role, Owners, Persons, Priority, Text, Input, Output, SomeOutput}
+use Rattle.ht_api.specs.declared.keys.Key.TheVariants.{Device, Number, Model, Person, Fault, Role, Owners, Persons, Priority, Text, Sub, Input, Output, SomeOutput}
 use Rattle.ht_api.specs.declared.refusal.ApiRefusal.{ApiRefusal}
 use Rattle.ht_api.specs.declared.refusal.ApiRefusal.TheVariants.{Field}
 use Rattle.ht_api.specs.Bodies.{json_in}
@@ -20,7 +20,7 @@ needing key None make = Err (Field (key_name key))
 needing key (Some a) make = make a
 
 abbrev pub command_of : Asked → Fields → Result Command ApiRefusal
-command_of asked.Create f = Ok (command.Create f.model (unwrap_or f.input []))
+command_of asked.Create f = Ok (command.Create f.model (unwrap_or f.input []) None)
 command_of asked.Claim f = Ok command.Claim
 command_of asked.Start f = Ok command.Start
 command_of asked.Stop f = Ok command.Stop
@@ -40,6 +40,7 @@ command_of asked.Skip f = Ok command.Skip
 command_of asked.Exit f = Ok command.Exit
 command_of asked.Error f = Ok command.Error
 command_of asked.AddComment f = needing Text f.text (λ text. Ok (command.AddComment text))
+command_of asked.InstantiateSubTask f = needing Sub f.sub (λ sub. Ok (command.InstantiateSubTask sub))
 
 -- its number, if it has one
 abbrev pub retry_from : Option ℕ → Option ℕ → Option Retry
@@ -75,6 +76,7 @@ Has Owners f = IsSome f.owners
 Has Persons f = IsSome f.persons
 Has Priority f = IsSome f.priority
 Has Text f = IsSome f.text
+Has Sub f = IsSome f.sub
 Has Input f = IsSome f.input
 Has Output f = IsSome f.output
 Has SomeOutput f = IsSome f.some_output

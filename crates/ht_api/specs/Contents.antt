@@ -33,6 +33,14 @@ abbrev pub task_or_null : Option TaskId → Data
 task_or_null None = null
 task_or_null (Some task) = whole task.0
 
+abbrev pub task_items : List TaskId → Items
+task_items [] = no_items
+task_items (t ∷ ts) = item (whole t.0) (task_items ts)
+
+-- the tasks by their numbers
+abbrev pub tasks_data : List TaskId → Data
+tasks_data ts = array (task_items ts)
+
 abbrev pub moment_or_null : Option Moment → Data
 moment_or_null None = null
 moment_or_null (Some moment) = whole moment.0
@@ -93,7 +101,7 @@ content_data (content.Parts parts) = row_object (part_rows parts.now)
 content_data (content.Comments cs) = comments_data cs.now
 content_data (content.Roles roles) = roles_data roles
 content_data (content.States states) = states_data states
-content_data content.NoItems = array no_items
+content_data (content.Tasks tasks) = tasks_data tasks.now
 
 abbrev pub rows_of : List (Bor (List ℕ) × Content) → List (List ℕ × Data)
 rows_of [] = []

@@ -28,7 +28,7 @@ use Rattle.ht_api.specs.declared.refusal.ApiRefusal.TheVariants.{Route, Method, 
 use Rattle.ht_api.specs.declared.routes.Place.TheVariants as place
 use Rattle.ht_api.specs.Bodies.{json_in}
 use Rattle.ht_api.specs.Commands.{command_in}
-use Rattle.ht_api.specs.Contents.{comments_data}
+use Rattle.ht_api.specs.Contents.{comments_data, tasks_data}
 use Rattle.ht_api.specs.Events.{event_due}
 use Rattle.ht_api.specs.Numbers.{task_in}
 use Rattle.ht_api.specs.Refusals.{wire_refusal}
@@ -84,11 +84,11 @@ a_blank : json_in (codes " ") ≡ None
 unfolding on_literals
 a_blank = refl
 
-the_last_of_equal_keys : command_in asked.Create (codes "{\"model\":1,\"model\":\"b\"}") ≡ Ok (None, command.Create (Some (codes "b")) [])
+the_last_of_equal_keys : command_in asked.Create (codes "{\"model\":1,\"model\":\"b\"}") ≡ Ok (None, command.Create (Some (codes "b")) [] None)
 unfolding on_literals
 the_last_of_equal_keys = refl
 
-parts_by_name : command_in asked.Create (codes "{\"input\":{\"b\":-1,\"a\":\"x\"}}") ≡ Ok (None, command.Create None ((codes "a", Text (codes "x")) ∷ (codes "b", Int (negsuc 0)) ∷ []))
+parts_by_name : command_in asked.Create (codes "{\"input\":{\"b\":-1,\"a\":\"x\"}}") ≡ Ok (None, command.Create None ((codes "a", Text (codes "x")) ∷ (codes "b", Int (negsuc 0)) ∷ []) None)
 unfolding on_literals
 parts_by_name = refl
 
@@ -123,6 +123,13 @@ nothing_is_set = refl
 a_task_ends_without_output : command_in asked.Complete [] ≡ Ok (None, command.Complete [])
 unfolding on_literals
 a_task_ends_without_output = refl
+
+a_sub_task_by_its_name : command_in asked.InstantiateSubTask (codes "{\"sub\":\"x\"}") ≡ Ok (None, command.InstantiateSubTask (codes "x"))
+unfolding on_literals
+a_sub_task_by_its_name = refl
+
+no_sub_task : command_in asked.InstantiateSubTask [] ≡ Err (Field (codes "sub"))
+no_sub_task = refl
 
 no_text : command_in asked.AddComment (codes "{\"text\":\"\"}") ≡ Err (Field (codes "text"))
 unfolding on_literals
@@ -164,7 +171,7 @@ no_number = refl
 
 -- ---- events
 
-a_create : event_due (request (codes "POST") (codes "/tasks") (Some (codes "dan")) (codes "{\"model\":\"unit\"}")) 1000 ≡ Ok (Ask (record { 0 = 1000 }) (codes "dan") None (record { 0 = 0 }) (command.Create (Some (codes "unit")) []))
+a_create : event_due (request (codes "POST") (codes "/tasks") (Some (codes "dan")) (codes "{\"model\":\"unit\"}")) 1000 ≡ Ok (Ask (record { 0 = 1000 }) (codes "dan") None (record { 0 = 0 }) (command.Create (Some (codes "unit")) [] None))
 unfolding on_literals
 a_create = refl
 
@@ -210,6 +217,14 @@ a_person_unknown : answer_text (Refused (refusal.Unknown (unknown.Person (codes 
 unfolding on_literals
 a_person_unknown = refl
 
+a_sub_task_refused : answer_text (Refused (refusal.SubRefused (codes "y"))) ≡ codes "{\"fault\":\"SubRefused\",\"sub\":\"y\"}"
+unfolding on_literals
+a_sub_task_refused = refl
+
+subs_in_order : compact_text (tasks_data (record { 0 = 3 } ∷ record { 0 = 12 } ∷ [])) ≡ codes "[3,12]"
+unfolding on_literals
+subs_in_order = refl
+
 comments_in_order :
     compact_text (comments_data (record { moment = record { 0 = 9 }; person = codes "ben"; text = codes "a\"" } ∷ record { moment = record { 0 = 5 }; person = codes "anna"; text = codes "b" } ∷ []))
     ≡ codes "[{\"moment\":9,\"person\":\"ben\",\"text\":\"a\\\"\"},{\"moment\":5,\"person\":\"anna\",\"text\":\"b\"}]"
@@ -219,6 +234,10 @@ comments_in_order = refl
 a_sheet_has_comments : (s : TaskSheet) → get (codes "comments") (answer_data (Sheet s)) ≡ Some (comments_data s.comments)
 unfolding sheet_data
 a_sheet_has_comments s = refl
+
+a_sheet_has_sub_tasks : (s : TaskSheet) → get (codes "subs") (answer_data (Sheet s)) ≡ Some (tasks_data s.subs)
+unfolding sheet_data
+a_sheet_has_sub_tasks s = refl
 
 a_body_too_long : wire_refusal 413 ≡ refusal.Body
 a_body_too_long = refl
@@ -258,6 +277,8 @@ refusals_ascend (refusal.NotDelegatee person) = refl
 refusals_ascend refusal.NoOwners = refl
 refusals_ascend (refusal.NoOutput part) = refl
 refusals_ascend refusal.NotSkipable = refl
+refusals_ascend refusal.UntilPast = refl
+refusals_ascend (refusal.SubRefused sub) = refl
 refusals_ascend (refusal.Limit limit) = refl
 refusals_ascend refusal.Memory = refl
 

@@ -5,7 +5,7 @@ use Rattle.serde_json.specs.Find.{as_object, get}
 use Rattle.ht_api.specs.declared.asked.Asked.{Asked}
 use Rattle.ht_api.specs.declared.fields.Fields.{Fields}
 use Rattle.ht_api.specs.declared.keys.Key.{Key}
-use Rattle.ht_api.specs.declared.keys.Key.TheVariants.{Device, Number, Model, Person, Fault, Role, Owners, Persons, Priority, Text, Input, Output, SomeOutput}
+use Rattle.ht_api.specs.declared.keys.Key.TheVariants.{Device, Number, Model, Person, Fault, Role, Owners, Persons, Priority, Text, Sub, Input, Output, SomeOutput}
 use Rattle.ht_api.specs.declared.refusal.ApiRefusal.{ApiRefusal}
 use Rattle.ht_api.specs.declared.refusal.ApiRefusal.TheVariants.{Json, Field}
 use Rattle.ht_api.specs.Fits.{device_in, name_in, number_in, owners_in, parts_in, persons_in, priority_in, role_in, some_parts_in, text_in}
@@ -23,6 +23,7 @@ no_fields = record {
   persons = None;
   priority = None;
   text = None;
+  sub = None;
   input = None;
   output = None;
   some_output = None;
@@ -40,6 +41,7 @@ with_key Owners d f = option_map (λ ns. record f { owners = Some ns }) (owners_
 with_key Persons d f = option_map (λ ns. record f { persons = Some ns }) (persons_in d)
 with_key Priority d f = option_map (λ n. record f { priority = Some n }) (priority_in d)
 with_key Text d f = option_map (λ t. record f { text = Some t }) (text_in d)
+with_key Sub d f = option_map (λ n. record f { sub = Some n }) (name_in d)
 with_key Input d f = option_map (λ ps. record f { input = Some ps }) (parts_in d)
 with_key Output d f = option_map (λ ps. record f { output = Some ps }) (parts_in d)
 with_key SomeOutput d f = option_map (λ ps. record f { some_output = Some ps }) (some_parts_in d)

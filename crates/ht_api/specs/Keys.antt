@@ -17,6 +17,7 @@ key_name key.Owners = codes "persons"
 key_name key.Persons = codes "persons"
 key_name key.Priority = codes "priority"
 key_name key.Text = codes "text"
+key_name key.Sub = codes "sub"
 key_name key.Input = codes "input"
 key_name key.Output = codes "output"
 key_name key.SomeOutput = codes "output"
@@ -33,6 +34,7 @@ keys_of asked.SetOutput = (key.SomeOutput, true) ∷ []
 keys_of asked.Complete = (key.Output, false) ∷ []
 keys_of asked.Fail = (key.Fault, false) ∷ []
 keys_of asked.AddComment = (key.Text, true) ∷ []
+keys_of asked.InstantiateSubTask = (key.Sub, true) ∷ []
 keys_of _ = []
 
 -- a command may have a number too

@@ -1,6 +1,6 @@
 -- The JSON of each answer (RFC 8259), whose text has no space and the keys in byte order.
 use Rattle.std.specs.Prelude.{ℕ, ◌≤◌, List, [], ◌∷◌, ◌++◌, length, Option, Some, None, codes}
-use Rattle.serde_json.specs.Data.{Data, boolean, string, array, no_items}
+use Rattle.serde_json.specs.Data.{Data, boolean, string}
 use Rattle.serde_json.specs.Written.{compact_text}
 use Rattle.ht_base.specs.declared.reply.Answer.{Answer}
 use Rattle.ht_base.specs.declared.reply.Answer.TheVariants.{Done, Sheet, Refused}
@@ -11,7 +11,7 @@ use Rattle.ht_base.specs.declared.reply.Refusal.TheVariants as refusal
 use Rattle.ht_base.specs.declared.reply.Unknown.TheVariants as unknown
 use Rattle.ht_base.specs.declared.sheet.Sheet.{Sheet as TaskSheet}
 use Rattle.ht_base.specs.State.{state_name}
-use Rattle.ht_api.specs.Contents.{comments_data, moment_or_null, name_or_null, names, part_rows, roles_data, row_object, states_data, task_or_null, whole}
+use Rattle.ht_api.specs.Contents.{comments_data, moment_or_null, name_or_null, names, part_rows, roles_data, row_object, states_data, task_or_null, tasks_data, whole}
 
 -- ---- refusals
 
@@ -56,10 +56,12 @@ refusal_data (refusal.NotDelegatee person) = named_fault (codes "NotDelegatee") 
 refusal_data refusal.NoOwners = fault (codes "NoOwners") []
 refusal_data (refusal.NoOutput part) = named_fault (codes "NoOutput") (codes "part") part
 refusal_data refusal.NotSkipable = fault (codes "NotSkipable") []
+refusal_data refusal.UntilPast = fault (codes "UntilPast") []
+refusal_data (refusal.SubRefused sub) = named_fault (codes "SubRefused") (codes "sub") sub
 refusal_data (refusal.Limit limit) = named_fault (codes "Limit") (codes "limit") (limit_name limit)
 refusal_data refusal.Memory = fault (codes "Memory") []
 
--- ---- the sheet, in three parts, without sub tasks
+-- ---- the sheet, in three parts
 
 abbrev pub first_rows : TaskSheet → List (List ℕ × Data)
 first_rows s =
@@ -89,7 +91,7 @@ last_rows s =
     ∷ (codes "stakeholders", names s.stakeholders)
     ∷ (codes "started", boolean s.started)
     ∷ (codes "state", string (state_name s.state))
-    ∷ (codes "subs", array no_items)
+    ∷ (codes "subs", tasks_data s.subs)
     ∷ (codes "task", whole s.task.0)
     ∷ (codes "until", moment_or_null s.until)
     ∷ (codes "waits", moment_or_null s.waits)

@@ -29,6 +29,8 @@ refusal_status (refusal.NotDelegatee person) = 422
 refusal_status refusal.NoOwners = 422
 refusal_status (refusal.NoOutput part) = 422
 refusal_status refusal.NotSkipable = 422
+refusal_status refusal.UntilPast = 422
+refusal_status (refusal.SubRefused sub) = 422
 refusal_status (refusal.Limit limit) = 507
 refusal_status refusal.Memory = 500
 

@@ -6,7 +6,8 @@ use Rattle.json.specs.Written.{Written}
 use Rattle.serde_json.specs.Data.{Data}
 use Rattle.serde_json.specs.Written.{outline, items_outline}
 use Rattle.ht_base.specs.declared.shown_comments.ShownComment.{ShownComment}
-use Rattle.ht_api.specs.Contents.{comment_items, texts}
+use Rattle.ht_base.specs.declared.task_id.TaskId.{TaskId}
+use Rattle.ht_api.specs.Contents.{comment_items, task_items, texts}
 
 abbrev pub tokens_of : Data → List Token
 tokens_of d = json_tokens (outline d)
@@ -26,6 +27,9 @@ pub record Going (start now : Written) (all left : List Token) : Type 0 where
 
 abbrev pub texts_left : List (List ℕ) → List Token
 texts_left ts = items_tokens (items_outline (texts ts))
+
+abbrev pub tasks_left : List TaskId → List Token
+tasks_left ts = items_tokens (items_outline (task_items ts))
 
 abbrev pub comments_left : List ShownComment → List Token
 comments_left cs = items_tokens (items_outline (comment_items cs))

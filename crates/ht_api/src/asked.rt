@@ -24,6 +24,7 @@ pub(crate) enum Asked {
     Exit,
     Error,
     AddComment,
+    InstantiateSubTask,
 }
 
 impl Asked {
@@ -51,6 +52,7 @@ impl Asked {
             "exit" => Some(Asked::Exit),
             "error" => Some(Asked::Error),
             "addComment" => Some(Asked::AddComment),
+            "instantiateSubTask" => Some(Asked::InstantiateSubTask),
             _ => None,
         }
     }

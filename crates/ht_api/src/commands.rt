@@ -40,6 +40,7 @@ fn command_of(alloc: Global, asked: Asked, fields: Fields) -> Command
         Asked::Create => Command::Create {
             model: fields.model,
             input: parts_or_none(alloc, fields.input),
+            activate_at: None,
         },
         Asked::Claim => Command::Claim,
         Asked::Start => Command::Start,
@@ -78,6 +79,9 @@ fn command_of(alloc: Global, asked: Asked, fields: Fields) -> Command
         Asked::Error => Command::Error,
         Asked::AddComment => Command::AddComment {
             text: fields.text.unwrap(),
+        },
+        Asked::InstantiateSubTask => Command::InstantiateSubTask {
+            sub: fields.sub.unwrap(),
         },
     }
 }

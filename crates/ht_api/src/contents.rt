@@ -3,12 +3,12 @@ ghost use Rattle.json.specs.Token.{begin_object, end_object};
 ghost use Rattle.serde_json.specs.Data.{array};
 ghost use Rattle.ht_base.specs.Role.{contains_role, role_name};
 ghost use Rattle.ht_base.specs.State.{contains_state, state_name};
-ghost use Rattle.ht_api.specs.Contents.{comment_data, comments_data, content_data, part_rows, row_object, rows_of, scalar_data, texts};
+ghost use Rattle.ht_api.specs.Contents.{comment_data, comments_data, content_data, part_rows, row_object, rows_of, scalar_data, tasks_data, texts};
 ghost use Rattle.ht_api.specs.Writing.{Puts, object_tokens, rows_then, tokens_of};
 
 use ht_base::{
-    Memory, Moment, Name, Names, Parts, Role, Roles, Scalar, ShownComment, ShownComments, State,
-    StateSet, TaskId,
+    Ids, Memory, Moment, Name, Names, Parts, Role, Roles, Scalar, ShownComment, ShownComments,
+    State, StateSet, TaskId,
 };
 use json::Writer;
 
@@ -26,9 +26,9 @@ pub(crate) enum Content<'a> {
     Names(&'a Names),
     Parts(&'a Parts),
     Comments(&'a ShownComments),
+    Tasks(&'a Ids),
     Roles(Roles),
     States(StateSet),
-    NoItems,
 }
 
 /// Writes an object with these members.
@@ -97,12 +97,9 @@ fn put_content(content: &Content<'_>, writer: &mut Writer) -> Result<(), Memory>
         Content::Names(names) => return put_names(names.as_slice(), writer),
         Content::Parts(parts) => return put_parts(parts.as_slice(), writer),
         Content::Comments(comments) => return put_comments(comments.as_slice(), writer),
+        Content::Tasks(tasks) => return put_tasks(tasks.as_slice(), writer),
         Content::Roles(roles) => return put_roles(&Role::ALL, roles, writer),
         Content::States(states) => return put_states(&State::ALL, states, writer),
-        Content::NoItems => {
-            writer.begin_array()?;
-            writer.end_array()?;
-        }
     }
     Ok(())
 }
@@ -144,6 +141,17 @@ fn put_scalar(scalar: &Scalar, writer: &mut Writer) -> Result<(), Memory>
         Scalar::Int(number) => writer.i64(*number)?,
         Scalar::Truth(truth) => writer.boolean(*truth)?,
     }
+    Ok(())
+}
+
+fn put_tasks(tasks: &[TaskId], writer: &mut Writer) -> Result<(), Memory>
+    ensures { Puts result writer.old writer.new (tokens_of (tasks_data tasks.now)) }
+{
+    writer.begin_array()?;
+    for task in tasks {
+        writer.u64(u64::from(task.0))?;
+    }
+    writer.end_array()?;
     Ok(())
 }
 

@@ -20,6 +20,7 @@ pub(crate) enum Key {
     Persons,
     Priority,
     Text,
+    Sub,
     Input,
     Output,
     /// At least one part of the output.
@@ -42,6 +43,7 @@ impl Key {
             Key::Persons => "persons",
             Key::Priority => "priority",
             Key::Text => "text",
+            Key::Sub => "sub",
             Key::Input => "input",
             Key::Output => "output",
             Key::SomeOutput => "output",
@@ -65,6 +67,7 @@ pub(crate) fn keys_of(asked: Asked) -> &'static [(Key, bool)]
         Asked::Complete => &[(Key::Output, false)],
         Asked::Fail => &[(Key::Fault, false)],
         Asked::AddComment => &[(Key::Text, true)],
+        Asked::InstantiateSubTask => &[(Key::Sub, true)],
         Asked::Claim
         | Asked::Start
         | Asked::Stop

@@ -8,7 +8,7 @@ use crate::contents::{Content, put_object};
 use ht_base::{Memory, Sheet};
 use json::Writer;
 
-/// Writes the sheet of a task, without sub tasks.
+/// Writes the sheet of a task.
 pub(crate) fn put_sheet(sheet: &Sheet, writer: &mut Writer) -> Result<(), Memory>
     ensures { Puts result writer.old writer.new (tokens_of (sheet_data sheet.now)) }
 {
@@ -54,7 +54,7 @@ fn last_rows(sheet: &Sheet) -> [(&'static str, Content<'_>); 8]
         ("stakeholders", Content::Names(&sheet.stakeholders)),
         ("started", Content::Truth(sheet.started)),
         ("state", Content::State(sheet.state)),
-        ("subs", Content::NoItems),
+        ("subs", Content::Tasks(&sheet.subs)),
         ("task", Content::Number(u64::from(sheet.task.0))),
         ("until", Content::MaybeMoment(sheet.until)),
         ("waits", Content::MaybeMoment(sheet.waits)),

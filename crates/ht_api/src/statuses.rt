@@ -36,6 +36,7 @@ fn status_of_refusal(refusal: &Refusal) -> u16
         Refusal::Ownerless | Refusal::ByGroup | Refusal::NoOwners => 422,
         Refusal::Excluded(_) | Refusal::NotDelegatee(_) => 422,
         Refusal::NoOutput(_) | Refusal::NotSkipable => 422,
+        Refusal::UntilPast | Refusal::SubRefused(_) => 422,
         Refusal::Limit(_) => 507,
         Refusal::Memory => 500,
     }

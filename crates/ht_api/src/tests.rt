@@ -104,7 +104,7 @@ fn put_command(command: &Command, text: &mut String) -> Result<(), Fail> {
     text.push(' ')?;
     text.push_str(word_of(command))?;
     match command {
-        Command::Create { model, input } => {
+        Command::Create { model, input, .. } => {
             put_name_or_none(model, text)?;
             put_parts(input, text)
         }
@@ -123,6 +123,7 @@ fn put_command(command: &Command, text: &mut String) -> Result<(), Fail> {
         Command::SetOutput { output } => put_parts(output, text),
         Command::Complete { output } => put_parts(output, text),
         Command::Fail { fault } => put_name_or_none(fault, text),
+        Command::InstantiateSubTask { sub } => put_name_or_none(&Some(*sub), text),
         Command::AddComment { text: comment } => {
             text.push(' ')?;
             text.push_str(comment.as_str())?;
@@ -146,6 +147,7 @@ fn word_of(command: &Command) -> &'static str {
         Command::SetRole { .. } => "setRole",
         Command::SetPriority { .. } => "setPriority",
         Command::Suspend => "suspend",
+        Command::SuspendUntil { .. } => "suspendUntil",
         Command::Resume => "resume",
         Command::SetOutput { .. } => "setOutput",
         Command::Complete { .. } => "complete",
@@ -154,6 +156,7 @@ fn word_of(command: &Command) -> &'static str {
         Command::Exit => "exit",
         Command::Error => "error",
         Command::AddComment { .. } => "addComment",
+        Command::InstantiateSubTask { .. } => "instantiateSubTask",
     }
 }
 
@@ -270,7 +273,10 @@ POST /tasks/1/skip anna  => anna 1 skip
 POST /tasks/1/exit anna  => anna 1 exit
 POST /tasks/1/error anna  => anna 1 error
 POST /tasks/12/addComment anna {\"text\":\"late\"} => anna 12 addComment late
-POST /tasks/12/addComment anna  => Field text";
+POST /tasks/12/addComment anna  => Field text
+POST /tasks/12/instantiateSubTask anna {\"sub\":\"x\"} => anna 12 instantiateSubTask x
+POST /tasks/12/instantiateSubTask anna {\"sub\":\"\"} => Field sub
+POST /tasks/12/instantiateSubTask anna {\"text\":\"x\"} => Field body";
 
 const NO_PLACES: &str = "\
 /
@@ -297,7 +303,7 @@ tasks
 /tasks/1/create
 /tasks/1/get
 /tasks/1/suspendUntil
-/tasks/1/instantiateSubTask
+/tasks/1/instantiatesubtask
 /tasks/1/Suspend
 /tasks/1/setoutput
 /tasks/1/addComments
@@ -337,7 +343,7 @@ fn requests_give_events_by_their_place(rt: HostRuntime) -> Result<(), Fail> {
     are_requests_told(&rt, rt.alloc(), REQUESTS)
 }
 
-const OPERATIONS: [&str; 19] = [
+const OPERATIONS: [&str; 20] = [
     "claim",
     "start",
     "stop",
@@ -357,6 +363,7 @@ const OPERATIONS: [&str; 19] = [
     "exit",
     "error",
     "addComment",
+    "instantiateSubTask",
 ];
 
 #[test]
@@ -404,6 +411,7 @@ POST /tasks - [] => Field body
 POST /tasks/1/claim - {\"a\":1} => Field body
 POST /tasks/1/delegate -  => Field person
 POST /tasks/1/addComment -  => Field text
+POST /tasks/1/instantiateSubTask -  => Field sub
 POST /tasks/1/suspendUntil - { => Route
 GET /tasks/1/exit - { => Method
 POST /tasks/1/exit - {} => Person

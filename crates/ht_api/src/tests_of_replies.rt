@@ -1,8 +1,8 @@
 use crate::fits::parts_in;
 use crate::text_of;
 use ht_base::{
-    Answer, Bytes, Limit, Moment, Name, Names, Parts, Refusal, Reply, Roles, Sheet, ShownComment,
-    ShownComments, State, StateSet, TaskId, Txt, Unknown,
+    Answer, Bytes, Ids, Limit, Moment, Name, Names, Parts, Refusal, Reply, Roles, Sheet,
+    ShownComment, ShownComments, State, StateSet, TaskId, Txt, Unknown,
 };
 use serde_json::Value;
 use std::alloc::Global;
@@ -112,6 +112,7 @@ fn faults_of_commands_are_told(rt: HostRuntime) -> Result<(), Fail> {
     is_fault(&rt, rt.alloc(), Refusal::ByGroup, 422, "ByGroup")?;
     is_fault(&rt, rt.alloc(), Refusal::NoOwners, 422, "NoOwners")?;
     is_fault(&rt, rt.alloc(), Refusal::NotSkipable, 422, "NotSkipable")?;
+    is_fault(&rt, rt.alloc(), Refusal::UntilPast, 422, "UntilPast")?;
     let text = "{\"fault\":\"Limit\",\"limit\":\"tasks\"}";
     is_refused(&rt, rt.alloc(), Refusal::Limit(Limit::Tasks), 507, text)?;
     let text = "{\"fault\":\"Limit\",\"limit\":\"comments\"}";
@@ -129,6 +130,8 @@ fn faults_that_name_something_are_told(rt: HostRuntime) -> Result<(), Fail> {
     is_refused(&rt, rt.alloc(), person, 422, text)?;
     let text = "{\"fault\":\"PartRefused\",\"part\":\"ben\"}";
     is_refused(&rt, rt.alloc(), Refusal::PartRefused(ben), 422, text)?;
+    let text = "{\"fault\":\"SubRefused\",\"sub\":\"ben\"}";
+    is_refused(&rt, rt.alloc(), Refusal::SubRefused(ben), 422, text)?;
     let text = "{\"fault\":\"NoOutput\",\"part\":\"ben\"}";
     is_refused(&rt, rt.alloc(), Refusal::NoOutput(ben), 422, text)?;
     let text = "{\"fault\":\"Excluded\",\"person\":\"ben\"}";
@@ -272,6 +275,7 @@ fn a_sheet_is_told(rt: HostRuntime) -> Result<(), Fail> {
         stakeholders: names(rt.alloc(), "")?,
         started: false,
         state: State::Reserved,
+        subs: Ids::of(Vec::new(rt.alloc())),
         task: TaskId(1),
         until: None,
         waits: None,
@@ -292,7 +296,7 @@ const FULL_SHEET: &str = "{\"administrators\":[\"a\",\"b\"],\"byGroup\":false,\
     \"lastOwner\":\"e\",\"model\":\"m\",\
     \"output\":{\"a\":0,\"b\":false,\"c\":9223372036854775807},\"owner\":null,\"parent\":2,\
     \"potentialOwners\":[\"f\",\"g\"],\"priority\":0,\"stakeholders\":[\"h\",\"i\",\"j\"],\
-    \"started\":true,\"state\":\"Failed\",\"subs\":[],\"task\":3,\"until\":4,\
+    \"started\":true,\"state\":\"Failed\",\"subs\":[4,4294967295],\"task\":3,\"until\":4,\
     \"waits\":253402300799999}";
 
 #[test]
@@ -308,6 +312,9 @@ fn a_sheet_may_have_each_value(rt: HostRuntime) -> Result<(), Fail> {
     let mut comments = ShownComments::new(rt.alloc());
     put_comment(rt.alloc(), &mut comments, 9, "k", "\"a\\b\"\n\u{1}é/\u{7f}")?;
     put_comment(rt.alloc(), &mut comments, 5, "j", "x")?;
+    let mut subs = Vec::new(rt.alloc());
+    subs.push(TaskId(4))?;
+    subs.push(TaskId(4_294_967_295))?;
     let sheet = Sheet {
         administrators: names(rt.alloc(), "a b")?,
         by_group: false,
@@ -327,6 +334,7 @@ fn a_sheet_may_have_each_value(rt: HostRuntime) -> Result<(), Fail> {
         stakeholders: names(rt.alloc(), "h i j")?,
         started: true,
         state: State::Failed,
+        subs: Ids::of(subs),
         task: TaskId(3),
         until: Some(Moment(4)),
         waits: Some(Moment(253_402_300_799_999)),

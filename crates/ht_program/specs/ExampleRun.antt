@@ -30,7 +30,7 @@ use Rattle.ht_program.specs.Words.{moment_of}
 -- ---- a legal history, and the exchanges
 
 abbrev create : Event
-create = Ask (record { 0 = 2000 }) (codes "p3") None (record { 0 = 0 }) (command.Create None [])
+create = Ask (record { 0 = 2000 }) (codes "p3") None (record { 0 = 0 }) (command.Create None [] None)
 
 abbrev created : Reply
 created = record { taken = 0; answer = Done (record { 0 = 1 }) Ready None }

@@ -15,10 +15,13 @@ use Rattle.ht_program.specs.Opening.{fault_line}
 use Rattle.ht_program.specs.Texts.{memory_text, refusal_text, refused_text, reply_status}
 use Rattle.ht_program.specs.Words.{are_options, moment_of, value_of}
 
-a_created_task : reply_status (Ask (record { 0 = 1000 }) (codes "p3") None (record { 0 = 0 }) (command.Create None [])) (Done (record { 0 = 1 }) Ready None) ≡ 201
+a_created_task : reply_status (Ask (record { 0 = 1000 }) (codes "p3") None (record { 0 = 0 }) (command.Create None [] None)) (Done (record { 0 = 1 }) Ready None) ≡ 201
 a_created_task = refl
 
-a_refused_create : reply_status (Ask (record { 0 = 1000 }) (codes "p3") None (record { 0 = 0 }) (command.Create None [])) (Refused (refusal.Limit Tasks)) ≡ 507
+a_sub_task_made : reply_status (Ask (record { 0 = 1000 }) (codes "anna") None (record { 0 = 1 }) (command.InstantiateSubTask (codes "x"))) (Done (record { 0 = 2 }) Ready None) ≡ 201
+a_sub_task_made = refl
+
+a_refused_create : reply_status (Ask (record { 0 = 1000 }) (codes "p3") None (record { 0 = 0 }) (command.Create None [] None)) (Refused (refusal.Limit Tasks)) ≡ 507
 a_refused_create = refl
 
 a_claimed_task : reply_status (Ask (record { 0 = 1000 }) (codes "p3") None (record { 0 = 1 }) command.Claim) (Done (record { 0 = 1 }) Reserved (Some (codes "p3"))) ≡ 200

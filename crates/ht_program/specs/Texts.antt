@@ -12,9 +12,10 @@ use Rattle.ht_base.specs.declared.reply.Answer.TheVariants.{Done, Refused}
 use Rattle.ht_base.specs.declared.reply.Refusal.{Refusal}
 use Rattle.ht_base.specs.declared.reply.Refusal.TheVariants as refusal
 
--- 201 where a task was created, also where that is told again
+-- 201 where a task was created, or a sub task made, also where that is told again
 abbrev pub done_status : Event → ℕ
-done_status (Ask at caller retry task (command.Create model input)) = 201
+done_status (Ask at caller retry task (command.Create model input activate_at)) = 201
+done_status (Ask at caller retry task (command.InstantiateSubTask sub)) = 201
 done_status e = 200
 
 -- the status of the answer to an event

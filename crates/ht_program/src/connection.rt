@@ -212,7 +212,7 @@ fn refuse_into(alloc: Global, refusal: Refusal, text: &mut Bytes) -> Result<u16,
     text_of(alloc, &reply, text)
 }
 
-// 201 in place of 200 where a task was created.
+// 201 in place of 200 where a task was created, or a sub task made.
 fn status_for(event: &Event, answer: &Answer, status: u16) -> u16
     requires status { status ≡ answer_status answer.now }
     requires known { IsReplyStatus status }
@@ -222,7 +222,7 @@ fn status_for(event: &Event, answer: &Answer, status: u16) -> u16
     match (event, answer) {
         (
             Event::Ask {
-                command: Command::Create { .. },
+                command: Command::Create { .. } | Command::InstantiateSubTask { .. },
                 ..
             },
             Answer::Done { .. },

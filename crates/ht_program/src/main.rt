@@ -4,6 +4,8 @@
 
 mod connection;
 mod ending;
+#[cfg(test)]
+mod family_tests;
 mod fault_lines;
 mod laws;
 mod numbers;

@@ -164,8 +164,8 @@ fn request(alloc: Global, line: &str) -> Result<String, Fail> {
     Ok(format!(in alloc; "{head}content-length: {length}\r\n\r\n{body}")?)
 }
 
-// Whether the office of the samples answers so.
-fn is_answered_so(alloc: Global, row: &str) -> Result<bool, Fail> {
+// Whether the office of these models and of the people of the samples answers so.
+pub(crate) fn is_answered_so(alloc: Global, models: &str, row: &str) -> Result<bool, Fail> {
     let mut input = String::new(alloc);
     let mut want = String::new(alloc);
     for line in row.lines() {
@@ -175,7 +175,7 @@ fn is_answered_so(alloc: Global, row: &str) -> Result<bool, Fail> {
         want.push_str(reply(alloc, status, text, false)?.as_str())?;
     }
     let office = Office {
-        texts: &[("m", MODELS), ("p", PEOPLE)],
+        texts: &[("m", models), ("p", PEOPLE)],
         failing: &[],
     };
     let line = "run --from 1000 --step 1000 --models m --people p";
@@ -186,7 +186,7 @@ fn is_answered_so(alloc: Global, row: &str) -> Result<bool, Fail> {
 #[test]
 fn tasks_are_worked_on(rt: HostRuntime) -> Result<(), Fail> {
     for row in ROWS.split("\n\n") {
-        assert!(rt; is_answered_so(rt.alloc(), row)?, "{row}");
+        assert!(rt; is_answered_so(rt.alloc(), MODELS, row)?, "{row}");
     }
     Ok(())
 }
