@@ -2,7 +2,7 @@ use Rattle.std.proofs.Common.{sym, subst}
 use Rattle.ht_tree.specs.Soundness.{IsSound}
 use Rattle.ht_tree.specs.Tables.{TablesOf}
 use Rattle.ht_tree.proofs.Steps.{planned_nothing}
-use Rattle.ht_tree.proofs.tests.found.Goals as goal
+use Rattle.ht_tree.proofs.assigning_tests.found.Goals as goal
 
 pub resolve-requires-clause-sound : goal.resolve-requires-clause-sound
 resolve-requires-clause-sound c =
