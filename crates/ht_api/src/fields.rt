@@ -97,17 +97,30 @@ impl Fields {
 pub(crate) fn fields_of(alloc: Global, asked: Asked, body: &[u8]) -> Result<Fields, ApiRefusal>
     ensures { Gives (fields_from asked (json_in body.now)) result }
 {
+    if is_bare(body) {
+        return fields_of_none(keys_of(asked));
+    }
     let value = value_of(alloc, body)?;
     fields_of_value(alloc, asked, &value)
 }
 
+// What a body without keys gives, in which a required one is missing.
+fn fields_of_none(rows: &[(Key, bool)]) -> Result<Fields, ApiRefusal>
+    ensures { Gives (taken rows.now (object no_members) no_fields) result }
+{
+    for (key, required) in rows {
+        if *required {
+            return Err(ApiRefusal::of_key(key.name()));
+        }
+    }
+    Ok(Fields::new())
+}
+
 fn value_of(alloc: Global, body: &[u8]) -> Result<Value, ApiRefusal>
+    requires { (length body.now == 0) ≡ false }
     ensures ok { IfOk result (λ v. json_in body.now ≡ Some (view v)) }
     ensures err { IfErr result (HasNoValue body.now) }
 {
-    if is_bare(body) {
-        return Ok(Value::Object(Map::new(alloc)));
-    }
     match Value::from_slice(alloc, body) {
         Ok(value) => Ok(value),
         Err(error) => {
