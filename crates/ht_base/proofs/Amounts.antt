@@ -132,7 +132,7 @@ is_read letter bytes value rest a tail high begins is text next = by a begins.re
     by None (Some digits) is_amount split value_is all is text next =
         absurd (next refl (ap mark (sym text ∙ split ∙ append_assoc digits (letter ∷ []) rest) ∙ mark_behind letter digits rest high (digits_of digits is_amount)))
 
-amount_small : (a : Option (List ℕ)) → IsAmount a → amount a ≤ 999999
+pub amount_small : (a : Option (List ℕ)) → IsAmount a → amount a ≤ 999999
 amount_small None is = omega arith
 amount_small (Some digits) is = number_small digits is
 

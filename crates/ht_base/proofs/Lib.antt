@@ -7,6 +7,7 @@ mod Indexing
 mod Leasts
 mod Naming
 mod Ordered
+mod PeriodBounds
 mod PeriodCuts
 mod PeriodTexts
 mod Putting
