@@ -5,6 +5,7 @@ mod Days
 mod DeclaredKinds
 mod Elements
 mod Examples
+mod FewDeadlines
 mod FirstOnes
 mod FittingParts
 mod InstantCuts
@@ -16,6 +17,7 @@ mod ModelLists
 mod OwnParts
 mod Passing
 pub mod PublicLaws
+mod Reassigned
 mod Repeated
 mod Shapes
 mod SingleModels

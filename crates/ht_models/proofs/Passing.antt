@@ -27,10 +27,12 @@ use Rattle.ht_models.specs.Shown.{model_of}
 use Rattle.ht_models.specs.Limits.{has_too_large_tree}
 use Rattle.ht_models.specs.SubEntries.{AreInOrder}
 use Rattle.ht_models.specs.SubTrees.{AreCounted, TreeCounts, is_too_deep, names_of, size_of, sub_places}
+use Rattle.ht_models.proofs.FewDeadlines.{few_kept}
 use Rattle.ht_models.proofs.FittingParts.{are_kinded, are_mapped}
 use Rattle.ht_models.proofs.Lookups.{names-map}
 use Rattle.ht_models.proofs.ModelLists.{one_list, same_length, same_names}
 use Rattle.ht_models.proofs.OwnParts.{declare_once}
+use Rattle.ht_models.proofs.Reassigned.{reassign_owned}
 use Rattle.ht_models.proofs.Shapes.{none_misshapen}
 use Rattle.ht_models.proofs.SizedTrees.{are_sized}
 use Rattle.ht_models.proofs.SubPlaces.{counted_size, some_size}
@@ -148,6 +150,8 @@ kept t m some limit twice unknown contradiction order models kinds index =
       parts = declare_once t (map model_of m.models.items) twice are;
       kinds = are_kinded t m.models.items contradiction are kinds;
       inputs = are_mapped t (map model_of m.models.items) contradiction are order;
+      owned = reassign_owned t (map model_of m.models.items) contradiction are;
+      deadlines = few_kept t limit m.models.items are;
       some = omega arith;
       few = omega arith;
     }

@@ -6,6 +6,7 @@ use Rattle.ht_models.specs.declared.models.Models.TheInside.{Inside}
 use Rattle.ht_models.specs.DeclaredParts.{DeclareOnce}
 use Rattle.ht_models.specs.Kinded.{IsKinded}
 use Rattle.ht_models.specs.MappedInputs.{AreMapped}
+use Rattle.ht_models.specs.Reassigning.{ReassignOwned}
 use Rattle.ht_models.specs.Refusals.{most}
 use Rattle.ht_models.specs.Shown.{model_of}
 use Rattle.ht_models.specs.TreeSizes.{AreSized}
@@ -21,5 +22,7 @@ pub record IsKept (m : Inside) : Type 0 where
   pub parts : DeclareOnce (map model_of m.models.items)
   pub kinds : All IsKinded m.models.items
   pub inputs : AreMapped (map model_of m.models.items)
+  pub owned : ReassignOwned (map model_of m.models.items)
+  pub deadlines : All (λ m. length m.deadlines.items ≤ 4) m.models.items
   pub some : 1 ≤ length m.models.items
   pub few : length m.models.items ≤ most

@@ -20,6 +20,7 @@ pub mod ModelEntries
 pub mod ModelsText
 pub mod Parts
 pub mod Reading
+pub mod Reassigning
 pub mod Refusals
 pub mod Repeats
 pub mod SetOutputs

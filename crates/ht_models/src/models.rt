@@ -7,6 +7,7 @@ ghost use Rattle.ht_models.specs.Kinded.{IsKinded};
 ghost use Rattle.ht_models.specs.MappedInputs.{AreMapped};
 ghost use Rattle.ht_models.specs.Model.{ModelOf, names};
 ghost use Rattle.ht_models.specs.Reading.{AreModels, Reads};
+ghost use Rattle.ht_models.specs.Reassigning.{ReassignOwned};
 ghost use Rattle.ht_models.specs.Refusals.{model_refusals};
 ghost use Rattle.ht_models.specs.SetOutputs.{SetOutputs};
 ghost use Rattle.ht_models.specs.Shown.{model_of};
@@ -111,6 +112,8 @@ impl Models {
         ensures parts { DeclareOnce self.now }
         ensures inputs { AreMapped self.now }
         ensures outputs { SetOutputs self.now }
+        ensures owned { ReassignOwned self.now }
+        ensures deadlines { length result.now.deadlines.items ≤ 4 }
     {
         &self.models[place as usize]
     }
