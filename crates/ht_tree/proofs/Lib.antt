@@ -3,12 +3,17 @@ mod Again
 mod Cloning
 mod Coming
 mod Counting
+mod DueRows
+mod DuesInStep
 mod Families
 mod Fitting
 mod HeldGiven
 mod Indexing
+mod LeastDues
 mod Mapped
+mod OneByOne
 mod PartsGiven
+mod Passed
 mod Places
 mod Plain
 mod Planning

@@ -1,7 +1,7 @@
 -- That tables stay sound where each row is changed in its place.
 use Rattle.std.proofs.Common.{◌≡◌, ℕ, zero, suc, List, [], ◌∷◌, length, map, Option, Some, None, option_map, refl, sym, ap, ◌∙◌, subst, arith}
-use Rattle.std.specs.Prelude.{slice_get}
 use Rattle.std.proofs.lemmas.Option.{slice_get-map}
+use Rattle.ht_base.specs.declared.task_id.TaskId.{TaskId}
 use Rattle.ht_tree.specs.declared.row.Row.{Row}
 use Rattle.ht_tree.specs.Families.{HaveEndedBelow}
 use Rattle.ht_tree.specs.Rows.{row_at}
@@ -9,6 +9,7 @@ use Rattle.ht_tree.specs.Soundness.{IsSound, IsSoundRow}
 use Rattle.ht_tree.specs.Tables.{TablesOf, with_rows}
 use Rattle.ht_tree.proofs.Families.{Alike, families_alike, length_alike, standing, total_alike}
 use Rattle.ht_tree.proofs.Slots.{slots_of_more}
+use Rattle.ht_tree.proofs.Sounding.{notices_of_more}
 
 pub row_at-map : (f : Row → Row) (rows : List Row) (task : ℕ) → row_at task (map f rows) ≡ option_map f (row_at task rows)
 row_at-map f rows zero = refl
@@ -41,6 +42,7 @@ mapped_sound u f same fine ended sound =
           let P : Row → Type 0 = λ r. IsSoundRow u r in
           subst P old.2 (fine old.0 (sound.rows_sound task old.0 old.1));
       families = families_alike u.models u.rows (map f u.rows) sound.families alike ended;
+      notices_sound = notices_of_more u.models (length u.people.persons) u.rows (map f u.rows) u.notices (λ task row at. (f row, row_at-map f u.rows task ∙ ap (option_map f) at, ap (λ (b : ℕ × (Option (TaskId × ℕ) × ℕ)). b.1.1) (same row))) sound.notices_sound;
       slots_ascend = sound.slots_ascend;
       slots_sound = let long = length_alike u.rows (map f u.rows) alike in slots_of_more u.people (length u.rows) (length (map f u.rows)) u.slots (omega arith) sound.slots_sound;
       last_within = sound.last_within;

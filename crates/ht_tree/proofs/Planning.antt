@@ -5,6 +5,7 @@ use Rattle.std.proofs.lemmas.Bool.Decides.{nat_tests}
 use Rattle.std.proofs.lemmas.List.{take-append-le}
 use Rattle.std.proofs.lemmas.Option.{slice_get_within}
 use Rattle.ht_models.specs.Model.{ModelOf}
+use Rattle.ht_tree.specs.declared.notice.Notice.{Notice}
 use Rattle.ht_tree.specs.declared.plan.Noted.{Noted}
 use Rattle.ht_tree.specs.declared.plan.Totals.{Totals}
 use Rattle.ht_tree.specs.declared.row.Row.{Row}
@@ -95,16 +96,16 @@ nothing_put t p n fit is are =
 
 -- ---- rows that are put
 
--- a plan of these rows, marked at a place, with what is noted now and at the mark
-abbrev pub plan_with : List Row → ℕ → Noted → Noted → PlanOf
-plan_with rows mark noted marked = record { changes = changes_of rows noted.totals noted.slot; marked = changes_of (take mark rows) marked.totals marked.slot }
+-- a plan of these rows, marked at a place, with what is noted and what is told now and at the mark
+abbrev pub plan_with : List Row → ℕ → Noted → Noted → List Notice → List Notice → PlanOf
+plan_with rows mark noted marked told told_before = record { changes = changes_of rows told noted.totals noted.slot; marked = changes_of (take mark rows) told_before marked.totals marked.slot }
 
 -- a row of a plan is that which is put last of its task, or that of the tables
 pub row_after : (t : TablesOf) (p : PlanOf) (task : ℕ) (o : Option Row) → IsPlanOf t p → o ≡ last_of task (p.changes).rows → later_or o (row_at task t.rows) ≡ row_at task (planned t p).rows
 row_after t p task o fit is = ap (λ (x : Option Row). later_or x (row_at task t.rows)) is ∙ sym (row_at-fold t t.rows (p.changes).rows task fit.changes_fit)
 
-module _ (t : TablesOf) (old : PlanOf) (rows : List Row) (mark : ℕ) (noted marked : Noted) (view : plan_with rows mark noted marked ≡ old) (low : mark ≤ length rows) (fit : IsPlanOf t old) where
-  fits_with : IsPlanOf t (plan_with rows mark noted marked)
+module _ (t : TablesOf) (old : PlanOf) (rows : List Row) (mark : ℕ) (noted marked : Noted) (told told_before : List Notice) (view : plan_with rows mark noted marked told told_before ≡ old) (low : mark ≤ length rows) (fit : IsPlanOf t old) where
+  fits_with : IsPlanOf t (plan_with rows mark noted marked told told_before)
   fits_with = let P : PlanOf → Type 0 = λ p. IsPlanOf t p in subst P (sym view) fit
 
   -- other rows, of which those up to the mark are the same
@@ -118,15 +119,15 @@ module _ (t : TablesOf) (old : PlanOf) (rows : List Row) (mark : ℕ) (noted mar
     abbrev pub now_with : Noted
     now_with = record noted { totals = Some totals }
 
-    goes_to : (news : List Row) → take mark news ≡ take mark rows → Follow t t.rows news → fold put_in t.rows news ≡ put_in (fold put_in t.rows rows) row → Goes t old (plan_with news mark now_with marked) (planned t old) (with_row (planned t old) row)
+    goes_to : (news : List Row) → take mark news ≡ take mark rows → Follow t t.rows news → fold put_in t.rows news ≡ put_in (fold put_in t.rows rows) row → Goes t old (plan_with news mark now_with marked told told_before) (planned t old) (with_row (planned t old) row)
     goes_to news front follow after =
-        let G : PlanOf → Type 0 = λ p. Goes t p (plan_with news mark now_with marked) (planned t p) (with_row (planned t p) row) in
+        let G : PlanOf → Type 0 = λ p. Goes t p (plan_with news mark now_with marked told told_before) (planned t p) (with_row (planned t p) row) in
         let T : List Row → Type 0 = λ l. AreTotals t l totals in
         let M : List Row → Type 0 = λ l. Follow t t.rows l in
         let C : List Row → Type 0 = λ l. AreCounted t l marked.totals in
         subst G view (record {
           from = refl;
-          to = ap (λ (l : List Row). record (planned t (plan_with rows mark noted marked)) { rows = l }) after;
+          to = ap (λ (l : List Row). record (planned t (plan_with rows mark noted marked told told_before)) { rows = l }) after;
           fits = record {
             changes_fit = follow;
             changes_counted = subst T (sym after) counted_with;
@@ -134,26 +135,26 @@ module _ (t : TablesOf) (old : PlanOf) (rows : List Row) (mark : ℕ) (noted mar
             marked_counted = subst C (sym front) fits_with.marked_counted;
           };
           slot = refl;
-          marked = ap (λ (l : List Row). changes_of l marked.totals marked.slot) front;
+          marked = ap (λ (l : List Row). changes_of l told_before marked.totals marked.slot) front;
         })
 
-    pushed_goes : Goes t old (plan_with (rows ++ row ∷ []) mark now_with marked) (planned t old) (with_row (planned t old) row)
+    pushed_goes : Goes t old (plan_with (rows ++ row ∷ []) mark now_with marked told told_before) (planned t old) (with_row (planned t old) row)
     pushed_goes = goes_to (rows ++ row ∷ []) (take-append-le mark rows (row ∷ []) low) (follow_push t t.rows rows row fits_with.changes_fit next_with fits) (fold_push t.rows rows row)
 
-    set_goes : (place : ℕ) → last_place row.task.0 (tasks_of rows) ≡ Some place → mark ≤ place → Goes t old (plan_with (slice_set rows place row) mark now_with marked) (planned t old) (with_row (planned t old) row)
+    set_goes : (place : ℕ) → last_place row.task.0 (tasks_of rows) ≡ Some place → mark ≤ place → Goes t old (plan_with (slice_set rows place row) mark now_with marked told told_before) (planned t old) (with_row (planned t old) row)
     set_goes place last behind =
         let there = last_there row.task.0 rows (Some place) last in
         goes_to (slice_set rows place row) (take_set rows mark place row behind) (follow_set t t.rows rows place there.0 row fits_with.changes_fit there.1 (sym there.3) fits) (fold_set t t.rows rows place there.0 row fits_with.changes_fit last there.1 there.3 fits next_with)
 
-    past_goes : (o : Option ℕ) → last_place row.task.0 (tasks_of rows) ≡ o → Goes t old (plan_with (set_past mark rows row o) mark now_with marked) (planned t old) (with_row (planned t old) row)
+    past_goes : (o : Option ℕ) → last_place row.task.0 (tasks_of rows) ≡ o → Goes t old (plan_with (set_past mark rows row o) mark now_with marked told told_before) (planned t old) (with_row (planned t old) row)
     past_goes None last = pushed_goes
     past_goes (Some place) last = here (nat_le mark place) refl
       where
-        here : (b : Bool) → nat_le mark place ≡ b → Goes t old (plan_with (if b then slice_set rows place row else rows ++ row ∷ []) mark now_with marked) (planned t old) (with_row (planned t old) row)
+        here : (b : Bool) → nat_le mark place ≡ b → Goes t old (plan_with (if b then slice_set rows place row else rows ++ row ∷ []) mark now_with marked told told_before) (planned t old) (with_row (planned t old) row)
         here true is = set_goes place last (let h : nat_le mark place ≡ true = is in grind (arith, nat_tests))
         here false is = pushed_goes
 
-    pub put_goes : Goes t old (plan_with (put_past mark rows row) mark now_with marked) (planned t old) (with_row (planned t old) row)
+    pub put_goes : Goes t old (plan_with (put_past mark rows row) mark now_with marked told told_before) (planned t old) (with_row (planned t old) row)
     put_goes = past_goes (last_place row.task.0 (tasks_of rows)) refl
 
 -- ---- a row that is taken, to be put again
@@ -203,8 +204,8 @@ counted_emptied t rows news (Some n) task row at same after some are =
     let P : List Row → Type 0 = λ l. AreTotals t l n in
     subst P (sym after) (emptied_totals t (fold put_in t.rows rows) n task row at same are)
 
-module _ (t : TablesOf) (old : PlanOf) (rows news : List Row) (mark : ℕ) (noted marked : Noted) (view : plan_with rows mark noted marked ≡ old) (fit : IsPlanOf t old) (task : ℕ) (row : Row) (lent : IsLent mark rows news task row) where
-  fits_lent : IsPlanOf t (plan_with rows mark noted marked)
+module _ (t : TablesOf) (old : PlanOf) (rows news : List Row) (mark : ℕ) (noted marked : Noted) (told told_before : List Notice) (view : plan_with rows mark noted marked told told_before ≡ old) (fit : IsPlanOf t old) (task : ℕ) (row : Row) (lent : IsLent mark rows news task row) where
+  fits_lent : IsPlanOf t (plan_with rows mark noted marked told told_before)
   fits_lent = let P : PlanOf → Type 0 = λ p. IsPlanOf t p in subst P (sym view) fit
 
   last_row : (last_of task rows ≡ Some row) × (row.task.0 ≡ task)
@@ -232,7 +233,7 @@ module _ (t : TablesOf) (old : PlanOf) (rows news : List Row) (mark : ℕ) (note
   front : take mark news ≡ take mark rows
   front = ap (λ (l : List Row). take mark l) lent.left ∙ take_set rows mark lent.place (emptied row) lent.behind
 
-  fits_news : IsPlanOf t (plan_with news mark noted marked)
+  fits_news : IsPlanOf t (plan_with news mark noted marked told told_before)
   fits_news =
       let F : List Row → Type 0 = λ l. Follow t t.rows l in
       let C : List Row → Type 0 = λ l. AreCounted t l marked.totals in
@@ -258,20 +259,20 @@ module _ (t : TablesOf) (old : PlanOf) (rows news : List Row) (mark : ℕ) (note
       let max_is : max (length (fold put_in t.rows rows)) row.task.0 ≡ length (fold put_in t.rows rows) = omega arith in
       ap (λ (l : List Row). length l) after ∙ length-put_in (fold put_in t.rows rows) (emptied row) next_emptied ∙ max_is
 
-  taken_with : IsTaken t (plan_with rows mark noted marked) (plan_with news mark noted marked) task row
+  taken_with : IsTaken t (plan_with rows mark noted marked told told_before) (plan_with news mark noted marked told told_before) task row
   taken_with = record {
     there = row_is;
     fits = row_fits;
     lends = record {
       fits = fits_news;
       slot = refl;
-      marked = ap (λ (l : List Row). changes_of l marked.totals marked.slot) front;
+      marked = ap (λ (l : List Row). changes_of l told_before marked.totals marked.slot) front;
       next = λ r same next. (next.0, let high = next.1 in let long = same_long in omega arith);
       again = λ r same next.
-          ap (λ (l : List Row). record (planned t (plan_with rows mark noted marked)) { rows = put_in l r }) after
-          ∙ ap (λ (l : List Row). record (planned t (plan_with rows mark noted marked)) { rows = l }) (put_twice (fold put_in t.rows rows) (emptied row) r next_emptied (same ∙ sym last_row.1));
+          ap (λ (l : List Row). record (planned t (plan_with rows mark noted marked told told_before)) { rows = put_in l r }) after
+          ∙ ap (λ (l : List Row). record (planned t (plan_with rows mark noted marked told told_before)) { rows = l }) (put_twice (fold put_in t.rows rows) (emptied row) r next_emptied (same ∙ sym last_row.1));
     };
   }
 
-  pub taken : IsTaken t old (plan_with news mark noted marked) task row
-  taken = let P : PlanOf → Type 0 = λ p. IsTaken t p (plan_with news mark noted marked) task row in subst P view taken_with
+  pub taken : IsTaken t old (plan_with news mark noted marked told told_before) task row
+  taken = let P : PlanOf → Type 0 = λ p. IsTaken t p (plan_with news mark noted marked told told_before) task row in subst P view taken_with

@@ -1,14 +1,14 @@
 -- How plans go on, step by step.
-use Rattle.std.proofs.Common.{◌≡◌, ◌≤◌, ℕ, List, Option, None, refl, sym, ap, subst, ◌∙◌}
+use Rattle.std.proofs.Common.{◌≡◌, ◌≤◌, ℕ, List, [], ◌∷◌, Option, None, append_assoc, refl, sym, ap, subst, ◌∙◌}
 use Rattle.std.proofs.lemmas.List.{append-nil}
 use Rattle.ht_base.specs.Moment.{last_moment}
 use Rattle.ht_tree.specs.declared.notice.Notice.{Notice}
 use Rattle.ht_tree.specs.declared.row.Row.{Row}
 use Rattle.ht_tree.specs.declared.slot.Slot.{Slot}
-use Rattle.ht_tree.specs.Plans.{Goes, IsNext, IsPlanOf, Lends, PlanOf, committed, keeping, no_plan, planned, slots_after}
+use Rattle.ht_tree.specs.Plans.{Goes, IsNext, IsPlanOf, Lends, PlanOf, committed, keeping, no_plan, notifying, planned, slots_after}
 use Rattle.ht_tree.specs.Slots.{slots_with}
 use Rattle.ht_tree.specs.Soundness.{IsSound, KeepsSound}
-use Rattle.ht_tree.specs.Tables.{TablesOf, with_row, with_slot}
+use Rattle.ht_tree.specs.Tables.{TablesOf, with_notice, with_row, with_slot}
 use Rattle.ht_tree.proofs.Sounding.{sound_at}
 
 -- a plan that is left as it is
@@ -56,6 +56,14 @@ put_again t old taken new row lends next goes = record {
   slot = goes.slot ∙ lends.slot;
   marked = goes.marked ∙ lends.marked;
 }
+
+-- ---- a notification that is added
+
+pub notifying_planned : (t : TablesOf) (p : PlanOf) (notice : Notice) → planned t (notifying p notice) ≡ with_notice (planned t p) notice
+notifying_planned t p notice = ap (λ (l : List Notice). record (planned t p) { notices = l }) (sym (append_assoc t.notices (p.changes).notices (notice ∷ [])))
+
+pub notifying_fits : (t : TablesOf) (p : PlanOf) (notice : Notice) → IsPlanOf t p → IsPlanOf t (notifying p notice)
+notifying_fits t p notice fit = record { changes_fit = fit.changes_fit; changes_counted = fit.changes_counted; marked_fit = fit.marked_fit; marked_counted = fit.marked_counted }
 
 -- ---- a reply that is kept
 

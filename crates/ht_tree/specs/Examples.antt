@@ -11,7 +11,8 @@ use Rattle.ht_expr.specs.declared.operator.Operator.TheVariants as operator
 use Rattle.ht_expr.specs.Kinds.{Declared}
 use Rattle.ht_expr.specs.Trees.{Tree, binary, choice, everybody, except, group, initiator, integer, intersect, negative, nobody, part, priority, truth, union, user, when}
 use Rattle.ht_models.specs.BuiltIn.{plain_model}
-use Rattle.ht_models.specs.Model.{ModelOf}
+use Rattle.ht_models.specs.declared.deadlines.DeadlineKind.TheVariants.{Completion}
+use Rattle.ht_models.specs.Model.{DeadlineOf, ModelOf}
 use Rattle.ht_people.specs.declared.entries.PersonEntry.{PersonEntry}
 use Rattle.ht_people.specs.Directory.{DirectoryOf}
 use Rattle.ht_tree.specs.declared.row.Row.{Row}
@@ -25,7 +26,8 @@ use Rattle.ht_tree.specs.declared.slot.Kept.TheVariants as kept
 use Rattle.ht_tree.specs.declared.slot.Slot.{Slot}
 use Rattle.ht_base.specs.declared.operation.Op.TheVariants as op
 use Rattle.ht_tree.specs.Plans.{ChangesOf, planned}
-use Rattle.ht_tree.specs.Tables.{TablesOf, empty_tables, model_at, model_named, task_row}
+use Rattle.ht_tree.specs.Soundness.{has_escalation}
+use Rattle.ht_tree.specs.Tables.{TablesOf, empty_tables, model_at, model_named, notice_at, task_row}
 
 abbrev person : List ℕ → PersonEntry
 person name = record { name = name; operator = false }
@@ -228,6 +230,25 @@ told = record { task = record { 0 = 1 }; deadline = codes "one"; escalation = co
 -- notifications stand behind those that are there
 a_notice : (planned (record nothing_yet { notices = record told { recipients = 3 ∷ [] } ∷ [] }) (record { changes = record (puts []) { notices = told ∷ [] }; marked = puts [] })).notices ≡ record told { recipients = 3 ∷ [] } ∷ told ∷ []
 a_notice = refl
+
+the_first_notice : notice_at 1 (told ∷ []) ≡ Some told
+the_first_notice = refl
+
+no_notice_zero : notice_at 0 (told ∷ []) ≡ None
+no_notice_zero = refl
+
+-- a model with one deadline, of one escalation
+abbrev telling : DeadlineOf
+telling = record { name = codes "one"; kind = Completion; period = Some 10000; at = None; part = None; escalations = record { name = codes "tell"; when = truth true; notify = Some everybody; reassign = None } ∷ [] }
+
+its_escalation : has_escalation (telling ∷ []) told ≡ true
+its_escalation = refl
+
+another_escalation : has_escalation (telling ∷ []) (record told { escalation = codes "move" }) ≡ false
+another_escalation = refl
+
+another_deadline : has_escalation (telling ∷ []) (record told { deadline = codes "two" }) ≡ false
+another_deadline = refl
 
 abbrev slot : ℕ → ℕ → ℕ → Slot
 slot person device number = record { person = person; device = device; number = number; op = op.Claim; task = record { 0 = 1 }; kept = kept.Done (record { 0 = 1 }) Ready None }

@@ -5,6 +5,7 @@ use Rattle.ht_tree.specs.declared.notice.Notice.{Notice}
 use Rattle.ht_tree.specs.declared.plan.Totals.{Totals}
 use Rattle.ht_tree.specs.declared.row.Row.{Row}
 use Rattle.ht_tree.specs.declared.slot.Slot.{Slot}
+use Rattle.ht_tree.specs.RowDues.{changed_dues}
 use Rattle.ht_tree.specs.Rows.{put_in, row_at}
 use Rattle.ht_tree.specs.Sizes.{top_size, total_size}
 use Rattle.ht_tree.specs.Slots.{slots_with}
@@ -23,16 +24,20 @@ pub record PlanOf : Type 0 where
   pub changes : ChangesOf
   pub marked : ChangesOf
 
-abbrev pub changes_of : List Row → Option Totals → Option Slot → ChangesOf
-changes_of rows totals slot = record { rows = rows; notices = []; totals = totals; slot = slot }
+abbrev pub changes_of : List Row → List Notice → Option Totals → Option Slot → ChangesOf
+changes_of rows notices totals slot = record { rows = rows; notices = notices; totals = totals; slot = slot }
 
 -- nothing is changed
 abbrev pub no_plan : PlanOf
-no_plan = record { changes = changes_of [] None None; marked = changes_of [] None None }
+no_plan = record { changes = changes_of [] [] None None; marked = changes_of [] [] None None }
 
 -- with this reply as the one that is kept
 abbrev pub keeping : PlanOf → Slot → PlanOf
 keeping p slot = record p { changes = record p.changes { slot = Some slot } }
+
+-- with this notification behind the others
+abbrev pub notifying : PlanOf → Notice → PlanOf
+notifying p notice = record p { changes = record p.changes { notices = (p.changes).notices ++ notice ∷ [] } }
 
 -- ---- after the changes
 
@@ -113,6 +118,12 @@ pub record Replaces (rows : List Row) (row : Row) : Type 0 where
 abbrev pub new_rows : TablesOf → PlanOf → ℕ
 new_rows t p = length (planned t p).rows - length t.rows
 
--- the tables have all the memory that the plan's commit takes
+-- the dues of the changed rows are at hand, as they are and as they would be, with room for the latter
+pub record AreDuesPrepared (t : RoomyTables) (p : PlanOf) : Type 0 where
+  pub gone : t.gone ≡ changed_dues (t.tables).models (t.tables).rows (p.changes).rows
+  pub news : t.news ≡ changed_dues (t.tables).models (planned t.tables p).rows (p.changes).rows
+  pub room : length t.news ≤ t.due_room
+
+-- the tables have all the memory that the plan's commit takes, and know what it changes of the dues
 abbrev pub IsPrepared : RoomyTables → PlanOf → Type 0
-IsPrepared t p = (new_rows t.tables p ≤ t.room) × (IsTrue (is_some (p.changes).slot) → 1 ≤ t.slot_room)
+IsPrepared t p = (new_rows t.tables p ≤ t.room) × (IsTrue (is_some (p.changes).slot) → 1 ≤ t.slot_room) × AreDuesPrepared t p × (length (p.changes).notices ≤ t.notice_room)

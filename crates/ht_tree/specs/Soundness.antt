@@ -1,8 +1,8 @@
 -- What always holds of the tables: of each row, in groups by the fields that they speak of, and of
 -- all rows together.
-use Rattle.std.specs.Prelude.{◌≡◌, ℕ, ◌+◌, ◌<◌, ◌≤◌, nat_lt, Bool, true, false, ◌&&◌, ◌||◌, List, [], ◌∷◌, length, slice_get, Option, Some, is_some, IsTrue, IfSome}
+use Rattle.std.specs.Prelude.{◌≡◌, ℕ, ◌+◌, ◌<◌, ◌≤◌, bytes_eq, nat_lt, Bool, true, false, ◌&&◌, ◌||◌, List, [], ◌∷◌, length, slice_get, Option, Some, is_some, IsTrue, IfSome}
 use Rattle.std.specs.Option.{option_map_or}
-use Rattle.std.specs.List.{All, AllByRecursion, list_all}
+use Rattle.std.specs.List.{All, AllByRecursion, list_all, list_any}
 use Rattle.ht_base.specs.declared.moment.Moment.{Moment}
 use Rattle.ht_base.specs.declared.state.State.{State}
 use Rattle.ht_base.specs.declared.state.State.TheVariants.{Created, InProgress, SuspendedInProgress, Completed, Failed, Error, Exited, Obsolete}
@@ -19,10 +19,11 @@ use Rattle.ht_expr.specs.declared.kinds.Side.TheVariants.{Input, Output}
 use Rattle.ht_expr.specs.Environment.{may_be}
 use Rattle.ht_expr.specs.Kinds.{Declared, declared_kind}
 use Rattle.ht_models.specs.Kinded.{parts_of}
-use Rattle.ht_models.specs.Model.{ModelOf}
+use Rattle.ht_models.specs.Model.{DeadlineOf, ModelOf}
 use Rattle.ht_rules.specs.Sets.{states_of}
 use Rattle.ht_rules.specs.States.{created, owned, suspended}
 use Rattle.ht_tree.specs.declared.comments.Comment.{Comment}
+use Rattle.ht_tree.specs.declared.notice.Notice.{Notice}
 use Rattle.ht_tree.specs.declared.row.Row.{Row}
 use Rattle.ht_tree.specs.Families.{AreFamilies}
 use Rattle.ht_tree.specs.Rows.{row_at}
@@ -174,6 +175,21 @@ pub record FitsIn (models : List ModelOf) (persons : ℕ) (row : Row) : Type 0 w
 abbrev pub Fits : TablesOf → Row → Type 0
 Fits t row = FitsIn t.models (length t.people.persons) row
 
+-- ---- a notification is sound
+
+-- an escalation of this name is one of a deadline of that name
+abbrev pub has_escalation : List DeadlineOf → Notice → Bool
+has_escalation deadlines n = list_any (λ d. bytes_eq d.name n.deadline && list_any (λ e. bytes_eq e.name n.escalation) d.escalations) deadlines
+
+-- its task is there, and the task's model has the escalation; the recipients are persons of as many
+pub record IsSoundNotice (models : List ModelOf) (persons : ℕ) (rows : List Row) (n : Notice) : Type 0 where
+  pub row : Row
+  pub there : row_at n.task.0 rows ≡ Some row
+  pub escalation : option_map_or (λ m. has_escalation m.deadlines n) (slice_get models row.model) false ≡ true
+  pub recipients : AllBelow persons n.recipients
+  pub recipients_ascend : Ascends n.recipients
+  pub moment_within : n.moment.0 ≤ last_moment
+
 -- ---- tables are sound
 
 pub record IsSound (t : TablesOf) : Type 0 where
@@ -181,6 +197,7 @@ pub record IsSound (t : TablesOf) : Type 0 where
   pub numbered : (task : ℕ) (row : Row) → row_at task t.rows ≡ Some row → row.task.0 ≡ task
   pub rows_sound : (task : ℕ) (row : Row) → row_at task t.rows ≡ Some row → IsSoundRow t row
   pub families : AreFamilies t.models t.rows
+  pub notices_sound : AllByRecursion (IsSoundNotice t.models (length t.people.persons) t.rows) t.notices
   -- there is one slot at most of each device of a person
   pub slots_ascend : AscendBy slot_cmp t.slots
   pub slots_sound : AllByRecursion (IsSoundSlot t.people (length t.rows)) t.slots

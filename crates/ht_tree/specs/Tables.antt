@@ -1,7 +1,8 @@
 -- What the tables hold: models and people, the row of each task, the notifications, the replies that
 -- are kept for repeated commands, and the moment of the last accepted command.
-use Rattle.std.specs.Prelude.{ℕ, List, [], Option, slice_get}
+use Rattle.std.specs.Prelude.{ℕ, zero, suc, List, [], ◌∷◌, ◌++◌, Option, None, slice_get}
 use Rattle.ht_base.specs.Places.{place_in}
+use Rattle.ht_due.specs.declared.due.Due.{Due}
 use Rattle.ht_models.specs.Model.{ModelOf, names}
 use Rattle.ht_people.specs.Directory.{DirectoryOf}
 use Rattle.ht_tree.specs.declared.notice.Notice.{Notice}
@@ -18,11 +19,16 @@ pub record TablesOf : Type 0 where
   pub slots : List Slot
   pub last : ℕ
 
--- and how many more rows and slots they take without memory
+-- and how many more rows, notifications, slots and dues they take without memory, and which dues go and come with the
+-- plan that was prepared last
 pub record RoomyTables : Type 0 where
   pub tables : TablesOf
   pub room : ℕ
+  pub notice_room : ℕ
   pub slot_room : ℕ
+  pub due_room : ℕ
+  pub gone : List Due
+  pub news : List Due
 
 -- no tasks yet
 abbrev pub empty_tables : List ModelOf → DirectoryOf → TablesOf
@@ -37,6 +43,11 @@ directory t = t.people
 -- the row of a task, by its number
 abbrev pub task_row : TablesOf → ℕ → Option Row
 task_row t task = row_at task t.rows
+
+-- the notification of a number, which counts from 1
+abbrev pub notice_at : ℕ → List Notice → Option Notice
+notice_at zero notices = None
+notice_at (suc i) notices = slice_get notices i
 
 -- the last numbered command of a person's device
 abbrev pub device_slot : TablesOf → ℕ → ℕ → Option Slot
@@ -75,6 +86,10 @@ with_row t row = record t { rows = put_in t.rows row }
 -- with these rows
 abbrev pub with_rows : TablesOf → List Row → TablesOf
 with_rows t rows = record t { rows = rows }
+
+-- with this notification behind the others
+abbrev pub with_notice : TablesOf → Notice → TablesOf
+with_notice t notice = record t { notices = t.notices ++ notice ∷ [] }
 
 -- with this slot as that of its device
 abbrev pub with_slot : TablesOf → Slot → TablesOf

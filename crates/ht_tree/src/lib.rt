@@ -6,17 +6,23 @@ mod activating;
 mod assigning;
 #[cfg(test)]
 mod assigning_tests;
+mod changed_dues;
 mod comments;
 mod creating;
+#[cfg(test)]
+mod due_tests;
+mod exchanging;
 mod family;
 #[cfg(test)]
 mod family_tests;
 mod giving;
 mod index;
+mod least_dues;
 mod notice;
 mod plan;
 mod puts;
 mod row;
+mod row_dues;
 mod sizes;
 mod slot;
 mod tables;
@@ -26,10 +32,12 @@ mod tests;
 
 pub use activating::{owner_by, state_by};
 pub use assigning::{env, resolve};
+pub use changed_dues::{dues_after, dues_behind, is_due};
 pub use comments::{Comment, Comments};
 pub use creating::{CreateRefusal, create};
 pub use family::sub_tasks;
 pub use giving::{refused_part, values_given};
+pub use least_dues::{least_changed, least_due, lesser};
 pub use notice::Notice;
 pub use plan::Plan;
 pub use row::Row;

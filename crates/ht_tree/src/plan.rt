@@ -1,5 +1,6 @@
 ghost use Rattle.std.specs.Prelude.{◌≡◌, ◌<◌, ◌^◌, IfOk, IfSome, IsSome, Some, OnOk, OnErr, is_some, length, option_map};
-ghost use Rattle.ht_tree.specs.Plans.{AreTotals, Goes, IsNext, IsPlanOf, Lends, keeping, new_rows, no_plan, planned};
+ghost use Rattle.ht_tree.specs.Places.{last_of};
+ghost use Rattle.ht_tree.specs.Plans.{AreTotals, Goes, IsNext, IsPlanOf, Lends, keeping, new_rows, no_plan, notifying, planned};
 ghost use Rattle.ht_tree.specs.Roles as spec;
 ghost use Rattle.ht_tree.specs.Rows.{put_in};
 ghost use Rattle.ht_tree.specs.Sizes.{total_size};
@@ -8,18 +9,20 @@ ghost use Rattle.ht_tree.specs.Tables.{task_row, with_row};
 
 use crate::puts::Puts;
 use crate::sizes::resized;
-use crate::{Row, Slot, Tables};
+use crate::{Notice, Row, Slot, Tables};
 use ht_base::{Memory, Person, Roles, TaskId};
 use std::alloc::Global;
 use std::marker::Model;
 
-/// A planned change of the tables: the rows that are put, of which the last of a task counts, and the
-/// reply that is kept. It can go back to its last mark. What it is asked costs at most a logarithm of
+/// A planned change of the tables: the rows that are put, of which the last of a task counts, the
+/// notifications that are added, and the reply that is kept. It can go back to its last mark. What it is asked costs at most a logarithm of
 /// the number of its rows.
 #[derive(Drop)]
 pub struct Plan {
     puts: Puts,
     mark: usize,
+    notices: Vec<Notice>,
+    notice_mark: usize,
     noted: Noted,
     marked: Noted,
 }
@@ -63,6 +66,8 @@ impl Plan {
         Ok(Plan {
             puts: Puts::new(alloc)?,
             mark: 0,
+            notices: Vec::new(alloc),
+            notice_mark: 0,
             noted: nothing,
             marked: nothing,
         })
@@ -78,6 +83,13 @@ impl Plan {
             Some(row) => Some(row),
             None => tables.row(id),
         }
+    }
+
+    /// Whether a row of the task is put.
+    pub fn puts_row(&self, id: TaskId) -> bool
+        ensures { result ≡ is_some (last_of id.0 self.now.changes.rows) }
+    {
+        self.puts.last(id).is_some()
     }
 
     /// How many tasks there would be after the plan.
@@ -122,6 +134,15 @@ impl Plan {
         }
     }
 
+    /// Adds a notification behind the others.
+    pub fn notify(&mut self, notice: Notice) -> Result<(), Memory>
+        ensures ok { OnOk result (self.new ≡ notifying self.old notice) }
+        ensures err { OnErr result (self.new ≡ self.old) }
+    {
+        self.notices.push(notice)?;
+        Ok(())
+    }
+
     /// Keeps a reply as that of its device's last command.
     pub fn keep(&mut self, slot: Slot)
         ensures { self.new ≡ keeping self.old slot }
@@ -134,6 +155,7 @@ impl Plan {
         ensures { self.new ≡ record self.old { marked = self.old.changes } }
     {
         self.mark = self.puts.len();
+        self.notice_mark = self.notices.len();
         self.marked = self.noted;
     }
 
@@ -142,6 +164,7 @@ impl Plan {
         ensures { self.new ≡ record self.old { changes = self.old.marked } }
     {
         self.puts.truncate(self.mark);
+        self.notices.truncate(self.notice_mark);
         self.noted = self.marked;
     }
 
@@ -167,13 +190,33 @@ impl Plan {
         self.totals(tables).size
     }
 
-    /// The rows that are put, in order, and the reply that is kept.
-    pub(crate) fn into_changes(self) -> (Vec<Row>, Option<Slot>)
+    /// The rows that are put, in order, the notifications that are added, and the reply that is kept.
+    pub(crate) fn into_changes(self) -> (Vec<Row>, Vec<Notice>, Option<Slot>)
         ensures rows { result.0.items ≡ self.changes.rows }
-        ensures slot { result.1 ≡ self.changes.slot }
+        ensures notices { result.1.items ≡ self.changes.notices }
+        ensures slot { result.2 ≡ self.changes.slot }
     {
-        let Plan { puts, noted, .. } = self;
-        (puts.into_rows(), noted.slot)
+        let Plan {
+            puts,
+            notices,
+            noted,
+            ..
+        } = self;
+        (puts.into_rows(), notices, noted.slot)
+    }
+
+    /// How many notifications are added.
+    pub(crate) fn told(&self) -> usize
+        ensures { result ≡ length self.now.changes.notices }
+    {
+        self.notices.len()
+    }
+
+    /// The rows that are put, in order. Of a task there may be several.
+    pub(crate) fn puts(&self) -> &[Row]
+        ensures { result.now ≡ self.now.changes.rows }
+    {
+        self.puts.as_slice()
     }
 
     /// Whether a reply is kept.

@@ -48,6 +48,13 @@ impl Puts {
         self.rows.len()
     }
 
+    /// The rows, in the order in which they were put.
+    pub(crate) fn as_slice(&self) -> &[Row]
+        ensures { result.now ≡ self.now }
+    {
+        &self.rows
+    }
+
     fn get(&self, place: usize) -> Option<&Row>
         ensures { option_map (λ r. r.now) result ≡ slice_get self.now place }
     {

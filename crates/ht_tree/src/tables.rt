@@ -1,34 +1,45 @@
-ghost use Rattle.std.specs.Prelude.{◌≡◌, ◌≤◌, ◌<◌, ◌+◌, ◌^◌, ℕ, IfOk, IfSome, fold, OnOk, Some, length, max, option_map, slice_get, vec_capacity, vec_len};
+ghost use Rattle.std.specs.Prelude.{◌≡◌, ◌≤◌, ◌<◌, ◌+◌, ◌++◌, ◌^◌, ℕ, IfOk, IfSome, fold, OnOk, Some, length, max, option_map, slice_get, vec_capacity, vec_len};
 ghost use Rattle.ht_tree.specs.declared.row.Row.{Row};
 ghost use Rattle.ht_tree.specs.Puts.{CanPut, HaveModels};
-ghost use Rattle.ht_tree.specs.Plans.{IsNext, IsPlanOf, IsPrepared, committed};
+ghost use Rattle.ht_tree.specs.Plans.{AreDuesPrepared, IsNext, IsPlanOf, IsPrepared, committed};
+ghost use Rattle.ht_tree.specs.RowDues.{all_dues};
 ghost use Rattle.ht_tree.specs.Rows.{put_in, row_at};
 ghost use Rattle.ht_tree.specs.Sizes.{total_size};
 ghost use Rattle.ht_tree.specs.Soundness.{IsSound, IsSoundRow};
-ghost use Rattle.ht_tree.specs.Tables.{device_slot, directory, empty_tables, task_row};
+ghost use Rattle.ht_tree.specs.Tables.{device_slot, directory, empty_tables, notice_at, task_row};
 
+use crate::changed_dues::{dues_after, dues_before};
+use crate::exchanging::exchange;
 use crate::sizes::resized;
 use crate::slot::{put_slot, slot_of};
-use crate::{Plan, Row, Slot};
+use crate::{Notice, Plan, Row, Slot};
 use ht_base::{Memory, Moment, Person, TaskId};
+use ht_due::{Due, DueQueue};
 use ht_models::Models;
 use ht_people::Directory;
 use std::alloc::Global;
 use std::marker::Model;
 
-/// The tasks of an office, over its models and its people, and the last numbered command of each
-/// device. A contract also sees in `room` and `slot_room` how many more tasks and devices they take
-/// without memory.
+/// The tasks of an office, over its models and its people, its notifications, and the last numbered
+/// command of each device. A contract also sees in `room`, `notice_room`, `slot_room` and `due_room` how
+/// many more tasks, notifications, devices and dues they take without memory, and in `gone` and `news` the dues that go and come with the plan that
+/// was prepared last.
 #[derive(Drop)]
 pub struct Tables {
     models: Models,
     people: Directory,
     rows: Vec<Row>,
+    notices: Vec<Notice>,
     // In the order of their persons and devices.
     slots: Vec<Slot>,
     last: Moment,
     // The tasks of the trees of all top tasks.
     size: u64,
+    // What is due of all rows.
+    queue: DueQueue,
+    // The dues that go and that come with the plan that was prepared last.
+    gone: Vec<Due>,
+    news: Vec<Due>,
 }
 
 impl Model for Tables {
@@ -56,9 +67,13 @@ impl Tables {
             models,
             people,
             rows: Vec::new(alloc),
+            notices: Vec::new(alloc),
             slots: Vec::new(alloc),
             last: Moment(0),
             size: 0,
+            queue: DueQueue::new(alloc),
+            gone: Vec::new(alloc),
+            news: Vec::new(alloc),
         })
     }
 
@@ -76,6 +91,22 @@ impl Tables {
         ensures sound { IsSound self.now.tables }
     {
         self.rows.len() as u32
+    }
+
+    /// The notification of a number, which counts from 1, if there is one.
+    pub fn notice(&self, number: u32) -> Option<&Notice>
+        ensures value { option_map (λ n. n.now) result ≡ notice_at number self.now.tables.notices }
+        ensures sound { IsSound self.now.tables }
+    {
+        notice_in(&self.notices, number)
+    }
+
+    /// How many notifications there are.
+    pub fn notices(&self) -> u32
+        ensures value { result ≡ length self.now.tables.notices }
+        ensures sound { IsSound self.now.tables }
+    {
+        self.notices.len() as u32
     }
 
     /// The last numbered command of a person's device, if there was one.
@@ -107,6 +138,15 @@ impl Tables {
         &self.people
     }
 
+    /// What is due of all tasks, in order: deferred activations, the ends of suspensions, and deadlines
+    /// that are neither taken nor obsolete (WS-HumanTask 1.1, 4.9).
+    pub fn due(&self) -> &DueQueue
+        ensures value { result.now.dues ≡ all_dues self.now.tables }
+        ensures sound { IsSound self.now.tables }
+    {
+        &self.queue
+    }
+
     /// The tasks of the trees of all top tasks.
     pub(crate) fn size(&self) -> u64
         ensures value { result ≡ total_size self.now.tables.models self.now.tables.rows }
@@ -123,10 +163,32 @@ impl Tables {
     {
         let more = plan.new_rows(self);
         self.rows.reserve(more)?;
+        self.notices.reserve(plan.told())?;
+        if self.notices.len() + plan.told() > u32::MAX as usize {
+            return Err(Memory);
+        }
         if plan.keeps() {
             self.slots.reserve(1)?;
         }
-        Ok(())
+        self.prepare_dues(plan)
+    }
+
+    // Finds the dues that go and that come with a plan, and makes room for those that come.
+    fn prepare_dues(&mut self, plan: &Plan) -> Result<(), Memory>
+        requires { IsPlanOf self.old.tables plan.now }
+        ensures tables { self.new.tables ≡ self.old.tables }
+        ensures prepared { OnOk result (AreDuesPrepared self.new plan.now) }
+        ensures room { self.new.room ≡ self.old.room }
+        ensures notice_room { self.new.notice_room ≡ self.old.notice_room }
+        ensures slot_room { self.new.slot_room ≡ self.old.slot_room }
+    {
+        let alloc = *self.rows.allocator();
+        self.gone = dues_before(alloc, self, plan)?;
+        self.news = dues_after(alloc, self, plan)?;
+        let Ok(more) = u32::try_from(self.news.len()) else {
+            return Err(Memory);
+        };
+        self.queue.reserve(more)
     }
 
     /// Makes the planned change. It can't be refused, and takes no memory.
@@ -138,7 +200,9 @@ impl Tables {
         ensures { self.new.tables ≡ committed self.old.tables plan at.0 }
     {
         self.last = at;
-        let (rows, slot) = plan.into_changes();
+        exchange(&mut self.queue, &self.gone, &self.news);
+        let (rows, notices, slot) = plan.into_changes();
+        tell(&mut self.notices, notices);
         let size = u128::from(self.size);
         let size = put_all(&self.models, &mut self.rows, size, rows);
         self.size = size as u64;
@@ -155,6 +219,25 @@ fn row_in(rows: &[Row], id: TaskId) -> Option<&Row>
         return None;
     }
     rows.get(id.0 as usize - 1)
+}
+
+fn notice_in(notices: &[Notice], number: u32) -> Option<&Notice>
+    ensures { option_map (λ n. n.now) result ≡ notice_at number notices.now }
+{
+    if number == 0 {
+        return None;
+    }
+    notices.get(number as usize - 1)
+}
+
+// Adds notifications. It takes no memory.
+fn tell(notices: &mut Vec<Notice>, more: Vec<Notice>)
+    requires { vec_len notices.old + length more.items ≤ vec_capacity notices.old }
+    ensures { notices.new.items ≡ notices.old.items ++ more.items }
+{
+    for notice in more {
+        notices.push_reserved(notice);
+    }
 }
 
 // Puts rows one after another. It gives the tasks of all trees, of which there were so many before.

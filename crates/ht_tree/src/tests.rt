@@ -5,8 +5,8 @@ ghost use Rattle.ht_tree.specs.declared.slot.Kept.TheVariants as kept;
 ghost use Rattle.ht_tree.specs.Plans.{IsPlanOf, planned};
 ghost use Rattle.ht_tree.specs.Soundness.{KeepsSound};
 
-use crate::{Comment, Comments, CreateRefusal, Kept, Plan, Row, Slot, Tables, create, env};
-use ht_base::{LAST, Moment, Op, Person, Persons, Role, Roles, State, TaskId, Txt, Values};
+use crate::{Comment, Comments, CreateRefusal, Kept, Notice, Plan, Row, Slot, Tables, create, env};
+use ht_base::{LAST, Moment, Name, Op, Person, Persons, Role, Roles, State, TaskId, Txt, Values};
 use ht_expr::Env;
 use ht_models::Models;
 use ht_people::Directory;
@@ -72,8 +72,13 @@ pub(crate) fn created(
     Ok(task)
 }
 
-// Gives a task the highest priority.
-fn urged(alloc: Global, tables: &mut Tables, task: TaskId, at: Moment) -> Result<(), Fail> {
+// Gives a task the highest priority, and lets it wait no longer.
+pub(crate) fn urged(
+    alloc: Global,
+    tables: &mut Tables,
+    task: TaskId,
+    at: Moment,
+) -> Result<(), Fail> {
     if task.0 > tables.rows() || at < tables.last() || at.0 > LAST {
         return Err(Fail::from("no such task or moment"));
     }
@@ -82,6 +87,7 @@ fn urged(alloc: Global, tables: &mut Tables, task: TaskId, at: Moment) -> Result
     };
     let mut row = old.copy(alloc)?;
     row.priority = 0;
+    row.waits = None;
     let mut plan = Plan::begin(alloc)?;
     plan.put(tables, row)?;
     tables.prepare(&plan)?;
@@ -354,9 +360,47 @@ fn a_kept_reply_goes_back_to_the_mark(rt: HostRuntime) -> Result<(), Fail> {
     plan.mark();
     plan.keep(claim_of(0, 0, 2));
     plan.back();
-    let (rows, slot) = plan.into_changes();
+    let (rows, _, slot) = plan.into_changes();
     assert!(rt; rows.is_empty());
     assert_eq!(rt; slot, Some(claim_of(0, 0, 1)));
+    Ok(())
+}
+
+fn told(alloc: Global, task: u32) -> Result<Notice, Fail> {
+    let name = Name::of(b"tell").ok_or("a name")?;
+    Ok(Notice {
+        task: TaskId(task),
+        deadline: name,
+        escalation: name,
+        moment: Moment(7),
+        recipients: Persons::new(alloc),
+    })
+}
+
+#[test]
+fn notifications_go_back_to_the_mark(rt: HostRuntime) -> Result<(), Fail> {
+    let mut plan = Plan::begin(rt.alloc())?;
+    plan.notify(told(rt.alloc(), 1)?)?;
+    plan.notify(told(rt.alloc(), 2)?)?;
+    plan.mark();
+    plan.notify(told(rt.alloc(), 3)?)?;
+    plan.back();
+    let (_, notices, _) = plan.into_changes();
+    let tasks: [u32; 2] = [1, 2];
+    assert_eq!(rt; notices.len(), 2);
+    for (notice, task) in notices.iter().zip(tasks) {
+        assert_eq!(rt; notice.task, TaskId(task));
+    }
+    Ok(())
+}
+
+#[test]
+fn there_are_no_notifications_yet(rt: HostRuntime) -> Result<(), Fail> {
+    let tables = tables(rt.alloc())?;
+    assert_eq!(rt; tables.notices(), 0);
+    for number in [0, 1] {
+        assert!(rt; tables.notice(number).is_none());
+    }
     Ok(())
 }
 

@@ -1,4 +1,4 @@
-use Rattle.std.proofs.Common.{◌≡◌, ℕ, List, length, Some, None, refl, ap, sym, ◌∙◌, subst, arith}
+use Rattle.std.proofs.Common.{◌≡◌, ℕ, false, true, List, length, Some, None, refl, ap, sym, ◌∙◌, subst, arith}
 use Rattle.ht_tree.specs.declared.row.Row.{Row}
 use Rattle.ht_tree.specs.Plans.{Replaces, committed, planned}
 use Rattle.ht_tree.specs.Rows.{row_at}
@@ -8,9 +8,9 @@ use Rattle.ht_tree.proofs.Sounding.{put_sound, within}
 use Rattle.ht_tree.proofs.Steps.{committed_sound, planned_nothing}
 use Rattle.ht_tree.proofs.tests.urged.Goals as goal
 
--- a row of the highest priority
+-- a row of the highest priority that doesn't wait
 abbrev urgent : Row → Row
-urgent row = record row { priority = 0 }
+urgent row = record row { priority = 0; waits = None }
 
 still_sound : (t : TablesOf) (row : Row) → IsSoundRow t row → IsSoundRow t (urgent row)
 still_sound t row sound = record {
@@ -18,7 +18,13 @@ still_sound t row sound = record {
   held = sound.held;
   who = sound.who;
   whose = sound.whose;
-  when = sound.when;
+  when = record {
+    waits = λ none. absurd (no none);
+    until = (sound.when).until;
+    created_within = (sound.when).created_within;
+    waits_within = tt;
+    until_within = (sound.when).until_within;
+  };
   how = record {
     priority_within = omega arith;
     few = (sound.how).few;
@@ -27,6 +33,9 @@ still_sound t row sound = record {
     texts_within = (sound.how).texts_within;
   };
 }
+  where
+    no : false ≡ true → ⊥
+    no e = cc
 
 pub put-requires-clause-next : goal.put-requires-clause-next
 put-requires-clause-next c =

@@ -1,17 +1,18 @@
+use Rattle.std.proofs.Common.{take}
 use Rattle.ht_tree.proofs.Planning.{taken}
 use Rattle.ht_tree.proofs.plan.Plan.take.Goals as goal
 
 pub returns-in-Some-clause-row : goal.returns-in-Some-clause-row
 returns-in-Some-clause-row c =
     let x = c.self.inside in
-    (taken c.args.tables.now.tables c.args.self.now x.puts c.lend.new.self x.mark x.noted x.marked c.self.view_is c.requires.plan c.args.id.0 c.in-Some.row c.in-Some.ensures).there
+    (taken c.args.tables.now.tables c.args.self.now x.puts c.lend.new.self x.mark x.noted x.marked x.notices.items (take x.notice_mark x.notices.items) c.self.view_is c.requires.plan c.args.id.0 c.in-Some.row c.in-Some.ensures).there
 
 pub returns-in-Some-clause-lends : goal.returns-in-Some-clause-lends
 returns-in-Some-clause-lends c =
     let x = c.self.inside in
-    (taken c.args.tables.now.tables c.args.self.now x.puts c.lend.new.self x.mark x.noted x.marked c.self.view_is c.requires.plan c.args.id.0 c.in-Some.row c.in-Some.ensures).lends
+    (taken c.args.tables.now.tables c.args.self.now x.puts c.lend.new.self x.mark x.noted x.marked x.notices.items (take x.notice_mark x.notices.items) c.self.view_is c.requires.plan c.args.id.0 c.in-Some.row c.in-Some.ensures).lends
 
 pub returns-in-Some-clause-fits : goal.returns-in-Some-clause-fits
 returns-in-Some-clause-fits c =
     let x = c.self.inside in
-    (taken c.args.tables.now.tables c.args.self.now x.puts c.lend.new.self x.mark x.noted x.marked c.self.view_is c.requires.plan c.args.id.0 c.in-Some.row c.in-Some.ensures).fits
+    (taken c.args.tables.now.tables c.args.self.now x.puts c.lend.new.self x.mark x.noted x.marked x.notices.items (take x.notice_mark x.notices.items) c.self.view_is c.requires.plan c.args.id.0 c.in-Some.row c.in-Some.ensures).fits

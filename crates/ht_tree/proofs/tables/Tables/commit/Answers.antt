@@ -1,9 +1,18 @@
-use Rattle.std.proofs.Common.{List, length, sym, subst}
+use Rattle.std.proofs.Common.{◌≡◌, ◌++◌, ◌≤◌, ℕ, List, ap, arith, fold, length, length-append, rules, sym, subst, vec_len, ◌∙◌}
+use Rattle.std.specs.List.{flat_map}
+use Rattle.ht_due.specs.declared.due.Due.{Due}
+use Rattle.ht_due.specs.Dues.{AreNew, Ascends, merged}
+use Rattle.ht_tree.specs.declared.notice.Notice.{Notice}
 use Rattle.ht_tree.specs.declared.row.Row.{Row}
-use Rattle.ht_tree.specs.Kept.{tables_in}
-use Rattle.ht_tree.specs.Plans.{Follow}
+use Rattle.ht_tree.specs.declared.tables.Tables.TheInside.{Inside}
+use Rattle.ht_tree.specs.Kept.{IsKept, most_notices, roomy, tables_in}
+use Rattle.ht_tree.specs.Plans.{AreDuesPrepared, Follow, IsPlanOf, PlanOf, committed}
 use Rattle.ht_tree.specs.Puts.{CanPut}
+use Rattle.ht_tree.specs.RowDues.{in_order, row_dues}
+use Rattle.ht_tree.specs.Rows.{put_in}
+use Rattle.ht_tree.specs.Soundness.{IsSound}
 use Rattle.ht_tree.specs.Tables.{RoomyTables}
+use Rattle.ht_tree.proofs.DuesInStep.{ChangesDues, changes_dues}
 use Rattle.ht_tree.proofs.Putting.{can_put}
 use Rattle.ht_tree.proofs.Sounding.{have_models}
 use Rattle.ht_tree.proofs.tables.Tables.commit.Goals as goal
@@ -17,3 +26,74 @@ put_all-size-requires-clause-puts c =
 
 pub put_all-size-requires-clause-models : goal.put_all-size-requires-clause-models
 put_all-size-requires-clause-models c = have_models (tables_in c.self.inside) c.self.invariant.sound
+
+-- how the dues change, by what holds of the tables as they are kept
+changes : (t : Inside) (now : RoomyTables) (plan : PlanOf) (at : ℕ) → roomy t ≡ now → IsKept t → IsPlanOf now.tables plan → IsSound (committed now.tables plan at) → AreDuesPrepared now plan → ChangesDues (roomy t) plan (t.queue).dues
+changes t now plan at view kept fit sound prepared =
+    let P : RoomyTables → Type 0 = λ r. IsPlanOf r.tables plan in
+    let S : RoomyTables → Type 0 = λ r. IsSound (committed r.tables plan at) in
+    let D : RoomyTables → Type 0 = λ r. AreDuesPrepared r plan in
+    changes_dues (roomy t) plan at (t.queue).dues (subst P (sym view) fit) kept.sound (subst S (sym view) sound) (subst D (sym view) prepared) kept.due
+
+-- how many notifications there will be
+few_notices : (t : Inside) (now : RoomyTables) (plan : PlanOf) (after : List Notice) → roomy t ≡ now → IsKept t → vec_len t.notices ≡ length t.notices.items → length (plan.changes).notices ≤ now.notice_room → after ≡ t.notices.items ++ (plan.changes).notices → length after ≤ most_notices
+few_notices t now plan after view kept len room is =
+    let P : RoomyTables → Type 0 = λ r. length (plan.changes).notices ≤ r.notice_room in
+    let within = subst P (sym view) room in
+    let few = kept.notices_few in
+    let long = ap (λ (l : List Notice). length l) is ∙ length-append t.notices.items (plan.changes).notices in
+    omega arith
+
+pub exchange-requires-clause-ascend : goal.exchange-requires-clause-ascend
+exchange-requires-clause-ascend c = (changes c.self.inside c.args.self.now c.args.plan c.args.at.0 c.self.view_is c.self.invariant c.requires.fits c.requires.sound c.requires.prepared.2).ascend
+
+pub exchange-requires-clause-gone : goal.exchange-requires-clause-gone
+exchange-requires-clause-gone c = subst Ascends (sym c.deref.ensures.value) (changes c.self.inside c.args.self.now c.args.plan c.args.at.0 c.self.view_is c.self.invariant c.requires.fits c.requires.sound c.requires.prepared.2).gone
+
+pub exchange-requires-clause-news : goal.exchange-requires-clause-news
+exchange-requires-clause-news c = subst Ascends (sym c.deref-2.ensures.value) (changes c.self.inside c.args.self.now c.args.plan c.args.at.0 c.self.view_is c.self.invariant c.requires.fits c.requires.sound c.requires.prepared.2).news
+
+pub exchange-requires-clause-absent : goal.exchange-requires-clause-absent
+exchange-requires-clause-absent c =
+    let change = changes c.self.inside c.args.self.now c.args.plan c.args.at.0 c.self.view_is c.self.invariant c.requires.fits c.requires.sound c.requires.prepared.2 in
+    let G : List Due → Type 0 = λ gone. AreNew c.self.inside.news.items gone c.self.inside.queue.dues in
+    let N : List Due → Type 0 = λ news. AreNew news c.deref.result.now c.self.inside.queue.dues in
+    subst N (sym c.deref-2.ensures.value) (subst G (sym c.deref.ensures.value) change.absent)
+
+pub invariant_of-self : goal.invariant_of-self
+invariant_of-self c =
+    let change = changes c.self.inside c.args.self.now c.args.plan c.args.at.0 c.self.view_is c.self.invariant c.requires.fits c.requires.sound c.requires.prepared.2 in
+    let dues = c.self.inside.queue.dues in
+    let rows : c.put_all-size.new.rows.items ≡ fold put_in c.self.inside.rows.items (c.args.plan.changes).rows = c.put_all-size.ensures.rows ∙ ap (λ (l : List Row). fold put_in c.self.inside.rows.items l) c.into_changes-rows.ensures.rows in
+    record {
+      sound = search rules;
+      counted = search rules;
+      notices_few =
+          few_notices c.self.inside c.args.self.now c.args.plan c.tell.new.notices.items c.self.view_is c.self.invariant (search rules) c.requires.prepared.3
+          (c.tell.ensures ∙ ap (λ (l : List Notice). c.self.inside.notices.items ++ l) c.into_changes-rows.ensures.notices);
+      due =
+          c.exchange.ensures
+          ∙ ap (λ (gone : List Due). merged dues gone c.deref-2.result.now) c.deref.ensures.value
+          ∙ ap (λ (news : List Due). merged dues c.self.inside.gone.items news) c.deref-2.ensures.value
+          ∙ change.due
+          ∙ ap (λ (l : List Row). in_order (flat_map (row_dues c.self.inside.models) l)) (sym rows);
+    }
+
+pub invariant_of-self-in_default : goal.invariant_of-self-in_default
+invariant_of-self-in_default c =
+    let change = changes c.self.inside c.args.self.now c.args.plan c.args.at.0 c.self.view_is c.self.invariant c.requires.fits c.requires.sound c.requires.prepared.2 in
+    let dues = c.self.inside.queue.dues in
+    let rows : c.put_all-size.new.rows.items ≡ fold put_in c.self.inside.rows.items (c.args.plan.changes).rows = c.put_all-size.ensures.rows ∙ ap (λ (l : List Row). fold put_in c.self.inside.rows.items l) c.into_changes-rows.ensures.rows in
+    record {
+      sound = search rules;
+      counted = search rules;
+      notices_few =
+          few_notices c.self.inside c.args.self.now c.args.plan c.tell.new.notices.items c.self.view_is c.self.invariant (search rules) c.requires.prepared.3
+          (c.tell.ensures ∙ ap (λ (l : List Notice). c.self.inside.notices.items ++ l) c.into_changes-rows.ensures.notices);
+      due =
+          c.exchange.ensures
+          ∙ ap (λ (gone : List Due). merged dues gone c.deref-2.result.now) c.deref.ensures.value
+          ∙ ap (λ (news : List Due). merged dues c.self.inside.gone.items news) c.deref-2.ensures.value
+          ∙ change.due
+          ∙ ap (λ (l : List Row). in_order (flat_map (row_dues c.self.inside.models) l)) (sym rows);
+    }

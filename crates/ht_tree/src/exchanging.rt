@@ -1,0 +1,45 @@
+ghost use Rattle.std.specs.Prelude.{◌≡◌, ◌+◌, ◌≤◌, fold, length};
+ghost use Rattle.ht_due.specs.Dues.{AreAbsent, AreNew, Ascends, merged, put_due, without};
+
+use ht_due::{Due, DueQueue};
+
+/// How many dues go and come one by one. More of them move the others more often than one walk along
+/// all does.
+const FEW: usize = 8;
+
+/// Takes dues out of a queue and puts others in, each list ascending. It takes no memory.
+pub(crate) fn exchange(queue: &mut DueQueue, gone: &[Due], news: &[Due])
+    requires spare { length news.now ≤ queue.old.spare }
+    requires ascend { Ascends queue.old.dues }
+    requires gone { Ascends gone.now }
+    requires news { Ascends news.now }
+    requires absent { AreNew news.now gone.now queue.old.dues }
+    ensures { queue.new.dues ≡ merged queue.old.dues gone.now news.now }
+{
+    if gone.len() + news.len() > FEW {
+        queue.merge(gone, news);
+    } else {
+        take_out(queue, gone);
+        put_in(queue, news);
+    }
+}
+
+fn take_out(queue: &mut DueQueue, gone: &[Due])
+    ensures dues { queue.new.dues ≡ fold without queue.old.dues gone.now }
+    ensures spare { queue.old.spare ≤ queue.new.spare }
+{
+    for due in gone {
+        let _ = queue.remove(*due);
+    }
+}
+
+fn put_in(queue: &mut DueQueue, news: &[Due])
+    requires spare { length news.now ≤ queue.old.spare }
+    requires news { Ascends news.now }
+    requires absent { AreAbsent news.now queue.old.dues }
+    ensures { queue.new.dues ≡ fold put_due queue.old.dues news.now }
+{
+    for due in news {
+        queue.insert(*due);
+    }
+}
