@@ -1,5 +1,7 @@
 mod Acted
 mod ActivatedRows
+mod AgingRows
+mod AgingTables
 mod AlwaysEnding
 mod Chains
 mod ChainsAbove
@@ -13,9 +15,11 @@ mod Ending
 mod Entries
 mod EntriesByHand
 mod Freed
+mod FreedAlone
 mod Going
 mod Keeping
 mod MappedInputs
+mod Moments
 mod NewSubs
 mod OneField
 mod OneRow

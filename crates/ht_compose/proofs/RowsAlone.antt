@@ -6,7 +6,9 @@ use Rattle.ht_base.specs.declared.task_id.TaskId.{TaskId}
 use Rattle.ht_base.specs.declared.values.Values.{Values}
 use Rattle.ht_compose.specs.Agenda.{Ends}
 use Rattle.ht_compose.specs.Agenda.Ends.{end, on}
+use Rattle.ht_compose.specs.Downward.{freeing}
 use Rattle.ht_compose.specs.Finishes.{chosen, completed}
+use Rattle.ht_compose.specs.Freeing.{Frees, checks_of}
 use Rattle.ht_compose.specs.Gathering.{Gathers, GathersBy}
 use Rattle.ht_compose.specs.Items.{Checks, Does, Finishes, Item, OnModel, OnTask, Step, activates, begins, closes, comes_next, follows_by, has_failed, is_automatic, is_checked, is_in_progress, makes_at, makes_entry, makes_of, makes_one, on_model, on_row, on_task, rises}
 use Rattle.ht_compose.specs.Items.Item.{Activate, Begin, Check, Close, Make, Next, Up}
@@ -88,6 +90,9 @@ module _ (u : TablesOf) where
 pub ends_rows : (at : Moment) (u v : TablesOf) (is : List Item) → Ends (Does at) u is v → OnlyRows u v
 ends_rows at u v [] end = refl
 ends_rows at u v (i ∷ is) (on {d = d} doing rest) = only_then u d.tables v (does_rows u at i d doing) (ends_rows at d.tables v (d.puts ++ is) rest)
+
+pub frees_rows : (at : Moment) (task : ℕ) (u v : TablesOf) → Frees at task u v → OnlyRows u v
+frees_rows at task u v frees = only_then u (with_rows u (freeing task u.rows)) v refl (ends_rows at (with_rows u (freeing task u.rows)) v (checks_of task u.rows) frees)
 
 -- ---- what is gathered
 

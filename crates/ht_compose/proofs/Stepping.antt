@@ -95,7 +95,7 @@ module _ (u : TablesOf) (n t : ℕ) (fit : Fit u) where
 
 -- ---- activate and begin
 
-created_lives : (s : State) → is_created s ≡ true → is_final s ≡ false
+pub created_lives : (s : State) → is_created s ≡ true → is_final s ≡ false
 created_lives s h = grind arith
 
 in_progress_lives : (s : State) → is_in_progress s ≡ true → is_final s ≡ false

@@ -1,4 +1,6 @@
 pub mod Agenda
+pub mod Aging
+pub mod AgingExamples
 pub mod ByHand
 pub mod CallExamples
 pub mod Composing

@@ -20,6 +20,7 @@ mod item;
 mod laws;
 mod making;
 mod reaching;
+mod resuming;
 mod running;
 mod spreading;
 #[cfg(test)]
@@ -30,4 +31,8 @@ pub use composing::{activate, begin, close, instantiate};
 pub use downward::{close_family, free_below, hold, skip_below};
 pub use freeing::free;
 pub use gathering::gather;
-pub use laws::{above_is_a_chain_of_parents, laws_of_the_agenda, the_end_is_always_reached};
+pub use laws::{
+    above_is_a_chain_of_parents, laws_of_the_agenda, only_rows_change, tasks_only_age,
+    the_end_is_always_reached, the_last_moment_is_not_looked_at, what_is_due_only_goes,
+};
+pub use resuming::resume;
