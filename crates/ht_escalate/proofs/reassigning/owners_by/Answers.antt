@@ -1,0 +1,32 @@
+use Rattle.std.proofs.Common.{◌≡◌, length, not, ap}
+use Rattle.ht_escalate.proofs.NewOwners.{of_this, owners_are, same_owners}
+use Rattle.ht_escalate.proofs.reassigning.owners_by.Goals as goal
+use Rattle.ht_escalate.specs.Escalating.{new_owners}
+use Rattle.ht_expr.specs.Assignments.{Assignment, is_individual}
+use Rattle.ht_expr.specs.Shown as tree
+use Rattle.ht_models.specs.Model.{ModelOf}
+use Rattle.ht_models.specs.Shown as shown
+use Rattle.ht_tree.specs.Assigning.{Sight, resolved}
+use Rattle.ht_tree.specs.Creating.{seen_in}
+use Rattle.ht_tree.specs.Plans.{planned}
+use Rattle.ht_tree.specs.Tables.{directory, model_of}
+use Rattle.ht_tree.proofs.PublicLaws.{sound_row_fits}
+
+pub resolve-requires-clause-row : goal.resolve-requires-clause-row
+resolve-requires-clause-row c =
+    let t = c.args.tables.now.tables in
+    let row = c.args.row.now in
+    sound_row_fits t.models (length t.people.persons) row (c.requires.seen.sound.rows_sound row.task.0 row c.requires.seen.there)
+
+pub returns : goal.returns
+returns c =
+    let t = c.args.tables.now.tables in
+    let row = c.args.row.now in
+    let a : Assignment = tree.shown c.args.assign.now in
+    let rows = (planned t c.args.plan.now).rows in
+    let m : ModelOf = shown.model_of c.args.model.now in
+    let s : Sight = seen_in m rows row in
+    let found : c.in_ok-found.found ≡ resolved (directory t) s a =
+    of_this (λ (x : ModelOf). c.in_ok-found.found ≡ resolved (directory t) (seen_in x rows row) a) (model_of t row) m c.requires.seen.model c.in_ok-found.ensures in
+    let persons = owners_are (directory t) s row a c.in_ok-found.found c.in_ok-except.field-0 found c.in_ok-except.ensures.ascends c.in_ok-except.ensures.set in
+    same_owners c.in_ok-except.field-0 (new_owners (directory t) s row a) (not c.individual.result) (not (is_individual a)) persons (ap not c.individual.ensures)

@@ -1,0 +1,69 @@
+use Rattle.std.proofs.Common.{◌≡◌, ◌<◌, List, Some, length, option_map, ap, refl, sym, subst, ◌∙◌}
+use Rattle.std.specs.Prelude.{slice_get}
+use Rattle.std.proofs.lemmas.List.{length-map}
+use Rattle.std.proofs.lemmas.Option.{slice_get-map, slice_get_read}
+use Rattle.std.proofs.lemmas.Result.{on_ok_weaker}
+use Rattle.ht_escalate.proofs.Escalating.{IsLent, IsTaking, escalated, next_row, open_within, row_fits, row_is, taking}
+use Rattle.ht_escalate.proofs.taking.deadline.Goals as goal
+use Rattle.ht_models.specs.declared.model.Deadline.{Deadline}
+use Rattle.ht_models.specs.Model.{DeadlineOf, ModelOf}
+use Rattle.ht_models.specs.Reassigning.{ReassignOwned}
+use Rattle.ht_models.specs.Shown as shown
+use Rattle.ht_tree.specs.Plans.{planned}
+
+pub put-requires-clause-next : goal.put-requires-clause-next
+put-requires-clause-next c =
+    let t = c.args.tables.now.tables in
+    let u = planned t c.args.plan.now in
+    let row = c.in-Some.row.now in
+    let m : ModelOf = shown.model_of c.model-model.result.now in
+    let d : DeadlineOf = shown.deadline_of c.index-deadline.result.now in
+    let ds : List Deadline = c.model-model.result.now.deadlines.items in
+    let of = ap (λ (ms : List ModelOf). slice_get ms row.model) (sym c.models.ensures.value) ∙ c.model-model.ensures.value in
+    let within : c.args.place < length ds =
+    subst (λ n. c.args.place < n) (length-map ds shown.deadline_of) (open_within u c.args.task.0 c.args.place row m c.requires.open (sym c.in-Some.ensures.value) of) in
+    let listed : slice_get m.deadlines c.args.place ≡ Some d =
+    slice_get-map shown.deadline_of ds c.args.place ∙ ap (option_map shown.deadline_of) (slice_get_read ds (length ds) c.args.place c.index-deadline.result.now refl within c.index-deadline.ensures) in
+    let is : IsTaking u c.args.task.0 c.args.place row m d =
+    taking u c.args.task.0 c.args.place row m d c.requires.sound c.requires.open (sym c.in-Some.ensures.value) of listed (subst ReassignOwned c.models.ensures.value c.model-model.ensures.owned) in
+    let lent : IsLent t c.args.plan.now c.take.new.self c.args.task.0 c.args.place row m d = record { is = is; lends = c.in_ok-row.ensures.lends } in
+    let put = row_is is c.in_ok-row.row c.in_ok-owners.owners c.in_ok-taken_row.field-0 c.in_ok-row.ensures.row c.in_ok-owners.ensures c.in_ok-taken_row.ensures in
+    next_row lent c.in_ok-taken_row.field-0 put
+
+pub put-requires-clause-fits : goal.put-requires-clause-fits
+put-requires-clause-fits c =
+    let t = c.args.tables.now.tables in
+    let u = planned t c.args.plan.now in
+    let row = c.in-Some.row.now in
+    let m : ModelOf = shown.model_of c.model-model.result.now in
+    let d : DeadlineOf = shown.deadline_of c.index-deadline.result.now in
+    let ds : List Deadline = c.model-model.result.now.deadlines.items in
+    let of = ap (λ (ms : List ModelOf). slice_get ms row.model) (sym c.models.ensures.value) ∙ c.model-model.ensures.value in
+    let within : c.args.place < length ds =
+    subst (λ n. c.args.place < n) (length-map ds shown.deadline_of) (open_within u c.args.task.0 c.args.place row m c.requires.open (sym c.in-Some.ensures.value) of) in
+    let listed : slice_get m.deadlines c.args.place ≡ Some d =
+    slice_get-map shown.deadline_of ds c.args.place ∙ ap (option_map shown.deadline_of) (slice_get_read ds (length ds) c.args.place c.index-deadline.result.now refl within c.index-deadline.ensures) in
+    let is : IsTaking u c.args.task.0 c.args.place row m d =
+    taking u c.args.task.0 c.args.place row m d c.requires.sound c.requires.open (sym c.in-Some.ensures.value) of listed (subst ReassignOwned c.models.ensures.value c.model-model.ensures.owned) in
+    let lent : IsLent t c.args.plan.now c.take.new.self c.args.task.0 c.args.place row m d = record { is = is; lends = c.in_ok-row.ensures.lends } in
+    let put = row_is is c.in_ok-row.row c.in_ok-owners.owners c.in_ok-taken_row.field-0 c.in_ok-row.ensures.row c.in_ok-owners.ensures c.in_ok-taken_row.ensures in
+    row_fits lent c.in_ok-taken_row.field-0 put
+
+pub returns-clause-escalates : goal.returns-clause-escalates
+returns-clause-escalates c =
+    let t = c.args.tables.now.tables in
+    let u = planned t c.args.plan.now in
+    let row = c.in-Some.row.now in
+    let m : ModelOf = shown.model_of c.model-model.result.now in
+    let d : DeadlineOf = shown.deadline_of c.index-deadline.result.now in
+    let ds : List Deadline = c.model-model.result.now.deadlines.items in
+    let of = ap (λ (ms : List ModelOf). slice_get ms row.model) (sym c.models.ensures.value) ∙ c.model-model.ensures.value in
+    let within : c.args.place < length ds =
+    subst (λ n. c.args.place < n) (length-map ds shown.deadline_of) (open_within u c.args.task.0 c.args.place row m c.requires.open (sym c.in-Some.ensures.value) of) in
+    let listed : slice_get m.deadlines c.args.place ≡ Some d =
+    slice_get-map shown.deadline_of ds c.args.place ∙ ap (option_map shown.deadline_of) (slice_get_read ds (length ds) c.args.place c.index-deadline.result.now refl within c.index-deadline.ensures) in
+    let is : IsTaking u c.args.task.0 c.args.place row m d =
+    taking u c.args.task.0 c.args.place row m d c.requires.sound c.requires.open (sym c.in-Some.ensures.value) of listed (subst ReassignOwned c.models.ensures.value c.model-model.ensures.owned) in
+    let lent : IsLent t c.args.plan.now c.take.new.self c.args.task.0 c.args.place row m d = record { is = is; lends = c.in_ok-row.ensures.lends } in
+    let put = row_is is c.in_ok-row.row c.in_ok-owners.owners c.in_ok-taken_row.field-0 c.in_ok-row.ensures.row c.in_ok-owners.ensures c.in_ok-taken_row.ensures in
+    on_ok_weaker c.notify_all.result (λ tells. escalated lent c.in_ok-taken_row.field-0 c.put.new.self c.notify_all.new.plan c.args.at c.in_ok-notices.notices.items put c.in_ok-put.ensures.goes tells c.in_ok-notices.ensures c.requires.at) c.notify_all.ensures.told

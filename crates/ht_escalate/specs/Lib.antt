@@ -1,0 +1,5 @@
+pub mod Escalating
+pub mod Examples
+pub mod Kept
+pub mod Leaving
+pub mod Seeing
