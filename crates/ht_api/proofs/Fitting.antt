@@ -1,5 +1,5 @@
 -- What fits is in its limits.
-use Rattle.std.proofs.Common.{◌≡◌, sym, ap, refl, subst, ℕ, ℤ, zero, suc, ◌<◌, ◌≤◌, ◌&&◌, ◌||◌, Bool, true, false, not, List, [], ◌∷◌, ◌++◌, length, append_assoc, Option, Some, None, option_map, option_and_then, if◌then◌else◌, nat_eq, nat_le, nat_lt, arith}
+use Rattle.std.proofs.Common.{◌≡◌, ◌∙◌, sym, ap, refl, subst, ℕ, ℤ, zero, suc, ◌<◌, ◌≤◌, ◌&&◌, ◌||◌, Bool, true, false, not, List, [], ◌∷◌, ◌++◌, length, append_assoc, Option, Some, None, option_map, option_and_then, if◌then◌else◌, nat_eq, nat_le, nat_lt, arith}
 use Rattle.std.specs.Prelude.{IfSome, slice_get}
 use Rattle.std.specs.Cmp.Lexicographic.{pointwise}
 use Rattle.std.specs.List.{list_all}
@@ -10,9 +10,13 @@ use Rattle.serde_json.specs.Find.{as_array, as_i64, as_number, as_object, as_str
 use Rattle.ht_base.specs.declared.scalar.Scalar.{Scalar}
 use Rattle.ht_base.specs.declared.scalar.Scalar.TheVariants.{Text, Int, Truth}
 use Rattle.ht_base.specs.Events.{AreGiven, AreNames, is_short}
+use Rattle.ht_base.proofs.PublicLaws.{period_exact, period_reads, period_short}
+use Rattle.ht_base.specs.declared.moment.Moment.{Moment}
+use Rattle.ht_base.specs.Moment.{last_moment}
 use Rattle.ht_base.specs.Name.{name_of}
+use Rattle.ht_base.specs.Periods.{IsPeriod, PeriodText, longest_period, millis, period_of}
 use Rattle.ht_base.specs.Places.{IsRepeated}
-use Rattle.ht_api.specs.Fits.{are_distinct, holds_name, if_any, names_of, owners_in, part_in, parts_if, parts_in, parts_of, persons_if, persons_in, scalar_in, some_parts_in, text_if, text_in, whole_if, whole_in}
+use Rattle.ht_api.specs.Fits.{are_distinct, holds_name, if_any, moment_in, names_of, owners_in, part_in, parts_if, parts_in, parts_of, period_in, persons_if, persons_in, scalar_in, some_parts_in, text_if, text_in, whole_if, whole_in}
 
 -- ---- what an option that is there came from
 
@@ -156,3 +160,21 @@ text_fits d text e =
     let some = ltb-true 0 (length p.0) t.0 in
     let few = leb-true (length p.0) 512 t.1 in
     subst (λ ys. (1 ≤ length ys) × (length ys ≤ 512)) s.1 (omega arith, omega arith)
+
+pub moment_fits : (d : Data) (m : Moment) → moment_in d ≡ Some m → m.0 ≤ last_moment
+moment_fits d m e =
+    let q = from_mapped (λ n. record { 0 = n }) (whole_in 0 last_moment d) m e in
+    let P : Moment → Type 0 = λ (m : Moment). m.0 ≤ last_moment in
+    subst P q.2 (whole_fits 0 last_moment d q.0 q.1).1
+
+-- what reads each period, and nothing else, is the function of periods
+pub period_is : (text : List ℕ) (r : Option ℕ) → ((p : PeriodText) → IsPeriod text p → r ≡ Some (millis p)) → IfSome r (λ ms. (p : PeriodText) × IsPeriod text p × (ms ≡ millis p)) → r ≡ period_of text
+period_is text (Some ms) reads exact = ap (λ n. Some n) exact.2 ∙ sym (period_reads text exact.0 exact.1)
+period_is text None reads exact = at (period_of text) refl
+  where
+    at : (o : Option ℕ) → period_of text ≡ o → None ≡ o
+    at None is = refl
+    at (Some ms) is = let p = period_exact text ms is in let there = reads p.0 p.1 in cc
+
+pub period_fits : (d : Data) (n : ℕ) → period_in d ≡ Some n → n ≤ longest_period
+period_fits d n e = let p = from_some (as_str d) period_of n e in period_short p.0 n p.2

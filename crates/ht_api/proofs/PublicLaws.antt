@@ -1,6 +1,7 @@
 -- Laws of the definitions, for the proofs of crates above: two requests that say the same are the same
--- event at a moment.
-use Rattle.std.proofs.Common.{◌≡◌, ◌∙◌, ℕ, ap, refl, Result, Ok, Err}
+-- event at a moment, and none is a turn.
+use Rattle.std.proofs.Common.{◌≡◌, ◌∙◌, ℕ, List, Option, Some, None, ap, refl, Result, Ok, Err}
+use Rattle.ht_base.specs.declared.event.Event.TheVariants.{Turn}
 use Rattle.ht_base.specs.declared.moment.Moment.{Moment}
 use Rattle.ht_wire.specs.declared.request.Request.{Request}
 use Rattle.ht_wire.specs.Requests.{IsSame}
@@ -8,7 +9,8 @@ use Rattle.ht_api.specs.declared.asked.Asked.TheVariants as asked
 use Rattle.ht_api.specs.declared.refusal.ApiRefusal.{ApiRefusal}
 use Rattle.ht_api.specs.declared.routes.Place.{Place}
 use Rattle.ht_api.specs.declared.routes.Place.TheVariants as place
-use Rattle.ht_api.specs.Commands.{command_in}
+use Rattle.ht_base.specs.declared.task_id.TaskId.{TaskId}
+use Rattle.ht_api.specs.Commands.{Numbered, command_in}
 use Rattle.ht_api.specs.Events.{asks, event_at, event_due, reads}
 use Rattle.ht_api.specs.Routes.{place_of, routed}
 
@@ -21,3 +23,21 @@ same_at q r at (Ok (place.Task task)) same = ap (reads task) same.person
 pub same_event : (q r : Request) (moment : ℕ) → IsSame q r → event_due q moment ≡ event_due r moment
 same_event q r moment same =
     (λ i. event_at q (record { 0 = moment }) (routed (same.method i) (place_of (same.target i)))) ∙ same_at q r (record { 0 = moment }) (routed r.method (place_of r.target.items)) same
+
+asks_no_turn : (at : Moment) (task : TaskId) (r : Result Numbered ApiRefusal) (caller : Option (List ℕ)) (turn : Moment) → asks at task r caller ≡ Ok (Turn turn) → ⊥
+asks_no_turn at task (Err why) caller turn e = cc
+asks_no_turn at task (Ok sent) None turn e = cc
+asks_no_turn at task (Ok (retry, command)) (Some name) turn e = cc
+
+reads_no_turn : (task : TaskId) (caller : Option (List ℕ)) (turn : Moment) → reads task caller ≡ Ok (Turn turn) → ⊥
+reads_no_turn task None turn e = cc
+reads_no_turn task (Some name) turn e = cc
+
+at_no_turn : (r : Request) (at : Moment) (p : Result Place ApiRefusal) (turn : Moment) → event_at r at p ≡ Ok (Turn turn) → ⊥
+at_no_turn r at (Err why) turn e = cc
+at_no_turn r at (Ok place.Tasks) turn e = asks_no_turn at (record { 0 = 0 }) (command_in asked.Create r.body.items) r.person turn e
+at_no_turn r at (Ok (place.Operation task what)) turn e = asks_no_turn at task (command_in what r.body.items) r.person turn e
+at_no_turn r at (Ok (place.Task task)) turn e = reads_no_turn task r.person turn e
+
+pub no_turn : (r : Request) (moment : ℕ) (turn : Moment) → event_due r moment ≡ Ok (Turn turn) → ⊥
+no_turn r moment turn e = at_no_turn r (record { 0 = moment }) (routed r.method (place_of r.target.items)) turn e

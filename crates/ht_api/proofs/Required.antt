@@ -3,22 +3,25 @@ use Rattle.std.proofs.Common.{◌≡◌, refl, subst, ℕ, Bool, true, false, Li
 use Rattle.serde_json.specs.Data.{Data}
 use Rattle.serde_json.specs.Find.{get}
 use Rattle.ht_api.specs.declared.asked.Asked.{Asked}
+use Rattle.ht_api.specs.declared.asked.Asked.TheVariants as asked
 use Rattle.ht_api.specs.declared.fields.Fields.{Fields}
 use Rattle.ht_api.specs.declared.keys.Key.{Key}
-use Rattle.ht_api.specs.declared.keys.Key.TheVariants.{Model}
+use Rattle.ht_api.specs.declared.keys.Key.TheVariants.{Model, OneEnd}
 use Rattle.ht_api.specs.declared.refusal.ApiRefusal.{ApiRefusal}
 use Rattle.ht_api.specs.declared.refusal.ApiRefusal.TheVariants.{Field}
 use Rattle.ht_api.specs.Commands.{Has, HasAll, HasIf}
-use Rattle.ht_api.specs.Fields.{fields_from, no_fields, number_keys, or_refused, taken, then_taken, turn, with_key, without}
+use Rattle.ht_api.specs.Fields.{fields_from, no_fields, number_keys, or_refused, rows_in, taken, then_taken, turn, with_key, without}
 use Rattle.ht_api.specs.Keys.{key_name, keys_of}
 use Rattle.ht_api.proofs.ByKey.{field, from_key, key_keeps, put_there, with_field}
 
 held : (key : Key) (f : Fields) → IsSome (field key f) → Has key f
 held Model f h = h
+held OneEnd f h = cc
 held key f h = h
 
 holds : (key : Key) (f : Fields) → Has key f → IsSome (field key f)
 holds Model f h = h
+holds OneEnd f h = absurd h
 holds key f h = h
 
 kept : (j : Key) (d : Data) (f g : Fields) → with_key j d f ≡ Some g → (k : Key) → Has k f → Has k g
@@ -83,9 +86,10 @@ behind_number rows d (Err why) g e = cc
 behind_number rows d (Ok f) g e = (f, refl, e)
 
 -- the fields of a body are taken behind those of its number
-pub from_number : (asked : Asked) (d : Data) (g : Fields) → fields_from asked (Some d) ≡ Ok g → (f : Fields) × (taken (number_keys d) d no_fields ≡ Ok f) × (taken (keys_of asked) d f ≡ Ok g)
-from_number asked d g e = behind_number (keys_of asked) d (taken (number_keys d) d no_fields) g (known_only _ _ _ g e)
+pub from_number : (asked : Asked) (d : Data) (g : Fields) → fields_from asked (Some d) ≡ Ok g → (f : Fields) × (taken (number_keys d) d no_fields ≡ Ok f) × (taken (rows_in asked d) d f ≡ Ok g)
+from_number asked d g e = behind_number (rows_in asked d) d (taken (number_keys d) d no_fields) g (known_only _ _ _ g e)
 
 pub has_required : (asked : Asked) (o : Option Data) (g : Fields) → fields_from asked o ≡ Ok g → HasAll (keys_of asked) g
 has_required asked None g e = cc
+has_required asked.SuspendUntil (Some d) g e = (tt, (tt, tt))
 has_required asked (Some d) g e = let q = from_number asked d g e in taken_has (keys_of asked) d q.0 g q.2

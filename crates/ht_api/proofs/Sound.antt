@@ -7,18 +7,21 @@ use Rattle.ht_base.specs.declared.event.Command.TheVariants as command
 use Rattle.ht_base.specs.declared.scalar.Scalar.{Scalar}
 use Rattle.ht_base.specs.declared.task_id.TaskId.{TaskId}
 use Rattle.ht_base.specs.declared.retry.Retry.{Retry}
+use Rattle.ht_base.specs.Moment.{last_moment}
+use Rattle.ht_base.specs.Periods.{longest_period}
+use Rattle.ht_base.specs.declared.end.End.TheVariants.{At, After}
+use Rattle.ht_base.specs.declared.moment.Moment.{Moment}
 use Rattle.ht_base.specs.Events.{AreGiven, AreNames, IsCommand, IsRetry, IsTaskOf}
 use Rattle.ht_api.specs.declared.asked.Asked.{Asked}
 use Rattle.ht_api.specs.declared.asked.Asked.TheVariants as asked
 use Rattle.ht_api.specs.declared.fields.Fields.{Fields}
 use Rattle.ht_api.specs.declared.keys.Key.{Key}
-use Rattle.ht_api.specs.declared.keys.Key.TheVariants.{Device, Number, Model, Person, Role, Owners, Persons, Priority, Text, Sub, Input, Output, SomeOutput}
+use Rattle.ht_api.specs.declared.keys.Key.TheVariants.{Device, Number, Model, Person, Role, Owners, Persons, Priority, Until, For, ActivateAt, Text, Sub, Input, Output, SomeOutput}
 use Rattle.ht_api.specs.declared.refusal.ApiRefusal.{ApiRefusal}
-use Rattle.ht_api.specs.Commands.{Numbered, command_from, command_in, command_of, needing, numbered, retry_from}
+use Rattle.ht_api.specs.Commands.{Numbered, command_from, command_in, command_of, end_of, needing, numbered, retry_from, suspended}
 use Rattle.ht_api.specs.Bodies.{json_in}
-use Rattle.ht_api.specs.Fields.{fields_from, no_fields, number_keys, with_key}
-use Rattle.ht_api.specs.Keys.{keys_of}
-use Rattle.ht_api.proofs.Fitting.{given, if_there, no_parts, owners_fit, persons_fit, some_given, text_fits, whole_fits}
+use Rattle.ht_api.specs.Fields.{fields_from, no_fields, number_keys, rows_in, with_key}
+use Rattle.ht_api.proofs.Fitting.{given, if_there, moment_fits, no_parts, owners_fit, period_fits, persons_fit, some_given, text_fits, whole_fits}
 use Rattle.ht_api.proofs.ByKey.{Value, field, fitting, key_keeps}
 use Rattle.ht_api.proofs.Required.{from_number, taken_kept}
 
@@ -31,6 +34,9 @@ IsSound Number n = 1 ≤ n
 IsSound Owners names = AreNames names × (1 ≤ length names)
 IsSound Persons names = AreNames names
 IsSound Priority n = n ≤ 10
+IsSound Until m = m.0 ≤ last_moment
+IsSound For n = n ≤ longest_period
+IsSound ActivateAt m = m.0 ≤ last_moment
 IsSound Text text = (1 ≤ length text) × (length text ≤ 512)
 IsSound Input parts = AreGiven parts
 IsSound Output parts = AreGiven parts
@@ -43,6 +49,9 @@ fitting_sound Number d a e = (whole_fits 1 4294967295 d a e).0
 fitting_sound Owners d a e = owners_fit d a e
 fitting_sound Persons d a e = persons_fit d a e
 fitting_sound Priority d a e = (whole_fits 0 10 d a e).1
+fitting_sound Until d a e = moment_fits d a e
+fitting_sound For d a e = period_fits d a e
+fitting_sound ActivateAt d a e = moment_fits d a e
 fitting_sound Text d a e = text_fits d a e
 fitting_sound Input d a e = given d a e
 fitting_sound Output d a e = given d a e
@@ -63,7 +72,7 @@ fields_sound : (asked : Asked) (o : Option Data) (g : Fields) → fields_from as
 fields_sound asked None g e = cc
 fields_sound asked (Some d) g e =
     let q = from_number asked d g e in
-    taken_kept AreSound sound_with (keys_of asked) d q.0 g q.2 (taken_kept AreSound sound_with (number_keys d) d no_fields q.0 q.1 none_sound)
+    taken_kept AreSound sound_with (rows_in asked d) d q.0 g q.2 (taken_kept AreSound sound_with (number_keys d) d no_fields q.0 q.1 none_sound)
 
 -- ---- commands
 
@@ -88,8 +97,13 @@ module _ (task : TaskId) (c : Command) where
   need key None make e all = cc
   need key (Some a) make e all = all a refl e
 
+  ends : (until : Option Moment) (period : Option ℕ) → IfSome until (λ m. m.0 ≤ last_moment) → IfSome period (λ n. n ≤ longest_period) → 1 ≤ task.0 → suspended (end_of until period) ≡ Ok c → FitsTask task c
+  ends (Some moment) period u p t e = plain (command.SuspendUntil (At moment)) e (t, u)
+  ends None (Some period) u p t e = plain (command.SuspendUntil (After period)) e (t, p)
+  ends None None u p t e = cc
+
   fits : (what : Asked) (f : Fields) → command_of what f ≡ Ok c → AreSound f → IsTask what task → FitsTask task c
-  fits asked.Create f e s t = plain (command.Create f.model (unwrap_or f.input []) None) e (t, (given_or_none f.input (s Input), tt))
+  fits asked.Create f e s t = plain (command.Create f.model (unwrap_or f.input []) f.activate_at) e (t, (given_or_none f.input (s Input), s ActivateAt))
   fits asked.Delegate f e s t = need Person f.person (λ person. Ok (command.Delegate person)) e (λ person is made. plain (command.Delegate person) made (t, tt))
   fits asked.Forward f e s t =
       need Owners f.owners (λ persons. Ok (command.Forward persons)) e (λ persons is made. plain (command.Forward persons) made (t, if_there f.owners _ persons (s Owners) is))
@@ -100,6 +114,7 @@ module _ (task : TaskId) (c : Command) where
       need Persons f.persons (λ persons. Ok (command.SetRole role persons)) rest (λ persons is made. plain (command.SetRole role persons) made (t, if_there f.persons _ persons (s Persons) is)))
   fits asked.SetPriority f e s t =
       need Priority f.priority (λ priority. Ok (command.SetPriority priority)) e (λ priority is made. plain (command.SetPriority priority) made (t, if_there f.priority _ priority (s Priority) is))
+  fits asked.SuspendUntil f e s t = ends f.until f.period (s Until) (s For) t e
   fits asked.SetOutput f e s t =
       need SomeOutput f.some_output (λ output. Ok (command.SetOutput output)) e (λ output is made. plain (command.SetOutput output) made (t, if_there f.some_output _ output (s SomeOutput) is))
   fits asked.Complete f e s t = plain (command.Complete (unwrap_or f.output [])) e (t, given_or_none f.output (s Output))

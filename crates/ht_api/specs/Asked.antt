@@ -16,6 +16,7 @@ operations =
     ∷ (codes "setRole", asked.SetRole)
     ∷ (codes "setPriority", asked.SetPriority)
     ∷ (codes "suspend", asked.Suspend)
+    ∷ (codes "suspendUntil", asked.SuspendUntil)
     ∷ (codes "resume", asked.Resume)
     ∷ (codes "setOutput", asked.SetOutput)
     ∷ (codes "complete", asked.Complete)

@@ -2,12 +2,15 @@
 use Rattle.std.specs.Prelude.{ℕ, Bool, true, false, List, [], ◌∷◌, Option, Some, None, unwrap_or, IsSome, Result, Ok, Err}
 use Rattle.ht_base.specs.declared.event.Command.{Command}
 use Rattle.ht_base.specs.declared.event.Command.TheVariants as command
+use Rattle.ht_base.specs.declared.end.End.{End}
+use Rattle.ht_base.specs.declared.end.End.TheVariants.{At, After}
+use Rattle.ht_base.specs.declared.moment.Moment.{Moment}
 use Rattle.ht_base.specs.declared.retry.Retry.{Retry}
 use Rattle.ht_api.specs.declared.asked.Asked.{Asked}
 use Rattle.ht_api.specs.declared.asked.Asked.TheVariants as asked
 use Rattle.ht_api.specs.declared.fields.Fields.{Fields}
 use Rattle.ht_api.specs.declared.keys.Key.{Key}
-use Rattle.ht_api.specs.declared.keys.Key.TheVariants.{Device, Number, Model, Person, Fault, Role, Owners, Persons, Priority, Text, Sub, Input, Output, SomeOutput}
+use Rattle.ht_api.specs.declared.keys.Key.TheVariants.{Device, Number, Model, Person, Fault, Role, Owners, Persons, Priority, Until, For, OneEnd, ActivateAt, Text, Sub, Input, Output, SomeOutput}
 use Rattle.ht_api.specs.declared.refusal.ApiRefusal.{ApiRefusal}
 use Rattle.ht_api.specs.declared.refusal.ApiRefusal.TheVariants.{Field}
 use Rattle.ht_api.specs.Bodies.{json_in}
@@ -19,8 +22,18 @@ abbrev pub needing : {A : Type 0} → Key → Option A → (A → Result Command
 needing key None make = Err (Field (key_name key))
 needing key (Some a) make = make a
 
+-- at a moment, or behind a period, one of which the fields of a body have
+abbrev pub end_of : Option Moment → Option ℕ → Result End ApiRefusal
+end_of (Some moment) period = Ok (At moment)
+end_of None (Some period) = Ok (After period)
+end_of None None = Err (Field (key_name OneEnd))
+
+abbrev pub suspended : Result End ApiRefusal → Result Command ApiRefusal
+suspended (Err why) = Err why
+suspended (Ok end) = Ok (command.SuspendUntil end)
+
 abbrev pub command_of : Asked → Fields → Result Command ApiRefusal
-command_of asked.Create f = Ok (command.Create f.model (unwrap_or f.input []) None)
+command_of asked.Create f = Ok (command.Create f.model (unwrap_or f.input []) f.activate_at)
 command_of asked.Claim f = Ok command.Claim
 command_of asked.Start f = Ok command.Start
 command_of asked.Stop f = Ok command.Stop
@@ -32,6 +45,7 @@ command_of asked.Activate f = Ok command.Activate
 command_of asked.SetRole f = needing Role f.role (λ role. needing Persons f.persons (λ persons. Ok (command.SetRole role persons)))
 command_of asked.SetPriority f = needing Priority f.priority (λ priority. Ok (command.SetPriority priority))
 command_of asked.Suspend f = Ok command.Suspend
+command_of asked.SuspendUntil f = suspended (end_of f.until f.period)
 command_of asked.Resume f = Ok command.Resume
 command_of asked.SetOutput f = needing SomeOutput f.some_output (λ output. Ok (command.SetOutput output))
 command_of asked.Complete f = Ok (command.Complete (unwrap_or f.output []))
@@ -75,6 +89,10 @@ Has Role f = IsSome f.role
 Has Owners f = IsSome f.owners
 Has Persons f = IsSome f.persons
 Has Priority f = IsSome f.priority
+Has Until f = IsSome f.until
+Has For f = IsSome f.period
+Has OneEnd f = ⊥
+Has ActivateAt f = IsSome f.activate_at
 Has Text f = IsSome f.text
 Has Sub f = IsSome f.sub
 Has Input f = IsSome f.input

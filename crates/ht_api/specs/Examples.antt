@@ -6,10 +6,11 @@ use Rattle.serde_json.proofs.OnLiterals.{serde_json_on_literals}
 use Rattle.serde_json.specs.Data.{Data, Members, member, no_members, object}
 use Rattle.serde_json.specs.Find.{get}
 use Rattle.serde_json.specs.Written.{compact_text}
+use Rattle.ht_base.specs.declared.end.End.TheVariants.{At, After}
 use Rattle.ht_base.specs.declared.event.Command.TheVariants as command
 use Rattle.ht_base.specs.declared.event.Event.TheVariants.{Ask, Read}
 use Rattle.ht_base.specs.declared.event.Query.TheVariants as query
-use Rattle.ht_base.specs.declared.reply.Answer.TheVariants.{Done, Sheet, Refused}
+use Rattle.ht_base.specs.declared.reply.Answer.TheVariants.{Done, Turned, Sheet, Refused}
 use Rattle.ht_base.specs.declared.reply.Answer.{Answer}
 use Rattle.ht_base.specs.declared.reply.Refusal.{Refusal}
 use Rattle.ht_base.specs.declared.reply.Refusal.TheVariants as refusal
@@ -99,6 +100,47 @@ a_key_outside_goes_first = refl
 the_first_key_of_the_table : command_in asked.SetRole (codes "{\"persons\":1}") ≡ Err (Field (codes "role"))
 unfolding on_literals
 the_first_key_of_the_table = refl
+
+a_later_activation : command_in asked.Create (codes "{\"activateAt\":5000}") ≡ Ok (None, command.Create None [] (Some (record { 0 = 5000 })))
+unfolding on_literals
+a_later_activation = refl
+
+-- it is looked at behind the model and before the input
+no_activation : command_in asked.Create (codes "{\"input\":1,\"activateAt\":\"5000\"}") ≡ Err (Field (codes "activateAt"))
+unfolding on_literals
+no_activation = refl
+
+the_last_moment : command_in asked.SuspendUntil (codes "{\"until\":253402300799999}") ≡ Ok (None, command.SuspendUntil (At (record { 0 = 253402300799999 })))
+unfolding on_literals
+the_last_moment = refl
+
+behind_the_last_moment : command_in asked.SuspendUntil (codes "{\"until\":253402300800000}") ≡ Err (Field (codes "until"))
+unfolding on_literals
+behind_the_last_moment = refl
+
+an_end_by_its_moment : command_in asked.SuspendUntil (codes "{\"until\":5000}") ≡ Ok (None, command.SuspendUntil (At (record { 0 = 5000 })))
+unfolding on_literals
+an_end_by_its_moment = refl
+
+an_end_by_a_period : command_in asked.SuspendUntil (codes "{\"for\":\"PT10S\"}") ≡ Ok (None, command.SuspendUntil (After 10000))
+unfolding on_literals
+an_end_by_a_period = refl
+
+two_ends : command_in asked.SuspendUntil (codes "{\"for\":1,\"until\":5000}") ≡ Err (Field (codes "until"))
+unfolding on_literals
+two_ends = refl
+
+no_end : command_in asked.SuspendUntil [] ≡ Err (Field (codes "until"))
+no_end = refl
+
+-- the keys of a command's number are looked at before its end
+two_ends_of_a_device_alone : command_in asked.SuspendUntil (codes "{\"for\":1,\"until\":5000,\"device\":1}") ≡ Err (Field (codes "number"))
+unfolding on_literals
+two_ends_of_a_device_alone = refl
+
+no_period : command_in asked.SuspendUntil (codes "{\"for\":\"10\"}") ≡ Err (Field (codes "for"))
+unfolding on_literals
+no_period = refl
 
 persons_may_be_none : command_in asked.SetRole (codes "{\"persons\":[],\"role\":\"stakeholders\"}") ≡ Ok (None, command.SetRole Stakeholders [])
 unfolding on_literals
@@ -221,6 +263,10 @@ a_sub_task_refused : answer_text (Refused (refusal.SubRefused (codes "y"))) ≡ 
 unfolding on_literals
 a_sub_task_refused = refl
 
+a_turn : answer_text Turned ≡ codes "{}"
+unfolding on_literals
+a_turn = refl
+
 subs_in_order : compact_text (tasks_data (record { 0 = 3 } ∷ record { 0 = 12 } ∷ [])) ≡ codes "[3,12]"
 unfolding on_literals
 subs_in_order = refl
@@ -285,5 +331,6 @@ refusals_ascend refusal.Memory = refl
 answers_ascend : (a : Answer) → ascends (answer_data a) ≡ true
 unfolding sheet_data
 answers_ascend (Done task state owner) = refl
+answers_ascend Turned = refl
 answers_ascend (Sheet s) = refl
 answers_ascend (Refused why) = refusals_ascend why

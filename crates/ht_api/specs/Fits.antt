@@ -4,7 +4,10 @@ use Rattle.std.specs.Cmp.Lexicographic.{pointwise}
 use Rattle.std.specs.List.{list_any}
 use Rattle.serde_json.specs.Data.{Data, null, boolean, number, string, array, object, Items, no_items, item, Members, no_members, member}
 use Rattle.serde_json.specs.Find.{as_str, as_number, as_array, as_object, as_u64, as_i64}
+use Rattle.ht_base.specs.Moment.{last_moment}
 use Rattle.ht_base.specs.Name.{name_of}
+use Rattle.ht_base.specs.Periods.{period_of}
+use Rattle.ht_base.specs.declared.moment.Moment.{Moment}
 use Rattle.ht_base.specs.declared.role_list.RoleList.{RoleList}
 use Rattle.ht_base.specs.declared.role_list.RoleList.TheVariants.{PotentialOwners, ExcludedOwners, Administrators, Stakeholders}
 use Rattle.ht_base.specs.declared.scalar.Scalar.{Scalar}
@@ -40,6 +43,14 @@ number_in d = whole_in 1 4294967295 d
 
 abbrev pub priority_in : Data → Option ℕ
 priority_in d = whole_in 0 10 d
+
+-- a moment up to the last
+abbrev pub moment_in : Data → Option Moment
+moment_in d = option_map (λ n. record { 0 = n }) (whole_in 0 last_moment d)
+
+-- the milliseconds of a text that is a period
+abbrev pub period_in : Data → Option ℕ
+period_in d = option_and_then period_of (as_str d)
 
 -- a text of 1 to 512 bytes
 abbrev pub text_if : List ℕ → Option (List ℕ)

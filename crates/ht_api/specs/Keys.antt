@@ -16,6 +16,10 @@ key_name key.Role = codes "role"
 key_name key.Owners = codes "persons"
 key_name key.Persons = codes "persons"
 key_name key.Priority = codes "priority"
+key_name key.Until = codes "until"
+key_name key.For = codes "for"
+key_name key.OneEnd = codes "until"
+key_name key.ActivateAt = codes "activateAt"
 key_name key.Text = codes "text"
 key_name key.Sub = codes "sub"
 key_name key.Input = codes "input"
@@ -24,12 +28,13 @@ key_name key.SomeOutput = codes "output"
 
 -- those of an operation, each with whether it is required, in the order in which they are looked at
 abbrev pub keys_of : Asked → List (Key × Bool)
-keys_of asked.Create = (key.Model, false) ∷ (key.Input, false) ∷ []
+keys_of asked.Create = (key.Model, false) ∷ (key.ActivateAt, false) ∷ (key.Input, false) ∷ []
 keys_of asked.Delegate = (key.Person, true) ∷ []
 keys_of asked.Forward = (key.Owners, true) ∷ []
 keys_of asked.Nominate = (key.Owners, true) ∷ []
 keys_of asked.SetRole = (key.Role, true) ∷ (key.Persons, true) ∷ []
 keys_of asked.SetPriority = (key.Priority, true) ∷ []
+keys_of asked.SuspendUntil = (key.Until, false) ∷ (key.For, false) ∷ []
 keys_of asked.SetOutput = (key.SomeOutput, true) ∷ []
 keys_of asked.Complete = (key.Output, false) ∷ []
 keys_of asked.Fail = (key.Fault, false) ∷ []

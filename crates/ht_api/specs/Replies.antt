@@ -3,7 +3,7 @@ use Rattle.std.specs.Prelude.{ℕ, ◌≤◌, List, [], ◌∷◌, ◌++◌, len
 use Rattle.serde_json.specs.Data.{Data, boolean, string}
 use Rattle.serde_json.specs.Written.{compact_text}
 use Rattle.ht_base.specs.declared.reply.Answer.{Answer}
-use Rattle.ht_base.specs.declared.reply.Answer.TheVariants.{Done, Sheet, Refused}
+use Rattle.ht_base.specs.declared.reply.Answer.TheVariants.{Done, Turned, Sheet, Refused}
 use Rattle.ht_base.specs.declared.reply.Limit.{Limit}
 use Rattle.ht_base.specs.declared.reply.Limit.TheVariants.{Tasks, Comments}
 use Rattle.ht_base.specs.declared.reply.Refusal.{Refusal}
@@ -105,6 +105,7 @@ sheet_data s = row_object (first_rows s ++ (middle_rows s ++ last_rows s))
 abbrev pub answer_data : Answer → Data
 answer_data (Done task state owner) =
     row_object ((codes "owner", name_or_null owner) ∷ (codes "state", string (state_name state)) ∷ (codes "task", whole task.0) ∷ [])
+answer_data Turned = row_object []
 answer_data (Sheet s) = sheet_data s
 answer_data (Refused why) = refusal_data why
 
@@ -114,6 +115,7 @@ answer_text a = compact_text (answer_data a)
 -- the answer is a sheet
 abbrev pub IsSheet : Answer → Type 0
 IsSheet (Done task state owner) = ⊥
+IsSheet Turned = ⊥
 IsSheet (Sheet s) = Unit {0}
 IsSheet (Refused why) = ⊥
 

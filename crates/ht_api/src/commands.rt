@@ -6,8 +6,9 @@ ghost use Rattle.ht_api.specs.Refusals.{Gives};
 
 use crate::asked::Asked;
 use crate::fields::{Fields, fields_of};
+use crate::keys::Key;
 use crate::refusal::ApiRefusal;
-use ht_base::{Command, Parts, Retry};
+use ht_base::{Command, End, Moment, Parts, Retry};
 use std::alloc::Global;
 
 /// The command that a body gives to what is asked, and its number, if it has one.
@@ -20,7 +21,8 @@ pub(crate) fn command_in(
 {
     let fields = fields_of(alloc, asked, body)?;
     let retry = retry_of(fields.device, fields.number);
-    Ok((retry, command_of(alloc, asked, fields)))
+    let command = command_of(alloc, asked, fields)?;
+    Ok((retry, command))
 }
 
 fn retry_of(device: Option<u8>, number: Option<u32>) -> Option<Retry>
@@ -32,15 +34,15 @@ fn retry_of(device: Option<u8>, number: Option<u32>) -> Option<Retry>
     })
 }
 
-fn command_of(alloc: Global, asked: Asked, fields: Fields) -> Command
+fn command_of(alloc: Global, asked: Asked, fields: Fields) -> Result<Command, ApiRefusal>
     requires { HasAll (keys_of asked) fields }
-    ensures { spec.command_of asked fields ≡ Ok result }
+    ensures { result ≡ spec.command_of asked fields }
 {
-    match asked {
+    Ok(match asked {
         Asked::Create => Command::Create {
             model: fields.model,
             input: parts_or_none(alloc, fields.input),
-            activate_at: None,
+            activate_at: fields.activate_at,
         },
         Asked::Claim => Command::Claim,
         Asked::Start => Command::Start,
@@ -64,6 +66,9 @@ fn command_of(alloc: Global, asked: Asked, fields: Fields) -> Command
             priority: fields.priority.unwrap(),
         },
         Asked::Suspend => Command::Suspend,
+        Asked::SuspendUntil => Command::SuspendUntil {
+            end: end_of(fields.until, fields.period)?,
+        },
         Asked::Resume => Command::Resume,
         Asked::SetOutput => Command::SetOutput {
             output: fields.some_output.unwrap(),
@@ -83,6 +88,17 @@ fn command_of(alloc: Global, asked: Asked, fields: Fields) -> Command
         Asked::InstantiateSubTask => Command::InstantiateSubTask {
             sub: fields.sub.unwrap(),
         },
+    })
+}
+
+// When a suspension ends: at a moment, or behind a period.
+fn end_of(until: Option<Moment>, period: Option<u64>) -> Result<End, ApiRefusal>
+    ensures { result ≡ spec.end_of until period }
+{
+    match (until, period) {
+        (Some(moment), _) => Ok(End::At(moment)),
+        (None, Some(period)) => Ok(End::After(period)),
+        (None, None) => Err(ApiRefusal::of_key(Key::OneEnd.name())),
     }
 }
 

@@ -9,12 +9,12 @@ ghost use Rattle.ht_api.specs.Refusals.{Fills, Gives};
 
 use crate::asked::Asked;
 use crate::fits::{
-    device_in, name_in, number_in, owners_in, parts_in, persons_in, priority_in, role_in,
-    some_parts_in, text_in,
+    device_in, moment_in, name_in, number_in, owners_in, parts_in, period_in, persons_in,
+    priority_in, role_in, some_parts_in, text_in,
 };
 use crate::keys::{Key, keys_of, knows};
 use crate::refusal::ApiRefusal;
-use ht_base::{Memory, Name, Names, Parts, RoleList, Txt};
+use ht_base::{Memory, Moment, Name, Names, Parts, RoleList, Txt};
 use serde_json::{Map, Value};
 use std::alloc::Global;
 
@@ -40,6 +40,9 @@ pub(crate) struct Fields {
     pub owners: Option<Names>,
     pub persons: Option<Names>,
     pub priority: Option<u8>,
+    pub until: Option<Moment>,
+    pub period: Option<u64>,
+    pub activate_at: Option<Moment>,
     pub text: Option<Txt>,
     pub sub: Option<Name>,
     pub input: Option<Parts>,
@@ -61,6 +64,9 @@ impl Fields {
             owners: None,
             persons: None,
             priority: None,
+            until: None,
+            period: None,
+            activate_at: None,
             text: None,
             sub: None,
             input: None,
@@ -83,6 +89,10 @@ impl Fields {
             Key::Owners => put!(self.owners, owners_in(alloc, value)?),
             Key::Persons => put!(self.persons, persons_in(alloc, value)?),
             Key::Priority => put!(self.priority, priority_in(value)),
+            Key::Until => put!(self.until, moment_in(value)),
+            Key::For => put!(self.period, period_in(value)),
+            Key::OneEnd => return Ok(false),
+            Key::ActivateAt => put!(self.activate_at, moment_in(value)),
             Key::Text => put!(self.text, text_in(alloc, value)?),
             Key::Sub => put!(self.sub, name_in(value)),
             Key::Input => put!(self.input, parts_in(alloc, value)?),
@@ -98,10 +108,20 @@ pub(crate) fn fields_of(alloc: Global, asked: Asked, body: &[u8]) -> Result<Fiel
     ensures { Gives (fields_from asked (json_in body.now)) result }
 {
     if is_bare(body) {
-        return fields_of_none(keys_of(asked));
+        return fields_of_none(rows_of_none(asked));
     }
     let value = value_of(alloc, body)?;
     fields_of_value(alloc, asked, &value)
+}
+
+// The keys that are looked at in a body that has none.
+fn rows_of_none(asked: Asked) -> &'static [(Key, bool)]
+    ensures { result.now ≡ spec.rows_in asked (object no_members) }
+{
+    match asked {
+        Asked::SuspendUntil => end_rows(false, false),
+        _ => keys_of(asked),
+    }
 }
 
 // What a body without keys gives, in which a required one is missing.
@@ -150,7 +170,7 @@ fn fields_of_value(alloc: Global, asked: Asked, body: &Value) -> Result<Fields, 
     }
     let mut fields = Fields::new();
     take(alloc, &number_keys(body), body, &mut fields)?;
-    take(alloc, rows, body, &mut fields)?;
+    take(alloc, rows_in(asked, body), body, &mut fields)?;
     Ok(fields)
 }
 
@@ -161,6 +181,30 @@ fn number_keys(body: &Value) -> [(Key, bool); 2]
     let has_device = body.get(Key::Device.name()).is_some();
     let has_number = body.get(Key::Number.name()).is_some();
     [(Key::Device, has_number), (Key::Number, has_device)]
+}
+
+// The keys that are looked at. A suspension has one end; where it has two or none, the key of it can't
+// be filled.
+fn rows_in(asked: Asked, body: &Value) -> &'static [(Key, bool)]
+    ensures { result.now ≡ spec.rows_in asked (view body.now) }
+{
+    match asked {
+        Asked::SuspendUntil => end_rows(
+            body.get(Key::Until.name()).is_some(),
+            body.get(Key::For.name()).is_some(),
+        ),
+        _ => keys_of(asked),
+    }
+}
+
+fn end_rows(has_until: bool, has_period: bool) -> &'static [(Key, bool)]
+    ensures { result.now ≡ spec.end_rows has_until has_period }
+{
+    match (has_until, has_period) {
+        (true, false) => &[(Key::Until, true)],
+        (false, true) => &[(Key::For, true)],
+        (true, true) | (false, false) => &[(Key::OneEnd, true)],
+    }
 }
 
 fn are_keys(rows: &[(Key, bool)], body: &Value) -> bool

@@ -3,7 +3,7 @@ ghost use Rattle.serde_json.specs.View.{view, items_view, members_view};
 ghost use Rattle.ht_api.specs.Fits as spec;
 ghost use Rattle.ht_api.specs.Fits.{holds_name};
 
-use ht_base::{Memory, Name, Names, Parts, RoleList, Scalar, Txt};
+use ht_base::{LAST, Memory, Moment, Name, Names, Parts, RoleList, Scalar, Txt, period};
 use serde_json::{Map, Value};
 use std::alloc::Global;
 
@@ -64,6 +64,19 @@ pub(crate) fn priority_in(value: &Value) -> Option<u8>
 {
     let priority = whole_in(value, 0, LOWEST_PRIORITY)?;
     Some(priority as u8)
+}
+
+pub(crate) fn moment_in(value: &Value) -> Option<Moment>
+    ensures { result ≡ spec.moment_in (view value.now) }
+{
+    let moment = whole_in(value, 0, LAST)?;
+    Some(Moment(moment))
+}
+
+pub(crate) fn period_in(value: &Value) -> Option<u64>
+    ensures { result ≡ spec.period_in (view value.now) }
+{
+    period(value.as_str()?)
 }
 
 // A whole number that is at least the one and at most the other.

@@ -19,6 +19,12 @@ pub(crate) enum Key {
     Owners,
     Persons,
     Priority,
+    Until,
+    /// A period.
+    For,
+    /// No value fits it.
+    OneEnd,
+    ActivateAt,
     Text,
     Sub,
     Input,
@@ -42,6 +48,10 @@ impl Key {
             Key::Owners => "persons",
             Key::Persons => "persons",
             Key::Priority => "priority",
+            Key::Until => "until",
+            Key::For => "for",
+            Key::OneEnd => "until",
+            Key::ActivateAt => "activateAt",
             Key::Text => "text",
             Key::Sub => "sub",
             Key::Input => "input",
@@ -57,12 +67,17 @@ pub(crate) fn keys_of(asked: Asked) -> &'static [(Key, bool)]
     ensures { result.now ≡ spec.keys_of asked }
 {
     match asked {
-        Asked::Create => &[(Key::Model, false), (Key::Input, false)],
+        Asked::Create => &[
+            (Key::Model, false),
+            (Key::ActivateAt, false),
+            (Key::Input, false),
+        ],
         Asked::Delegate => &[(Key::Person, true)],
         Asked::Forward => &[(Key::Owners, true)],
         Asked::Nominate => &[(Key::Owners, true)],
         Asked::SetRole => &[(Key::Role, true), (Key::Persons, true)],
         Asked::SetPriority => &[(Key::Priority, true)],
+        Asked::SuspendUntil => &[(Key::Until, false), (Key::For, false)],
         Asked::SetOutput => &[(Key::SomeOutput, true)],
         Asked::Complete => &[(Key::Output, false)],
         Asked::Fail => &[(Key::Fault, false)],

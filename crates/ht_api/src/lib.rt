@@ -20,6 +20,8 @@ mod tests;
 #[cfg(test)]
 mod tests_of_bodies;
 #[cfg(test)]
+mod tests_of_moments;
+#[cfg(test)]
 mod tests_of_replies;
 
 pub use events::event_of;

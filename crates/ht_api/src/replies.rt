@@ -1,6 +1,6 @@
 ghost use Rattle.std.specs.Prelude.{◌≡◌, ◌+◌, ◌≤◌, [], length, IsOk, IfOk, OnOk, OnErr};
 ghost use Rattle.serde_json.specs.Written.{compact_text};
-ghost use Rattle.ht_base.specs.declared.reply.Answer.TheVariants.{Done};
+ghost use Rattle.ht_base.specs.declared.reply.Answer.TheVariants.{Done, Turned};
 ghost use Rattle.ht_wire.specs.Replies.{IsReplyStatus};
 ghost use Rattle.ht_api.specs.Replies.{IsSheet, IsShort, answer_data, answer_text};
 ghost use Rattle.ht_api.specs.Statuses.{answer_status};
@@ -50,6 +50,7 @@ fn put_answer(answer: &Answer, writer: &mut Writer) -> Result<(), Memory>
 {
     match answer {
         Answer::Done { task, state, owner } => put_done(*task, *state, owner, writer),
+        Answer::Turned => put_turned(writer),
         Answer::Sheet(sheet) => put_sheet(sheet, writer),
         Answer::Refused(refusal) => put_refusal(refusal, writer),
     }
@@ -73,6 +74,13 @@ fn put_done(
         ],
         writer,
     )
+}
+
+fn put_turned(writer: &mut Writer) -> Result<(), Memory>
+    ensures puts { Puts result writer.old writer.new (tokens_of (answer_data Turned)) }
+    ensures room { 1024 ≤ writer.old.spare → IsOk result }
+{
+    put_short(&[], writer)
 }
 
 // A name has at most 32 bytes.

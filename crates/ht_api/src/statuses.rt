@@ -11,6 +11,7 @@ pub(crate) fn status_of(answer: &Answer) -> u16
 {
     match answer {
         Answer::Done { .. } => 200,
+        Answer::Turned => 200,
         Answer::Sheet(_) => 200,
         Answer::Refused(refusal) => status_of_refusal(refusal),
     }

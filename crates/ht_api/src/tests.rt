@@ -1,6 +1,6 @@
 use crate::{ApiRefusal, Routes, event_of, wire_refusal};
 use ht_base::{
-    Bytes, Command, Event, LAST, Moment, Name, Names, Parts, Query, Refusal, Retry, RoleList,
+    Bytes, Command, End, Event, LAST, Moment, Name, Names, Parts, Query, Refusal, Retry, RoleList,
     Scalar, TaskId,
 };
 use ht_wire::Request;
@@ -80,6 +80,10 @@ fn put_event(event: &Event, text: &mut String) -> Result<(), Fail> {
             text.push_str(" sheet")?;
             Ok(())
         }
+        Event::Turn { .. } => {
+            text.push_str("turn")?;
+            Ok(())
+        }
     }
 }
 
@@ -104,10 +108,16 @@ fn put_command(command: &Command, text: &mut String) -> Result<(), Fail> {
     text.push(' ')?;
     text.push_str(word_of(command))?;
     match command {
-        Command::Create { model, input, .. } => {
+        Command::Create {
+            model,
+            input,
+            activate_at,
+        } => {
             put_name_or_none(model, text)?;
-            put_parts(input, text)
+            put_parts(input, text)?;
+            put_moment_or_none(activate_at, text)
         }
+        Command::SuspendUntil { end } => put_end(end, text),
         Command::Delegate { person } => put_name_or_none(&Some(*person), text),
         Command::Forward { persons } => put_names(persons, text),
         Command::Nominate { persons } => put_names(persons, text),
@@ -166,6 +176,25 @@ fn role_text(role: RoleList) -> &'static str {
         RoleList::ExcludedOwners => " excludedOwners",
         RoleList::Administrators => " administrators",
         RoleList::Stakeholders => " stakeholders",
+    }
+}
+
+fn put_moment_or_none(moment: &Option<Moment>, text: &mut String) -> Result<(), Fail> {
+    if let Some(moment) = moment {
+        text.push_str(" at ")?;
+        text.push_str(Buffer::new().format(moment.0))?;
+    }
+    Ok(())
+}
+
+fn put_end(end: &End, text: &mut String) -> Result<(), Fail> {
+    match end {
+        End::At(moment) => put_moment_or_none(&Some(*moment), text),
+        End::After(period) => {
+            text.push_str(" after ")?;
+            text.push_str(Buffer::new().format(*period))?;
+            Ok(())
+        }
     }
 }
 
@@ -262,6 +291,9 @@ POST /tasks/1/activate anna  => anna 1 activate
 POST /tasks/12/delegate anna {\"person\":\"ben\"} => anna 12 delegate ben
 POST /tasks/12/setPriority anna {\"priority\":3} => anna 12 setPriority 3
 POST /tasks/1/suspend anna  => anna 1 suspend
+POST /tasks/12/suspendUntil anna {\"until\":5000} => anna 12 suspendUntil at 5000
+POST /tasks/12/suspendUntil anna {\"for\":\"PT10S\"} => anna 12 suspendUntil after 10000
+POST /tasks/12/suspend anna {\"until\":5000} => Field body
 POST /tasks/1/resume anna  => anna 1 resume
 POST /tasks/12/setOutput anna {\"output\":{\"a\":true}} => anna 12 setOutput a=true
 POST /tasks/12/setOutput anna  => Field output
@@ -302,7 +334,7 @@ tasks
 /tasks/1/
 /tasks/1/create
 /tasks/1/get
-/tasks/1/suspendUntil
+/tasks/1/suspenduntil
 /tasks/1/instantiatesubtask
 /tasks/1/Suspend
 /tasks/1/setoutput
@@ -343,7 +375,7 @@ fn requests_give_events_by_their_place(rt: HostRuntime) -> Result<(), Fail> {
     are_requests_told(&rt, rt.alloc(), REQUESTS)
 }
 
-const OPERATIONS: [&str; 20] = [
+const OPERATIONS: [&str; 21] = [
     "claim",
     "start",
     "stop",
@@ -355,6 +387,7 @@ const OPERATIONS: [&str; 20] = [
     "setRole",
     "setPriority",
     "suspend",
+    "suspendUntil",
     "resume",
     "setOutput",
     "complete",
@@ -412,7 +445,7 @@ POST /tasks/1/claim - {\"a\":1} => Field body
 POST /tasks/1/delegate -  => Field person
 POST /tasks/1/addComment -  => Field text
 POST /tasks/1/instantiateSubTask -  => Field sub
-POST /tasks/1/suspendUntil - { => Route
+POST /tasks/1/suspendUntil - { => Json
 GET /tasks/1/exit - { => Method
 POST /tasks/1/exit - {} => Person
 POST /tasks -  => Person

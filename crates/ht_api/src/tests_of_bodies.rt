@@ -37,7 +37,7 @@ null => Field body
 {"model":"unit","person":"ben"} => Field body
 {"model":1,"x":1} => Field body
 {"device":0,"number":1} => anna 0 create - by 0/1
-{"activateAt":5} => Field body
+{"activateAt":5} => anna 0 create - at 5
 {"":1} => Field body"#;
 
 const NUMBERS: &str = r#"{"device":1,"number":5} => anna 7 claim by 1/5

@@ -64,6 +64,11 @@ fn a_command_is_done(rt: HostRuntime) -> Result<(), Fail> {
     is_answered(&rt, rt.alloc(), reserved, 200, text)
 }
 
+#[test]
+fn what_was_due_is_done(rt: HostRuntime) -> Result<(), Fail> {
+    is_answered(&rt, rt.alloc(), Answer::Turned, 200, "{}")
+}
+
 // The refusal has this fault and no further key.
 fn is_fault(
     rt: &impl Abort,

@@ -6,7 +6,7 @@ use Rattle.ht_base.specs.declared.event.Command.TheVariants.{Create, Claim, Star
 use Rattle.ht_base.specs.declared.end.End.{End}
 use Rattle.ht_base.specs.declared.end.End.TheVariants.{After, At}
 use Rattle.ht_base.specs.declared.event.Event.{Event}
-use Rattle.ht_base.specs.declared.event.Event.TheVariants.{Ask, Read}
+use Rattle.ht_base.specs.declared.event.Event.TheVariants.{Ask, Read, Turn}
 use Rattle.ht_base.specs.declared.event.Query.TheVariants as query
 use Rattle.ht_base.specs.declared.operation.Op.{Op}
 use Rattle.ht_base.specs.declared.operation.Op.TheVariants as op
@@ -88,5 +88,6 @@ IsRetry r = (r.device ≤ 15) × (1 ≤ r.number)
 -- Its moment is at most the last there is, its number is one of a device, just a create names no task,
 -- and what it gives is in its limits.
 abbrev pub IsValid : Event → Type 0
+IsValid (Turn at) = at.0 ≤ last_moment
 IsValid (Ask at caller retry task command) = (at.0 ≤ last_moment) × IfSome retry IsRetry × IsTaskOf command task × IsCommand command
 IsValid (Read caller (query.Sheet task)) = 1 ≤ task.0

@@ -175,6 +175,10 @@ pub enum Query {
 /// One thing that happens to the task machine.
 #[derive(Debug, Drop)]
 pub enum Event {
+    /// The time has come to this moment: what is due by then is done.
+    Turn {
+        at: Moment,
+    },
     /// A caller asks for a change at a moment, with a number where it may be sent again. `task` is 0
     /// exactly for a create.
     Ask {
@@ -196,6 +200,7 @@ impl Event {
         ensures { IfOk result (λ e. e ≡ self.now) }
     {
         match self {
+            Event::Turn { at } => Ok(Event::Turn { at: *at }),
             Event::Ask {
                 at,
                 caller,

@@ -118,6 +118,14 @@ fn openings_and_turns_are_copied(rt: HostRuntime) -> Result<(), Fail> {
 }
 
 #[test]
+fn a_turn_is_copied(rt: HostRuntime) -> Result<(), Fail> {
+    let turn = Event::Turn { at: Moment(7000) };
+    let copy = turn.copy(rt.alloc())?;
+    assert!(rt; matches!(copy, Event::Turn { at: Moment(7000) }));
+    Ok(())
+}
+
+#[test]
 fn an_event_that_reads_is_copied(rt: HostRuntime) -> Result<(), Fail> {
     let anna = Name::of(b"anna").ok_or("a name")?;
     let read = Event::Read {
@@ -237,6 +245,6 @@ fn is_same_scalar(one: &Scalar, other: &Scalar) -> bool {
 fn op_asked(event: &Event) -> Option<(Op, Option<Retry>)> {
     match event {
         Event::Ask { retry, command, .. } => Some((command.op(), *retry)),
-        Event::Read { .. } => None,
+        Event::Read { .. } | Event::Turn { .. } => None,
     }
 }

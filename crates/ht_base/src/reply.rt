@@ -83,6 +83,8 @@ pub enum Answer {
         state: State,
         owner: Option<Name>,
     },
+    /// What was due is done.
+    Turned,
     Sheet(Sheet),
     Refused(Refusal),
 }

@@ -17,28 +17,20 @@ use Rattle.ht_machine.specs.declared.sending.Sending.TheVariants.{New}
 use Rattle.ht_machine.specs.Commands.{ActsOn, AfterEffect, BehindGate, Comes, DoesOn, MakesEntry, Outcome, accepted, refused}
 use Rattle.ht_machine.specs.Deciding.{AsksAs, NamesOwner, Shows}
 use Rattle.ht_machine.specs.Gate.{Gate, gate, opens, shuts}
-use Rattle.ht_machine.specs.Planning.{Does, IsAsked, Leaves, PlansAsk, PlansNew, record_of}
+use Rattle.ht_machine.specs.Planning.{Does, IsAsked, IsReady, Leaves, PlansAsk, PlansNew, record_of}
 use Rattle.ht_machine.specs.Sending.{IsSent, answer_of, keeping_reply, slot_of, with_reply}
 use Rattle.ht_owner.specs.Effects.{Effect, does, effect, refuses}
 use Rattle.ht_tree.specs.declared.slot.Kept.{Kept}
-use Rattle.ht_tree.specs.Plans.{ChangesOf, IsPlanOf, PlanOf, no_plan, planned}
+use Rattle.ht_tree.specs.declared.slot.Slot.{Slot}
+use Rattle.ht_tree.specs.Plans.{ChangesOf, IsPlanOf, PlanOf, planned, slots_after}
 use Rattle.ht_tree.specs.Slots.{IsNamedBy, IsSoundReply}
 use Rattle.ht_tree.specs.Soundness.{IsSound}
 use Rattle.ht_tree.specs.Tables.{TablesOf, at_moment, directory}
-use Rattle.ht_tree.proofs.PublicLaws.{keeping_fits, keeping_planned, no_plan_fits, planned_nothing, slot_sound, sound_at, within}
+use Rattle.ht_tree.proofs.PublicLaws.{keeping_fits, keeping_planned, slot_sound, sound_at, within}
 
--- where nothing changes
-pub stays_leaves : (t : TablesOf) (p : PlanOf) → p ≡ no_plan → IsSound t → Leaves t p None t
-stays_leaves t p none sound = record {
-  fits = no_plan_fits t p none;
-  makes = ap (λ (u : TablesOf). at_moment u t.last) (planned_nothing t p none);
-  sound = sound;
-  later = omega arith;
-}
-
--- on tables for which nothing was planned yet
-on_nothing : (t : TablesOf) (p : PlanOf) (person moment task : ℕ) (command : Command) (o : Outcome) → p ≡ no_plan → Comes (planned t p) person moment task command o → Comes t person moment task command o
-on_nothing t p person moment task command o none comes = let P : TablesOf → Type 0 = λ u. Comes u person moment task command o in subst P (planned_nothing t p none) comes
+-- where nothing more changes
+pub stays_leaves : (t : TablesOf) (p : PlanOf) → IsPlanOf t p → IsSound (planned t p) → Leaves t p None (planned t p)
+stays_leaves t p fit sound = record { fits = fit; makes = refl; sound = sound; later = omega arith }
 
 pub none_found : {A : Type 0} (o : Option A) → ((x : A) → o ≡ Some x → ⊥) → o ≡ None
 none_found None other = refl
@@ -107,10 +99,10 @@ keeping_reply_fits t p person (Some r) op task reply fit = keeping_fits t p (slo
 
 -- ---- a new command
 
-module _ (t : TablesOf) (p q : PlanOf) (person : ℕ) (a : Ask) (sound : IsSound t) (none : p ≡ no_plan) where
+module _ (t : TablesOf) (p q : PlanOf) (person : ℕ) (a : Ask) (ready : IsReady t p) where
   -- that is accepted
   module _ (about : TaskId) (reply : Kept) (later : t.last ≤ a.at.0) (known : person < length t.people.persons) (is : IsAsked a) where
-    pub asked_anew : Does t p q (Comes (planned t p) person a.at.0 a.task.0 a.command.now) about → Shows (planned t q) about.0 reply → NamesOwner t.people reply → PlansNew t (keeping_reply q person a.retry (op_of a.command.now) a.task reply) a.at.0 person a.retry a.task a.command.now (record_of a) (Some (record_of a)) (answer_of reply)
+    pub asked_anew : Does t p q (Comes (planned t p) person a.at.0 a.task.0 a.command.now) about → Shows (planned t q) about.0 reply → NamesOwner t.people reply → PlansNew t p (keeping_reply q person a.retry (op_of a.command.now) a.task reply) a.at.0 person a.retry a.task a.command.now (record_of a) (Some (record_of a)) (answer_of reply)
     asked_anew came shows names =
         let op = op_of a.command.now in
         let v = came.after in
@@ -118,15 +110,14 @@ module _ (t : TablesOf) (p q : PlanOf) (person : ℕ) (a : Ask) (sound : IsSound
         let W : TablesOf → TablesOf = λ x. with_reply x person a.retry op a.task reply in
         let S : TablesOf → Type 0 = λ x. IsSound x in
         let A : TablesOf → Type 0 = λ x. Shows x about.0 reply in
-        let fresh : (q.changes).slot ≡ None = (came.goes).slot ∙ ap (λ (r : PlanOf). (r.changes).slot) none in
-        let made : IsSound u = subst S (sym (came.goes).to) (came.sound (subst S (sym (planned_nothing t p none)) sound)) in
+        let fresh : (q.changes).slot ≡ None = (came.goes).slot ∙ ready.fresh in
+        let made : IsSound u = subst S (sym (came.goes).to) (came.sound ready.sound) in
         let place = within u.rows shows.0 about.0 shows.1 in
-        let comes : Comes t person a.at.0 a.task.0 a.command.now (accepted v about.0) = on_nothing t p person a.at.0 a.task.0 a.command.now (accepted v about.0) none came.comes in
-        let names_task = named t person a.at.0 a.task a.command.now v about.0 (length u.rows) comes is.task place in
+        let names_task = named (planned t p) person a.at.0 a.task a.command.now v about.0 (length u.rows) came.comes is.task place in
         let kept : IsSound (W u) = with_reply_sound u person a.retry op a.task reply made known is.retry names_task (reply_is_sound u about.0 reply made shows names) in
         record {
           after = at_moment (W v) a.at.0;
-          asks = (accepted v about.0, comes, (reply, subst A (came.goes).to shows, refl, refl, refl));
+          asks = (accepted v about.0, came.comes, (reply, subst A (came.goes).to shows, refl, refl, refl));
           leaves = record {
             fits = keeping_reply_fits t q person a.retry op a.task reply (came.goes).fits;
             makes = ap (λ (x : TablesOf). at_moment x a.at.0) (keeping_reply_planned t q person a.retry op a.task reply fresh ∙ ap W (came.goes).to);
@@ -136,34 +127,43 @@ module _ (t : TablesOf) (p q : PlanOf) (person : ℕ) (a : Ask) (sound : IsSound
         }
 
   -- that is refused, behind which the plan goes back
-  pub refused_anew : (back : PlanOf) (why : Refusal) → back ≡ record q { changes = q.marked } → q.marked ≡ p.marked → Comes (planned t p) person a.at.0 a.task.0 a.command.now (refused why) → PlansNew t back a.at.0 person a.retry a.task a.command.now (record_of a) None (Refused why)
+  pub refused_anew : (back : PlanOf) (why : Refusal) → back ≡ record q { changes = q.marked } → q.marked ≡ p.marked → Comes (planned t p) person a.at.0 a.task.0 a.command.now (refused why) → PlansNew t p back a.at.0 person a.retry a.task a.command.now (record_of a) None (Refused why)
   refused_anew back why is same comes =
-      let empty = same ∙ ap (λ (x : PlanOf). x.marked) none in
-      let nothing : back ≡ no_plan = is ∙ ap (λ (m : ChangesOf). let x : PlanOf = record { changes = m; marked = m } in x) empty in
+      let once_more : back ≡ p =
+      is
+      ∙ ap (λ (m : ChangesOf). let x : PlanOf = record { changes = m; marked = m } in x) (same ∙ ready.marked)
+      ∙ ap (λ (m : ChangesOf). let x : PlanOf = record { changes = p.changes; marked = m } in x) (sym ready.marked) in
+      let L : PlanOf → Type 0 = λ x. Leaves t x None (planned t p) in
       record {
-        after = t;
-        asks = (refused why, on_nothing t p person a.at.0 a.task.0 a.command.now (refused why) none comes, ((refl, refl), refl));
-        leaves = stays_leaves t back nothing sound;
+        after = planned t p;
+        asks = (refused why, comes, ((refl, refl), refl));
+        leaves = subst L (sym once_more) (stays_leaves t p ready.fits ready.sound);
       }
 
 -- ---- any command
 
 -- by what is known of it
-module _ (t : TablesOf) (p : PlanOf) (a : Ask) (op : Op) (sending : Sending) (named : op ≡ op_of a.command.now) (sent : IsSent t a.caller a.retry op a.task sending) where
-  known : IsSent t a.caller a.retry (op_of a.command.now) a.task sending
-  known = let P : Op → Type 0 = λ o. IsSent t a.caller a.retry o a.task sending in subst P named sent
+module _ (t : TablesOf) (p : PlanOf) (a : Ask) (op : Op) (sending : Sending) (named : op ≡ op_of a.command.now) (sent : IsSent t a.caller a.retry op a.task sending) (ready : IsReady t p) where
+  same : (planned t p).slots ≡ t.slots
+  same = ap (λ (o : Option Slot). slots_after t.slots o) ready.fresh
+
+  known : IsSent (planned t p) a.caller a.retry (op_of a.command.now) a.task sending
+  known =
+      let P : Op → Type 0 = λ o. IsSent t a.caller a.retry o a.task sending in
+      let S : List Slot → Type 0 = λ l. IsSent (record t { slots = l }) a.caller a.retry (op_of a.command.now) a.task sending in
+      subst S (sym same) (subst P named sent)
 
   -- one that leaves nothing
-  pub idle_asked : (answer : Answer) → IsSound t → p ≡ no_plan → AsksAs t a.at.0 a.retry a.task a.command.now (record_of a) sending None answer t → PlansAsk t p a.at.0 a.caller a.retry a.task a.command.now None answer
-  idle_asked answer sound none asks = record {
-    after = t;
+  pub idle_asked : (answer : Answer) → AsksAs (planned t p) a.at.0 a.retry a.task a.command.now (record_of a) sending None answer (planned t p) → PlansAsk t p p a.at.0 a.caller a.retry a.task a.command.now None answer
+  idle_asked answer asks = record {
+    after = planned t p;
     asks = record { sending = sending; sent = known; asks = asks };
-    leaves = stays_leaves t p none sound;
+    leaves = stays_leaves t p ready.fits ready.sound;
   }
 
-  pub new_asked : (q : PlanOf) (person : ℕ) (left : Option Record) (answer : Answer) → sending ≡ New person → PlansNew t q a.at.0 person a.retry a.task a.command.now (record_of a) left answer → PlansAsk t q a.at.0 a.caller a.retry a.task a.command.now left answer
+  pub new_asked : (q : PlanOf) (person : ℕ) (left : Option Record) (answer : Answer) → sending ≡ New person → PlansNew t p q a.at.0 person a.retry a.task a.command.now (record_of a) left answer → PlansAsk t p q a.at.0 a.caller a.retry a.task a.command.now left answer
   new_asked q person left answer is plans =
-      let P : Sending → Type 0 = λ s. AsksAs t a.at.0 a.retry a.task a.command.now (record_of a) s left answer plans.after in
+      let P : Sending → Type 0 = λ s. AsksAs (planned t p) a.at.0 a.retry a.task a.command.now (record_of a) s left answer plans.after in
       record {
         after = plans.after;
         asks = record { sending = sending; sent = known; asks = subst P (sym is) plans.asks };

@@ -1,9 +1,9 @@
 -- An event has one outcome on given tables.
-use Rattle.std.proofs.Common.{◌≡◌, ℕ, List, [], ◌∷◌, Option, None, Some, ap, sym, subst, ◌∙◌, inl, inr, arith}
+use Rattle.std.proofs.Common.{◌≡◌, ℕ, List, [], ◌∷◌, length, Option, None, Some, ap, sym, subst, ◌∙◌, inl, inr, arith}
 use Rattle.ht_base.specs.declared.event.Command.{Command}
 use Rattle.ht_base.specs.declared.event.Command.TheVariants as command
 use Rattle.ht_base.specs.declared.event.Event.{Event}
-use Rattle.ht_base.specs.declared.event.Event.TheVariants.{Ask, Read}
+use Rattle.ht_base.specs.declared.event.Event.TheVariants.{Ask, Read, Turn}
 use Rattle.ht_base.specs.declared.moment.Moment.{Moment}
 use Rattle.ht_base.specs.declared.parts.Parts.{Parts}
 use Rattle.ht_base.specs.declared.record.Record.{Record}
@@ -26,10 +26,12 @@ use Rattle.ht_compose.specs.Items.Item.{Activate, Begin, Close, Make}
 use Rattle.ht_machine.specs.declared.sending.Sending.{Sending}
 use Rattle.ht_machine.specs.declared.sending.Sending.TheVariants as sending
 use Rattle.ht_machine.specs.declared.sending.Sending.TheVariants.{New, Answered}
-use Rattle.ht_machine.specs.Deciding.{AsksAs, Leads, Settles, Shows, done, effective}
+use Rattle.ht_machine.specs.Deciding.{AsksAs, Decides, DecidesAt, Leads, Settles, Shows, after_with, done, effective, left_with}
 use Rattle.ht_machine.specs.Gate.{Gate, gate, opens, shuts}
 use Rattle.ht_machine.specs.Following.{Spreads}
 use Rattle.ht_machine.specs.Sending.{ByCaller, ByLast, BySlot, answer_of, with_reply}
+use Rattle.ht_due.specs.declared.due.Due.{Due}
+use Rattle.ht_machine.proofs.OneTurn.{one_turn}
 use Rattle.ht_machine.proofs.Rows.{one}
 use Rattle.ht_models.specs.Model.{ModelOf}
 use Rattle.ht_owner.specs.declared.follow.Follow.{Follow}
@@ -205,15 +207,44 @@ same_asks t moment retry task c asked (New person) k l a b u v s r =
 same_asks t moment retry task c asked (Answered reply) k l a b u v s r = record { left = s.0.0 ∙ sym r.0.0; answer = s.1 ∙ sym r.1; after = s.0.1 ∙ sym r.0.1 }
 same_asks t moment retry task c asked (sending.Refused why) k l a b u v s r = record { left = s.0.0 ∙ sym r.0.0; answer = s.1 ∙ sym r.1; after = s.0.1 ∙ sym r.0.1 }
 
-pub same : (t : TablesOf) (e : Event) (k l : Option Record) (a b : Answer) (u v : TablesOf) → Leads t e k a u → Leads t e l b v → AreSame k l a b u v
-same t (Ask at caller retry task c) k l a b u v s r =
-    let moment = effective t at.0 in
+same_led : (t : TablesOf) (moment : ℕ) (e : Event) (k l : Option Record) (a b : Answer) (u v : TablesOf) → Leads t moment e k a u → Leads t moment e l b v → AreSame k l a b u v
+same_led t moment (Turn at) k l a b u v s r = record { left = s.0.0 ∙ sym r.0.0; answer = s.1 ∙ sym r.1; after = s.0.1 ∙ sym r.0.1 }
+same_led t moment (Ask at caller retry task c) k l a b u v s r =
     let asked = Asked (record { 0 = moment }) caller retry task c in
     let P : Sending → Type 0 = λ x. AsksAs t moment retry task c asked x k a u in
     let one_only = same_sending t (op_of c) task retry (find caller (directory t)) s.sending r.sending s.sent r.sent in
     same_asks t moment retry task c asked r.sending k l a b u v (subst P one_only s.asks) r.asks
-same t (Read caller what) k l a b u v s r = record { left = s.0.0 ∙ sym r.0.0; answer = s.1 ∙ sym r.1; after = s.0.1 ∙ sym r.0.1 }
+same_led t moment (Read caller what) k l a b u v s r = record { left = s.0.0 ∙ sym r.0.0; answer = s.1 ∙ sym r.1; after = s.0.1 ∙ sym r.0.1 }
 
--- replies in which as much was taken, and which answer the same
-pub same_reply : (r s : Reply) → r.taken ≡ 0 → s.taken ≡ 0 → r.answer ≡ s.answer → r ≡ s
-same_reply r s none zero answer = λ i. record { taken = (none ∙ sym zero) i; answer = answer i }
+-- the record left, the reply and the tables after are the same
+pub record IsOne (k l : Option Record) (r s : Reply) (u v : TablesOf) : Type 0 where
+  pub left : k ≡ l
+  pub reply : r ≡ s
+  pub after : u ≡ v
+
+same_reply : (r s : Reply) → r.taken ≡ s.taken → r.answer ≡ s.answer → r ≡ s
+same_reply r s taken answer = λ i. record { taken = taken i; answer = answer i }
+
+same_at_moment : (t : TablesOf) (moment : ℕ) (e : Event) (k l : Option Record) (r s : Reply) (u v : TablesOf) → DecidesAt t moment e k r u → DecidesAt t moment e l s v → IsOne k l r s u v
+same_at_moment t moment e k l r s u v a b =
+    let turn = one_turn moment t a.turned b.turned a.dues b.dues a.turn b.turn in
+    let n : length a.dues ≡ length b.dues = ap (λ (ds : List Due). length ds) turn.dues in
+    let L : TablesOf → Type 0 = λ w. Leads w moment e a.own r.answer a.acted in
+    let led = same_led b.turned moment e a.own b.own r.answer s.answer a.acted b.acted (subst L turn.after a.leads) b.leads in
+    record {
+      left = a.left_is ∙ ap (λ (x : ℕ). left_with moment x a.own) n ∙ ap (λ (o : Option Record). left_with moment (length b.dues) o) led.left ∙ sym b.left_is;
+      reply = same_reply r s (a.taken ∙ n ∙ sym b.taken) led.answer;
+      after =
+          a.after_is
+          ∙ ap (λ (x : ℕ). after_with moment x a.own a.acted) n
+          ∙ ap (λ (o : Option Record). after_with moment (length b.dues) o a.acted) led.left
+          ∙ ap (λ (w : TablesOf). after_with moment (length b.dues) b.own w) led.after
+          ∙ sym b.after_is;
+    }
+
+pub same : (t : TablesOf) (e : Event) (k l : Option Record) (r s : Reply) (u v : TablesOf) → Decides t e k r u → Decides t e l s v → IsOne k l r s u v
+same t (Turn at) k l r s u v a b = same_at_moment t (effective t at.0) (Turn at) k l r s u v a b
+same t (Ask at caller retry task c) k l r s u v a b = same_at_moment t (effective t at.0) (Ask at caller retry task c) k l r s u v a b
+same t (Read caller what) k l r s u v a b =
+    let led = same_led t t.last (Read caller what) k l r.answer s.answer u v a.1 b.1 in
+    record { left = led.left; reply = same_reply r s (a.0 ∙ sym b.0) led.answer; after = led.after }

@@ -1,10 +1,10 @@
 -- What the last command of a device says of one that is sent again.
-use Rattle.std.proofs.Common.{◌≡◌, ◌⊎◌, ◌<◌, ℕ, List, [], ◌∷◌, Option, None, Some, refl, ap, sym, subst, ◌∙◌, inl, inr, arith}
+use Rattle.std.proofs.Common.{◌≡◌, ◌⊎◌, ◌<◌, ℕ, zero, suc, List, [], ◌∷◌, length, Option, None, Some, refl, ap, sym, subst, ◌∙◌, inl, inr, arith}
 use Rattle.std.proofs.lemmas.Bool.{cases_eq}
 use Rattle.ht_base.specs.declared.event.Command.{Command}
 use Rattle.ht_base.specs.declared.event.Command.TheVariants as command
 use Rattle.ht_base.specs.declared.event.Event.{Event}
-use Rattle.ht_base.specs.declared.event.Event.TheVariants.{Ask, Read}
+use Rattle.ht_base.specs.declared.event.Event.TheVariants.{Ask, Read, Turn}
 use Rattle.ht_base.specs.declared.operation.Op.{Op}
 use Rattle.ht_base.specs.declared.parts.Parts.{Parts}
 use Rattle.ht_base.specs.declared.record.Record.{Record}
@@ -23,10 +23,11 @@ use Rattle.ht_machine.specs.declared.sending.Sending.{Sending}
 use Rattle.ht_machine.specs.declared.sending.Sending.TheVariants as sending
 use Rattle.ht_machine.specs.declared.sending.Sending.TheVariants.{New, Answered}
 use Rattle.ht_machine.specs.Commands.{ActivatesUnless, ActsOn, AfterEffect, BehindGate, Comes, CreatesAt, CreatesNamed, CreatesUnless, DoesOn, GathersFirst, HasEffect, MakesEntry, Outcome, accepted, new_task, refused, waits_until, why_not_created}
-use Rattle.ht_machine.specs.Deciding.{AsksAs, IsIdle, Leads, Settles, effective}
+use Rattle.ht_machine.specs.Deciding.{AsksAs, Decides, DecidesAt, IsIdle, Leads, Settles, after_with, effective, left_with}
 use Rattle.ht_machine.specs.Gate.{Gate, gate, opens, shuts}
 use Rattle.ht_machine.specs.History.{History, IsHistory, IsStep}
-use Rattle.ht_machine.specs.Once.{ActsOnce, IsAccepted, IsLast, IsOf, IsRepeat, IsSame, IsSince, Remembers}
+use Rattle.ht_machine.specs.Once.{ActsOnce, IsAccepted, IsLast, IsOf, IsRepeat, IsSame, IsSince, IsTurnAlone, Remembers}
+use Rattle.ht_machine.proofs.OneTurn.{KeepsOthers, turn_keeps}
 use Rattle.ht_machine.specs.Sending.{ByCaller, ByLast, ByNumber, BySlot, IsSent, answer_of, slot_of, with_reply}
 use Rattle.ht_compose.proofs.PublicLaws.{ends_rows, gathers_rows}
 use Rattle.ht_compose.specs.Agenda.{Ends}
@@ -74,17 +75,63 @@ module _ (t : TablesOf) (at : ℕ) (caller : List ℕ) (retry : Option Retry) (t
     stale_of s number (sending.Refused why) low (inl by) asks = (asks.0, asks.1 ∙ ap Refused by.1)
     stale_of s number (sending.Refused why) low (inr by) asks = let e = by.0 in absurd (omega arith)
 
-pub acts_once : (t : TablesOf) (e : Event) (left : Option Record) (answer : Answer) (after : TablesOf) → Leads t e left answer after → ActsOnce t e left answer after
-acts_once t (Ask at caller retry task c) left answer after leads =
-    let moment = effective t at.0 in
+-- on the tables that the turn leaves
+record LedOnce (u : TablesOf) (e : Event) (own : Option Record) (answer : Answer) (acted : TablesOf) : Type 0 where
+  again : (s : Slot) → IsLast u s → IsOf u s s.number e → IsSame s e → IsIdle u own acted × (answer ≡ answer_of s.kept)
+  reused : (s : Slot) → IsLast u s → IsOf u s s.number e → (IsSame s e → ⊥) → IsIdle u own acted × (answer ≡ Refused (refusal.NumberReused s.number))
+  stale : (s : Slot) (number : ℕ) → IsLast u s → number < s.number → IsOf u s number e → IsIdle u own acted × (answer ≡ Refused (refusal.NumberStale s.number))
+
+led_once : (u : TablesOf) (moment : ℕ) (at : Moment) (caller : List ℕ) (retry : Option Retry) (task : TaskId) (c : Command) (own : Option Record) (answer : Answer) (acted : TablesOf) → Leads u moment (Ask at caller retry task c) own answer acted → LedOnce u (Ask at caller retry task c) own answer acted
+led_once u moment at caller retry task c own answer acted leads =
     let asked = Asked (record { 0 = moment }) caller retry task c in
     let known = leads.sending in
     record {
-      again = λ s last of same. again_of t moment caller retry task c moment asked left answer after s known (by_last t moment caller retry task c s s.number known last of leads.sent) same leads.asks;
-      reused = λ s last of differ. reused_of t moment caller retry task c moment asked left answer after s known (by_last t moment caller retry task c s s.number known last of leads.sent) differ leads.asks;
-      stale = λ s number last low of. stale_of t moment caller retry task c moment asked left answer after s number known low (by_last t moment caller retry task c s number known last of leads.sent) leads.asks;
+      again = λ s last of same. again_of u moment caller retry task c moment asked own answer acted s known (by_last u moment caller retry task c s s.number known last of leads.sent) same leads.asks;
+      reused = λ s last of differ. reused_of u moment caller retry task c moment asked own answer acted s known (by_last u moment caller retry task c s s.number known last of leads.sent) differ leads.asks;
+      stale = λ s number last low of. stale_of u moment caller retry task c moment asked own answer acted s number known low (by_last u moment caller retry task c s number known last of leads.sent) leads.asks;
     }
-acts_once t (Read caller what) left answer after leads = record {
+
+-- what a turn keeps
+slots_kept : (t u : TablesOf) → KeepsOthers t u → u.slots ≡ t.slots
+slots_kept t u keeps = ap (λ (w : TablesOf). w.slots) keeps
+
+last_kept : (t u : TablesOf) (s : Slot) → KeepsOthers t u → IsLast t s → IsLast u s
+last_kept t u s keeps last = ap (λ (w : TablesOf). device_slot w s.person s.device) keeps ∙ last
+
+of_kept : (t u : TablesOf) (s : Slot) (number : ℕ) (e : Event) → KeepsOthers t u → IsOf t s number e → IsOf u s number e
+of_kept t u s number (Ask at caller retry task c) keeps of = (ap (λ (w : TablesOf). find caller (directory w)) keeps ∙ of.0, of.1)
+of_kept t u s number (Turn at) keeps of = absurd of
+of_kept t u s number (Read caller what) keeps of = absurd of
+
+-- a command that does nothing itself
+turn_alone : (t : TablesOf) (at : Moment) (caller : List ℕ) (retry : Option Retry) (task : TaskId) (c : Command) (left : Option Record) (reply : Reply) (after : TablesOf) → (d : DecidesAt t (effective t at.0) (Ask at caller retry task c) left reply after) → IsIdle d.turned d.own d.acted → IsTurnAlone t (Ask at caller retry task c) left after
+turn_alone t at caller retry task c left reply after d idle =
+    let moment = effective t at.0 in
+    record {
+      turned = d.turned;
+      dues = d.dues;
+      turn = d.turn;
+      left_is = d.left_is ∙ ap (λ (o : Option Record). left_with moment (length d.dues) o) idle.0;
+      after_is = d.after_is ∙ ap (λ (o : Option Record). after_with moment (length d.dues) o d.acted) idle.0 ∙ ap (λ (w : TablesOf). after_with moment (length d.dues) None w) idle.1;
+    }
+
+pub acts_once : (t : TablesOf) (e : Event) (left : Option Record) (reply : Reply) (after : TablesOf) → Decides t e left reply after → ActsOnce t e left reply.answer after
+acts_once t (Ask at caller retry task c) left reply after d =
+    let moment = effective t at.0 in
+    let keeps = turn_keeps moment t d.turned d.dues d.turn in
+    let led = led_once d.turned moment at caller retry task c d.own reply.answer d.acted d.leads in
+    let e = Ask at caller retry task c in
+    record {
+      again = λ s last of same. let told = led.again s (last_kept t d.turned s keeps last) (of_kept t d.turned s s.number e keeps of) same in (turn_alone t at caller retry task c left reply after d told.0, told.1);
+      reused = λ s last of differ. let told = led.reused s (last_kept t d.turned s keeps last) (of_kept t d.turned s s.number e keeps of) differ in (turn_alone t at caller retry task c left reply after d told.0, told.1);
+      stale = λ s number last low of. let told = led.stale s number (last_kept t d.turned s keeps last) low (of_kept t d.turned s number e keeps of) in (turn_alone t at caller retry task c left reply after d told.0, told.1);
+    }
+acts_once t (Turn at) left reply after d = record {
+  again = λ s last of same. absurd of;
+  reused = λ s last of differ. absurd of;
+  stale = λ s number last low of. absurd of;
+}
+acts_once t (Read caller what) left reply after d = record {
   again = λ s last of same. absurd of;
   reused = λ s last of differ. absurd of;
   stale = λ s number last low of. absurd of;
@@ -240,15 +287,30 @@ module _ (s : Slot) (t : TablesOf) where
   asks_since moment caller retry task c asked (Answered reply) left answer after sent asks h = idle_since after asks.0.1 h
   asks_since moment caller retry task c asked (sending.Refused why) left answer after sent asks h = idle_since after asks.0.1 h
 
-  leads_since : (e : Event) (left : Option Record) (answer : Answer) (after : TablesOf) → Leads t e left answer after → IsSince s t → IsSince s after
-  leads_since (Ask at caller retry task c) left answer after leads h =
-      let moment = effective t at.0 in
-      asks_since moment caller retry task c (Asked (record { 0 = moment }) caller retry task c) leads.sending left answer after leads.sent leads.asks h
-  leads_since (Read caller what) left answer after leads h = idle_since after leads.0.1 h
+  leads_since : (moment : ℕ) (e : Event) (own : Option Record) (answer : Answer) (acted : TablesOf) → Leads t moment e own answer acted → IsSince s t → IsSince s acted
+  leads_since moment (Ask at caller retry task c) own answer acted leads h = asks_since moment caller retry task c (Asked (record { 0 = moment }) caller retry task c) leads.sending own answer acted leads.sent leads.asks h
+  leads_since moment (Turn at) own answer acted leads h = idle_since acted leads.0.1 h
+  leads_since moment (Read caller what) own answer acted leads h = idle_since acted leads.0.1 h
 
-  step_since : (e : Event) (reply : Reply) (after : TablesOf) → IsStep t e reply after → IsSince s t → IsSince s after
-  step_since e reply after (inl d) h = leads_since e d.0 reply.answer after d.1.1 h
-  step_since e reply after (inr none) h = idle_since after none.1 h
+with_since : (s : Slot) (moment n : ℕ) (own : Option Record) (acted : TablesOf) → IsSince s acted → IsSince s (after_with moment n own acted)
+with_since s moment n (Some k) acted h = h
+with_since s moment zero None acted h = h
+with_since s moment (suc n) None acted h = by_slots s acted (at_moment acted moment) refl h
+
+at_since : (s : Slot) (t : TablesOf) (moment : ℕ) (e : Event) (left : Option Record) (reply : Reply) (after : TablesOf) → DecidesAt t moment e left reply after → IsSince s t → IsSince s after
+at_since s t moment e left reply after d h =
+    let turned = by_slots s t d.turned (slots_kept t d.turned (turn_keeps moment t d.turned d.dues d.turn)) h in
+    let acted = leads_since s d.turned moment e d.own reply.answer d.acted d.leads turned in
+    subst (IsSince s) (sym d.after_is) (with_since s moment (length d.dues) d.own d.acted acted)
+
+decides_since : (s : Slot) (t : TablesOf) (e : Event) (left : Option Record) (reply : Reply) (after : TablesOf) → Decides t e left reply after → IsSince s t → IsSince s after
+decides_since s t (Ask at caller retry task c) left reply after d h = at_since s t (effective t at.0) (Ask at caller retry task c) left reply after d h
+decides_since s t (Turn at) left reply after d h = at_since s t (effective t at.0) (Turn at) left reply after d h
+decides_since s t (Read caller what) left reply after d h = leads_since s t t.last (Read caller what) left reply.answer after d.1 h
+
+step_since : (s : Slot) (t : TablesOf) (e : Event) (reply : Reply) (after : TablesOf) → IsStep t e reply after → IsSince s t → IsSince s after
+step_since s t e reply after (inl d) h = decides_since s t e d.0 reply after d.1 h
+step_since s t e reply after (inr none) h = idle_since s t after none.1 h
 
 -- ---- a command that is accepted
 
@@ -273,33 +335,52 @@ accepted_is_kept t moment caller r task c asked kept (New person) answer after u
 accepted_is_kept t moment caller r task c asked kept (Answered reply) answer after up sent asks = absurd cc
 accepted_is_kept t moment caller r task c asked kept (sending.Refused why) answer after up sent asks = absurd cc
 
-pub is_kept : (t : TablesOf) (at : Moment) (caller : List ℕ) (r : Retry) (task : TaskId) (c : Command) (kept : Record) (answer : Answer) (after : TablesOf) → AscendBy slot_cmp t.slots → Leads t (Ask at caller (Some r) task c) (Some kept) answer after → (s : Slot) × IsAccepted t caller r task c answer s × IsSince s after
-is_kept t at caller r task c kept answer after up leads =
-    let moment = effective t at.0 in
-    accepted_is_kept t moment caller r task c (Asked (record { 0 = moment }) caller (Some r) task c) kept leads.sending answer after up leads.sent leads.asks
+-- the record of a command is its own, not that of the turn before it
+its_own : (moment n : ℕ) (own : Option Record) (at : Moment) (caller : List ℕ) (retry : Option Retry) (task : TaskId) (c : Command) → Some (Asked at caller retry task c) ≡ left_with moment n own → own ≡ Some (Asked at caller retry task c)
+its_own moment n (Some k) at caller retry task c is = sym is
+its_own moment zero None at caller retry task c is = absurd cc
+its_own moment (suc n) None at caller retry task c is = absurd cc
+
+pub is_kept : (t : TablesOf) (at moment : Moment) (caller : List ℕ) (r : Retry) (task : TaskId) (c : Command) (reply : Reply) (after : TablesOf) → AscendBy slot_cmp t.slots → Decides t (Ask at caller (Some r) task c) (Some (Asked moment caller (Some r) task c)) reply after → (s : Slot) × IsAccepted t caller r task c reply.answer s × IsSince s after
+is_kept t at moment caller r task c reply after up d =
+    let now = effective t at.0 in
+    let keeps = turn_keeps now t d.turned d.dues d.turn in
+    let ordered : AscendBy slot_cmp (d.turned).slots = subst (AscendBy slot_cmp) (sym (slots_kept t d.turned keeps)) up in
+    let kept = Asked moment caller (Some r) task c in
+    let own = its_own now (length d.dues) d.own moment caller (Some r) task c d.left_is in
+    let P : Option Record → Type 0 = λ o. AsksAs d.turned now (Some r) task c (Asked (record { 0 = now }) caller (Some r) task c) (d.leads).sending o reply.answer d.acted in
+    let found = accepted_is_kept d.turned now caller r task c (Asked (record { 0 = now }) caller (Some r) task c) kept (d.leads).sending reply.answer d.acted ordered (d.leads).sent (subst P own (d.leads).asks) in
+    let is = found.1 in (
+      found.0,
+      record { person = ap (λ (w : TablesOf). find caller (directory w)) (sym keeps) ∙ is.person; device = is.device; number = is.number; op = is.op; task_is = is.task_is; reply = is.reply },
+      subst (IsSince found.0) (sym d.after_is) (with_since found.0 now (length d.dues) d.own d.acted found.2),
+    )
 
 -- ---- a history
 
 of_device : (t : TablesOf) (s last : Slot) (number : ℕ) (e : Event) → last.person ≡ s.person → last.device ≡ s.device → IsOf t s number e → IsOf t last number e
 of_device t s last number (Ask at caller retry task c) p d of = (of.0 ∙ ap Some (sym p), of.1 ∙ ap (λ (x : ℕ). Some (record { device = x; number = number })) (sym d))
-of_device t s last number (Read caller what) p d of = of
+of_device t s last number (Turn at) p d of = absurd of
+of_device t s last number (Read caller what) p d of = absurd of
 
-repeated : (s : Slot) (t : TablesOf) (e : Event) (reply : Reply) (after : TablesOf) → IsSince s t → IsStep t e reply after → IsOf t s s.number e → IsSame s e → IsRepeat s t after reply.answer
-repeated s t e reply after h (inr none) of same = record { same = none.1; told = inr (inr (ap (λ (r : Reply). r.answer) none.0)) }
+repeated : (s : Slot) (t : TablesOf) (e : Event) (reply : Reply) (after : TablesOf) → IsSince s t → IsStep t e reply after → IsOf t s s.number e → IsSame s e → IsRepeat s t e after reply.answer
+repeated s t e reply after h (inr none) of same =
+    let answer = ap (λ (r : Reply). r.answer) none.0 in
+    record { same = inr (none.1, answer); told = inr (inr answer) }
 repeated s t e reply after h (inl d) of same = at h.later
   where
-    at : (h.last ≡ s) ⊎ (s.number < (h.last).number) → IsRepeat s t after reply.answer
+    at : (h.last ≡ s) ⊎ (s.number < (h.last).number) → IsRepeat s t e after reply.answer
     at (inl is) =
-        let told = (acts_once t e d.0 reply.answer after d.1.1).again s (h.there ∙ ap Some is) of same in
-        record { same = told.0.1; told = inl told.1 }
+        let told = (acts_once t e d.0 reply after d.1).again s (h.there ∙ ap Some is) of same in
+        record { same = inl (d.0, told.0); told = inl told.1 }
     at (inr low) =
         let last = h.last in
         let is = slot_is s.person s.device t.slots last h.there in
         let D : ℕ → Type 0 = λ x. device_slot t s.person x ≡ Some last in
         let P : ℕ → Type 0 = λ x. device_slot t x last.device ≡ Some last in
         let there : IsLast t last = subst P (sym is.0) (subst D (sym is.1) h.there) in
-        let told = (acts_once t e d.0 reply.answer after d.1.1).stale last s.number there low (of_device t s last s.number e is.0 is.1 of) in
-        record { same = told.0.1; told = inr (inl (last.number, low, told.1)) }
+        let told = (acts_once t e d.0 reply after d.1).stale last s.number there low (of_device t s last s.number e is.0 is.1 of) in
+        record { same = inl (d.0, told.0); told = inr (inl (last.number, low, told.1)) }
 
 pub remembers : (s : Slot) (t : TablesOf) (history : History) → IsSince s t → IsHistory t history → Remembers s t history
 remembers s t [] h legal = tt

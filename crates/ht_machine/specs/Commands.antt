@@ -1,5 +1,5 @@
 -- What comes of a command of a person (WS-HumanTask 1.1, 4.10 and 7.1.1).
-use Rattle.std.specs.Prelude.{◌≡◌, ℕ, ◌+◌, ◌==◌, nat_lt, Bool, true, not, List, [], ◌∷◌, length, Option, Some, None, option_map, if◌then◌else◌}
+use Rattle.std.specs.Prelude.{◌≡◌, ℕ, ◌+◌, nat_lt, true, List, [], ◌∷◌, length, Option, Some, None, option_map, if◌then◌else◌}
 use Rattle.ht_base.specs.declared.event.Command.{Command}
 use Rattle.ht_base.specs.declared.event.Command.TheVariants as command
 use Rattle.ht_base.specs.declared.moment.Moment.{Moment}
@@ -31,13 +31,9 @@ pub data Outcome : Type 0 where
 
 -- ---- create
 
--- what tasks can't have yet: deadlines
-abbrev pub is_coming : ModelOf → Bool
-is_coming m = not (length m.deadlines == 0)
-
 -- why no task of the model can be created, to which this is given
 abbrev pub why_not_created : DirectoryOf → ModelOf → Parts → Option Refusal
-why_not_created d m input = if is_coming m then Some (refusal.Unknown (unknown.Model m.name)) else option_map refusal.PartRefused (refused_part d true m.input input)
+why_not_created d m input = option_map refusal.PartRefused (refused_part d true m.input input)
 
 -- when a task that is created at a moment is activated, if that is later
 abbrev pub waits_until : ℕ → Option Moment → Option Moment

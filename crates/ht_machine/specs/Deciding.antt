@@ -1,21 +1,23 @@
 -- What an event leaves and is answered, on given tables.
-use Rattle.std.specs.Prelude.{◌≡◌, ℕ, max, List, Option, Some, None, IfSome, IsSome}
+use Rattle.std.specs.Prelude.{◌≡◌, ℕ, zero, suc, max, List, length, Option, Some, None, IfSome, IsSome}
 use Rattle.ht_base.specs.declared.event.Command.{Command}
 use Rattle.ht_base.specs.declared.event.Event.{Event}
-use Rattle.ht_base.specs.declared.event.Event.TheVariants.{Ask, Read}
+use Rattle.ht_base.specs.declared.event.Event.TheVariants.{Ask, Read, Turn}
 use Rattle.ht_base.specs.declared.event.Query.{Query}
 use Rattle.ht_base.specs.declared.event.Query.TheVariants as query
 use Rattle.ht_base.specs.declared.operation.Op.{Op}
 use Rattle.ht_base.specs.declared.operation.Op.TheVariants as op
 use Rattle.ht_base.specs.declared.record.Record.{Record}
+use Rattle.ht_base.specs.declared.record.Record.TheVariants as record_of
 use Rattle.ht_base.specs.declared.record.Record.TheVariants.{Asked}
 use Rattle.ht_base.specs.declared.reply.Answer.{Answer}
-use Rattle.ht_base.specs.declared.reply.Answer.TheVariants.{Sheet, Refused}
+use Rattle.ht_base.specs.declared.reply.Answer.TheVariants.{Sheet, Refused, Turned}
 use Rattle.ht_base.specs.declared.reply.Refusal.TheVariants as refusal
 use Rattle.ht_base.specs.declared.reply.Reply.{Reply}
 use Rattle.ht_base.specs.declared.retry.Retry.{Retry}
 use Rattle.ht_base.specs.declared.task_id.TaskId.{TaskId}
 use Rattle.ht_base.specs.Events.{op_of}
+use Rattle.ht_due.specs.declared.due.Due.{Due}
 use Rattle.ht_people.specs.Directory.{DirectoryOf, find}
 use Rattle.ht_tree.specs.declared.row.Row.{Row}
 use Rattle.ht_tree.specs.declared.slot.Kept.{Kept}
@@ -29,6 +31,7 @@ use Rattle.ht_machine.specs.declared.sending.Sending.TheVariants as sending
 use Rattle.ht_machine.specs.declared.sending.Sending.TheVariants.{New, Answered}
 use Rattle.ht_machine.specs.Sending.{IsSent, answer_of, with_reply}
 use Rattle.ht_machine.specs.Sheets.{sheet_of}
+use Rattle.ht_machine.specs.Turning.{IsTurn}
 
 -- the moment at which an event acts: its own, and never before the last accepted command
 abbrev pub effective : TablesOf → ℕ → ℕ
@@ -87,11 +90,44 @@ shown_to t (query.Sheet task) (Some person) = sheet_behind t (gate t op.Get pers
 
 -- ---- events
 
--- On these tables the event leaves this record, this answer and the tables after.
-abbrev pub Leads : TablesOf → Event → Option Record → Answer → TablesOf → Type 0
-Leads t (Ask at caller retry task command) left answer after = Asks t (effective t at.0) caller retry task command left answer after
-Leads t (Read caller what) left answer after = IsIdle t left after × (answer ≡ shown_to t what (find caller (directory t)))
+-- On these tables, at this moment, the event itself leaves this record, this answer and the tables after.
+abbrev pub Leads : TablesOf → ℕ → Event → Option Record → Answer → TablesOf → Type 0
+Leads u moment (Turn at) left answer after = IsIdle u left after × (answer ≡ Turned)
+Leads u moment (Ask at caller retry task command) left answer after = Asks u moment caller retry task command left answer after
+Leads u moment (Read caller what) left answer after = IsIdle u left after × (answer ≡ shown_to u what (find caller (directory u)))
 
--- the same with the reply, before which no timed action was taken
+-- where it leaves none, the record tells that something was due, if it was
+abbrev pub left_with : ℕ → ℕ → Option Record → Option Record
+left_with moment taken (Some left) = Some left
+left_with moment zero None = None
+left_with moment (suc n) None = Some (record_of.Turn (record { 0 = moment }))
+
+-- and then the last moment is that of the record
+abbrev pub after_with : ℕ → ℕ → Option Record → TablesOf → TablesOf
+after_with moment taken (Some left) u = u
+after_with moment zero None u = u
+after_with moment (suc n) None u = at_moment u moment
+
+-- All that is due by the moment is taken. Then the event acts, or is refused, on the tables that this
+-- leaves.
+pub record DecidesAt (t : TablesOf) (moment : ℕ) (e : Event) (left : Option Record) (reply : Reply) (after : TablesOf) : Type 0 where
+  pub turned : TablesOf
+  pub dues : List Due
+  pub turn : IsTurn moment t dues turned
+  pub taken : reply.taken ≡ length dues
+  pub own : Option Record
+  pub acted : TablesOf
+  pub leads : Leads turned moment e own reply.answer acted
+  pub left_is : left ≡ left_with moment (length dues) own
+  pub after_is : after ≡ after_with moment (length dues) own acted
+
+-- the moment at which an event acts
+abbrev pub moment_of : TablesOf → Event → ℕ
+moment_of t (Turn at) = effective t at.0
+moment_of t (Ask at caller retry task command) = effective t at.0
+moment_of t (Read caller what) = t.last
+
+-- A read takes nothing that is due, and is answered on the tables as they stand.
 abbrev pub Decides : TablesOf → Event → Option Record → Reply → TablesOf → Type 0
-Decides t e left reply after = (reply.taken ≡ 0) × Leads t e left reply.answer after
+Decides t (Read caller what) left reply after = (reply.taken ≡ 0) × Leads t t.last (Read caller what) left reply.answer after
+Decides t e left reply after = DecidesAt t (moment_of t e) e left reply after

@@ -1,4 +1,6 @@
+pub mod Ahead
 pub mod Commands
+pub mod Courses
 pub mod Deciding
 pub mod Examples
 pub mod Following
@@ -9,3 +11,4 @@ pub mod Once
 pub mod Planning
 pub mod Sending
 pub mod Sheets
+pub mod Turning

@@ -1,8 +1,8 @@
 -- A command that is sent again acts once.
-use Rattle.std.specs.Prelude.{◌≡◌, ◌⊎◌, ◌<◌, ℕ, List, [], ◌∷◌, Option, Some}
+use Rattle.std.specs.Prelude.{◌≡◌, ◌⊎◌, ◌<◌, ℕ, List, [], ◌∷◌, length, Option, None, Some}
 use Rattle.ht_base.specs.declared.event.Command.{Command}
 use Rattle.ht_base.specs.declared.event.Event.{Event}
-use Rattle.ht_base.specs.declared.event.Event.TheVariants.{Ask, Read}
+use Rattle.ht_base.specs.declared.event.Event.TheVariants.{Ask}
 use Rattle.ht_base.specs.declared.record.Record.{Record}
 use Rattle.ht_base.specs.declared.reply.Answer.{Answer}
 use Rattle.ht_base.specs.declared.reply.Answer.TheVariants.{Refused}
@@ -11,9 +11,11 @@ use Rattle.ht_base.specs.declared.retry.Retry.{Retry}
 use Rattle.ht_base.specs.declared.task_id.TaskId.{TaskId}
 use Rattle.ht_base.specs.Events.{op_of}
 use Rattle.ht_base.specs.Ordered.{AscendBy}
-use Rattle.ht_machine.specs.Deciding.{IsIdle}
+use Rattle.ht_due.specs.declared.due.Due.{Due}
+use Rattle.ht_machine.specs.Deciding.{after_with, left_with, moment_of}
 use Rattle.ht_machine.specs.History.{History, memory_reply}
 use Rattle.ht_machine.specs.Sending.{answer_of}
+use Rattle.ht_machine.specs.Turning.{IsTurn}
 use Rattle.ht_people.specs.Directory.{find}
 use Rattle.ht_tree.specs.declared.slot.Slot.{Slot}
 use Rattle.ht_tree.specs.Slots.{slot_cmp}
@@ -26,23 +28,31 @@ IsLast t s = device_slot t s.person s.device ≡ Some s
 -- the event is a command of this slot's device, under this number
 abbrev pub IsOf : TablesOf → Slot → ℕ → Event → Type 0
 IsOf t s number (Ask at caller retry task command) = (find caller (directory t) ≡ Some s.person) × (retry ≡ Some (record { device = s.device; number = number }))
-IsOf t s number (Read caller what) = ⊥
+IsOf t s number _ = ⊥
 
 -- with the same operation and the same task
 abbrev pub IsSame : Slot → Event → Type 0
 IsSame s (Ask at caller retry task command) = (s.op ≡ op_of command) × (s.task ≡ task)
-IsSame s (Read caller what) = ⊥
+IsSame s _ = ⊥
 
 -- ---- one event
 
+-- the event leaves what the turn before it leaves, and nothing else
+pub record IsTurnAlone (t : TablesOf) (e : Event) (left : Option Record) (after : TablesOf) : Type 0 where
+  pub turned : TablesOf
+  pub dues : List Due
+  pub turn : IsTurn (moment_of t e) t dues turned
+  pub left_is : left ≡ left_with (moment_of t e) (length dues) None
+  pub after_is : after ≡ after_with (moment_of t e) (length dues) None turned
+
 -- what the last command of the event's device says of it
 pub record ActsOnce (t : TablesOf) (e : Event) (left : Option Record) (answer : Answer) (after : TablesOf) : Type 0 where
-  -- sent again it leaves nothing, and gets its first answer
-  pub again : (s : Slot) → IsLast t s → IsOf t s s.number e → IsSame s e → IsIdle t left after × (answer ≡ answer_of s.kept)
+  -- sent again it does nothing, and gets its first answer
+  pub again : (s : Slot) → IsLast t s → IsOf t s s.number e → IsSame s e → IsTurnAlone t e left after × (answer ≡ answer_of s.kept)
   -- another command under its number is refused
-  pub reused : (s : Slot) → IsLast t s → IsOf t s s.number e → (IsSame s e → ⊥) → IsIdle t left after × (answer ≡ Refused (refusal.NumberReused s.number))
+  pub reused : (s : Slot) → IsLast t s → IsOf t s s.number e → (IsSame s e → ⊥) → IsTurnAlone t e left after × (answer ≡ Refused (refusal.NumberReused s.number))
   -- and so is one under an earlier number
-  pub stale : (s : Slot) (number : ℕ) → IsLast t s → number < s.number → IsOf t s number e → IsIdle t left after × (answer ≡ Refused (refusal.NumberStale s.number))
+  pub stale : (s : Slot) (number : ℕ) → IsLast t s → number < s.number → IsOf t s number e → IsTurnAlone t e left after × (answer ≡ Refused (refusal.NumberStale s.number))
 
 -- ---- a history
 
@@ -63,12 +73,12 @@ pub record IsSince (s : Slot) (t : TablesOf) : Type 0 where
   -- as in all tables that are sound
   pub ordered : AscendBy slot_cmp t.slots
 
--- wherever the slot's command is sent again, it changes nothing: it gets its first answer, or is refused
--- since a later one was accepted, or for want of memory
-pub record IsRepeat (s : Slot) (t after : TablesOf) (answer : Answer) : Type 0 where
-  pub same : after ≡ t
+-- Wherever the slot's command is sent again, it does nothing, behind the turn before it: it gets its first
+-- answer, or is refused since a later one was accepted. For want of memory nothing changes at all.
+pub record IsRepeat (s : Slot) (t : TablesOf) (e : Event) (after : TablesOf) (answer : Answer) : Type 0 where
+  pub same : ((left : Option Record) × IsTurnAlone t e left after) ⊎ ((after ≡ t) × (answer ≡ memory_reply.answer))
   pub told : (answer ≡ answer_of s.kept) ⊎ (((last : ℕ) × (s.number < last) × (answer ≡ Refused (refusal.NumberStale last))) ⊎ (answer ≡ memory_reply.answer))
 
 abbrev pub Remembers : Slot → TablesOf → History → Type 0
 Remembers s t [] = Unit {0}
-Remembers s t (e ∷ es) = (IsOf t s s.number e.event → IsSame s e.event → IsRepeat s t e.after (e.reply).answer) × Remembers s e.after es
+Remembers s t (e ∷ es) = (IsOf t s s.number e.event → IsSame s e.event → IsRepeat s t e.event e.after (e.reply).answer) × Remembers s e.after es

@@ -2,6 +2,7 @@
 use Rattle.std.specs.Prelude.{◌≡◌, ◌≤◌, ℕ, List, Option, Some, None, IfSome, Result, Ok, Err}
 use Rattle.ht_base.specs.declared.event.Command.{Command}
 use Rattle.ht_base.specs.declared.event.Event.{Event}
+use Rattle.ht_base.specs.declared.event.Event.TheVariants as event
 use Rattle.ht_base.specs.declared.moment.Moment.{Moment}
 use Rattle.ht_base.specs.declared.record.Record.{Record}
 use Rattle.ht_base.specs.declared.record.Record.TheVariants.{Asked, Opening, Turn}
@@ -9,6 +10,7 @@ use Rattle.ht_base.specs.declared.reply.Answer.{Answer}
 use Rattle.ht_base.specs.declared.reply.Limit.TheVariants.{Tasks}
 use Rattle.ht_base.specs.declared.reply.Refusal.TheVariants as refusal
 use Rattle.ht_base.specs.declared.reply.Unknown.TheVariants as unknown
+use Rattle.ht_base.specs.declared.reply.Reply.{Reply}
 use Rattle.ht_base.specs.declared.retry.Retry.{Retry}
 use Rattle.ht_base.specs.declared.task_id.TaskId.{TaskId}
 use Rattle.ht_base.specs.Events.{IsCommand, IsRetry, IsTaskOf}
@@ -25,7 +27,7 @@ use Rattle.ht_machine.specs.declared.asking.Asked.{Asked as Ask}
 use Rattle.ht_machine.specs.declared.deciding.Decision.{Decision}
 use Rattle.ht_machine.specs.Commands.{ActivatesUnless, Outcome, accepted, refused}
 use Rattle.ht_machine.specs.declared.sending.Sending.TheVariants.{New}
-use Rattle.ht_machine.specs.Deciding.{Asks, AsksAs, Decides, Leads}
+use Rattle.ht_machine.specs.Deciding.{Asks, AsksAs, Decides, DecidesAt}
 
 -- ---- commands
 
@@ -94,22 +96,35 @@ pub record Leaves (t : TablesOf) (p : PlanOf) (left : Option Record) (after : Ta
   pub later : t.last ≤ last_after t left
 
 -- so it does of an event
-pub record Plans (t : TablesOf) (p : PlanOf) (e : Event) (left : Option Record) (answer : Answer) : Type 0 where
+pub record Plans (t : TablesOf) (p : PlanOf) (e : Event) (left : Option Record) (reply : Reply) : Type 0 where
   pub after : TablesOf
-  pub leads : Leads t e left answer after
+  pub decides : Decides t e left reply after
   pub leaves : Leaves t p left after
 
--- and of a command at a moment
-pub record PlansAsk (t : TablesOf) (p : PlanOf) (moment : ℕ) (caller : List ℕ) (retry : Option Retry) (task : TaskId) (command : Command) (left : Option Record) (answer : Answer) : Type 0 where
+-- and from an earlier plan on of a command at a moment
+pub record PlansAsk (t : TablesOf) (old new : PlanOf) (moment : ℕ) (caller : List ℕ) (retry : Option Retry) (task : TaskId) (command : Command) (left : Option Record) (answer : Answer) : Type 0 where
   pub after : TablesOf
-  pub asks : Asks t moment caller retry task command left answer after
+  pub asks : Asks (planned t old) moment caller retry task command left answer after
+  pub leaves : Leaves t new left after
+
+-- and of all that is due before it
+pub record PlansBehindTurn (t : TablesOf) (p : PlanOf) (a : Ask) (left : Option Record) (reply : Reply) : Type 0 where
+  pub after : TablesOf
+  pub decides : (at : Moment) → DecidesAt t a.at.0 (event.Ask at a.caller a.retry a.task a.command.now) left reply after
   pub leaves : Leaves t p left after
 
 -- a new one of a person, which is kept as this record
-pub record PlansNew (t : TablesOf) (p : PlanOf) (moment person : ℕ) (retry : Option Retry) (task : TaskId) (command : Command) (asked : Record) (left : Option Record) (answer : Answer) : Type 0 where
+pub record PlansNew (t : TablesOf) (old new : PlanOf) (moment person : ℕ) (retry : Option Retry) (task : TaskId) (command : Command) (asked : Record) (left : Option Record) (answer : Answer) : Type 0 where
   pub after : TablesOf
-  pub asks : AsksAs t moment retry task command asked (New person) left answer after
-  pub leaves : Leaves t p left after
+  pub asks : AsksAs (planned t old) moment retry task command asked (New person) left answer after
+  pub leaves : Leaves t new left after
+
+-- the earlier plan is marked, and keeps no reply yet
+pub record IsReady (t : TablesOf) (p : PlanOf) : Type 0 where
+  pub fits : IsPlanOf t p
+  pub sound : IsSound (planned t p)
+  pub marked : p.marked ≡ p.changes
+  pub fresh : (p.changes).slot ≡ None
 
 -- what is decided of an event, on tables that are prepared for its plan
 pub record IsDecided (t : RoomyTables) (e : Event) (d : Decision) : Type 0 where

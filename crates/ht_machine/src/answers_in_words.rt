@@ -9,6 +9,7 @@ use std::test::Fail;
 pub(crate) fn told(alloc: Global, answer: &Answer) -> Result<String, Fail> {
     match answer {
         Answer::Done { state, owner, .. } => done_told(alloc, *state, owner),
+        Answer::Turned => Ok(String::from_str(alloc, " Turned")?),
         Answer::Sheet(_) => Ok(String::from_str(alloc, " Sheet")?),
         Answer::Refused(refusal) => refusal_told(alloc, refusal),
     }

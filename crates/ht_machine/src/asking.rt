@@ -1,8 +1,6 @@
 ghost use Rattle.std.specs.Prelude.{◌≡◌, ◌≤◌, ◌<◌, IfOk, length};
 ghost use Rattle.ht_machine.specs.Planning as spec;
-ghost use Rattle.ht_machine.specs.Planning.{PlansAsk, PlansNew};
-ghost use Rattle.ht_tree.specs.Plans.{no_plan};
-ghost use Rattle.ht_tree.specs.Soundness.{IsSound};
+ghost use Rattle.ht_machine.specs.Planning.{IsReady, PlansAsk, PlansNew};
 
 use crate::answering::{answer_of, done};
 use crate::commanding::command;
@@ -30,11 +28,10 @@ pub(crate) fn ask(
     plan: &mut Plan,
     asked: &Asked<'_>,
 ) -> Result<(Option<Record>, Answer), Memory>
-    requires sound { IsSound tables.now.tables }
+    requires ready { IsReady tables.now.tables plan.old }
     requires later { tables.now.tables.last ≤ asked.now.at.0 }
-    requires plan { plan.old ≡ no_plan }
     requires asked { spec.IsAsked asked.now }
-    ensures { IfOk result (λ r. PlansAsk tables.now.tables plan.new asked.now.at.0 asked.now.caller asked.now.retry asked.now.task asked.now.command.now r.0 r.1) }
+    ensures { IfOk result (λ r. PlansAsk tables.now.tables plan.old plan.new asked.now.at.0 asked.now.caller asked.now.retry asked.now.task asked.now.command.now r.0 r.1) }
 {
     let op = asked.command.op();
     match sending_of(tables, asked.caller, asked.retry, op, asked.task) {
@@ -52,12 +49,11 @@ fn ask_anew(
     person: Person,
     asked: &Asked<'_>,
 ) -> Result<(Option<Record>, Answer), Memory>
-    requires sound { IsSound tables.now.tables }
+    requires ready { IsReady tables.now.tables plan.old }
     requires later { tables.now.tables.last ≤ asked.now.at.0 }
-    requires plan { plan.old ≡ no_plan }
     requires person { person < length tables.now.tables.people.persons }
     requires asked { spec.IsAsked asked.now }
-    ensures { IfOk result (λ r. PlansNew tables.now.tables plan.new asked.now.at.0 person asked.now.retry asked.now.task asked.now.command.now (spec.record_of asked.now) r.0 r.1) }
+    ensures { IfOk result (λ r. PlansNew tables.now.tables plan.old plan.new asked.now.at.0 person asked.now.retry asked.now.task asked.now.command.now (spec.record_of asked.now) r.0 r.1) }
 {
     match command(
         alloc,

@@ -96,19 +96,10 @@ fn place_of(tables: &Tables, name: Option<Name>) -> Result<u32, ActRefusal>
 fn why_not_created(people: &Directory, model: &Model, input: &Parts) -> Option<Refusal>
     ensures { result ≡ commands.why_not_created people.now (model_of model.now) input.now }
 {
-    if is_coming(model) {
-        return Some(Refusal::Unknown(Unknown::Model(model.name)));
-    }
     match refused_part(people, true, &model.input, input) {
         Some(part) => Some(Refusal::PartRefused(part)),
         None => None,
     }
-}
-
-fn is_coming(model: &Model) -> bool
-    ensures { result ≡ commands.is_coming (model_of model.now) }
-{
-    !model.deadlines.is_empty()
 }
 
 fn refusal_of(refusal: CreateRefusal) -> ActRefusal

@@ -145,21 +145,20 @@ both => Reserved
 seq => Reserved
 ballot => Ready
 vote => Reserved
-timed => Unknown
-late => Unknown";
+timed => Reserved
+late => Ready";
 
 #[test]
-fn samples_are_created_or_refused(rt: HostRuntime) -> Result<(), Fail> {
+fn samples_are_created(rt: HostRuntime) -> Result<(), Fail> {
     let mut tables = tables_of(rt.alloc(), MODELS)?;
     for line in SAMPLES.lines() {
         assert!(rt; has_outcome(rt.alloc(), &mut tables, line)?, "{line}");
     }
-    assert_eq!(rt; tables.rows(), 8);
+    assert_eq!(rt; tables.rows(), 10);
     Ok(())
 }
 
-// Models with parts, with sub entries, with a finish, without an owner, and with a deadline, which a
-// task can't have yet.
+// Models with parts, with sub entries, with a finish, without an owner, and with a deadline.
 const PARTS: &str = "\
 [[model]]
 name = \"spare\"
@@ -195,16 +194,16 @@ asks => b
 whole => Created
 ends => Created
 free => InProgress
-due => Unknown
-asks-due => Unknown";
+due => Created
+asks-due => b";
 
 #[test]
-fn models_with_deadlines_are_refused(rt: HostRuntime) -> Result<(), Fail> {
+fn missing_parts_are_refused(rt: HostRuntime) -> Result<(), Fail> {
     let mut tables = tables_of(rt.alloc(), PARTS)?;
     for line in REFUSALS.lines() {
         assert!(rt; has_outcome(rt.alloc(), &mut tables, line)?, "{line}");
     }
-    assert_eq!(rt; tables.rows(), 4);
+    assert_eq!(rt; tables.rows(), 5);
     Ok(())
 }
 

@@ -1,13 +1,16 @@
-ghost use Rattle.std.specs.Prelude.{◌≡◌, IfOk, MatchResult, OnErr};
+ghost use Rattle.std.specs.Prelude.{◌≡◌, ◌≤◌, max, IfOk, MatchResult, OnErr};
 ghost use Rattle.ht_base.specs.Events.{IsValid};
+ghost use Rattle.ht_machine.specs.Deciding as deciding;
 ghost use Rattle.ht_machine.specs.History.{IsStep, memory_reply};
 ghost use Rattle.ht_machine.specs.Once.{ActsOnce};
 ghost use Rattle.ht_machine.specs.Planning as spec;
-ghost use Rattle.ht_machine.specs.Planning.{IsDecided, Plans};
+ghost use Rattle.ht_machine.specs.Planning.{IsDecided, Plans, PlansBehindTurn};
 ghost use Rattle.ht_tree.specs.Plans.{committed, no_plan};
+ghost use Rattle.ht_tree.specs.Soundness.{IsSound};
 
 use crate::asking::{Asked, ask};
 use crate::reading::read;
+use crate::turning::turn;
 use ht_base::{Answer, Event, Memory, Moment, Record, Reply};
 use ht_tree::{Plan, Tables};
 use std::alloc::Global;
@@ -29,9 +32,8 @@ pub fn decide(alloc: Global, tables: &mut Tables, event: &Event) -> Result<Decis
     ensures once { IfOk result (λ d. ActsOnce tables.new.tables event.now d.left d.reply.answer (committed tables.new.tables d.plan (spec.last_after tables.new.tables d.left))) }
 {
     let mut plan = Plan::begin(alloc)?;
-    let (left, answer) = plan_event(alloc, tables, &mut plan, event)?;
+    let (left, reply) = plan_event(alloc, tables, &mut plan, event)?;
     tables.prepare(&plan)?;
-    let reply = Reply { taken: 0, answer };
     Ok(Decision { plan, left, reply })
 }
 
@@ -57,19 +59,25 @@ fn last_after(tables: &Tables, left: &Option<Record>) -> Moment
     }
 }
 
-// Plans an event, and tells the record that it leaves and its answer.
+// Plans an event, and tells the record that it leaves and the reply.
 fn plan_event(
     alloc: Global,
     tables: &Tables,
     plan: &mut Plan,
     event: &Event,
-) -> Result<(Option<Record>, Answer), Memory>
+) -> Result<(Option<Record>, Reply), Memory>
     requires valid { IsValid event.now }
     requires plan { plan.old ≡ no_plan }
     ensures { IfOk result (λ r. Plans tables.now.tables plan.new event.now r.0 r.1) }
 {
     let last = tables.last();
     match event {
+        Event::Turn { at } => {
+            let at = effective(last, *at);
+            let taken = turn(alloc, tables, plan, at)?;
+            let answer = Answer::Turned;
+            Ok((left_with(at, taken, None), Reply { taken, answer }))
+        }
         Event::Ask {
             at,
             caller,
@@ -78,17 +86,54 @@ fn plan_event(
             command,
         } => {
             let asked = Asked {
-                at: last.max(*at),
+                at: effective(last, *at),
                 caller: *caller,
                 retry: *retry,
                 task: *task,
                 command,
             };
-            ask(alloc, tables, plan, &asked)
+            turn_then_ask(alloc, tables, plan, &asked)
         }
         Event::Read { caller, query } => {
             let answer = read(alloc, tables, *caller, query)?;
-            Ok((None, answer))
+            Ok((None, Reply { taken: 0, answer }))
         }
+    }
+}
+
+// The moment at which an event acts: its own, and never before the last accepted command.
+fn effective(last: Moment, at: Moment) -> Moment
+    ensures { result.0 ≡ max at.0 last.0 }
+{
+    last.max(at)
+}
+
+// Plans what is due at the moment of a command, and then the command.
+fn turn_then_ask(
+    alloc: Global,
+    tables: &Tables,
+    plan: &mut Plan,
+    asked: &Asked<'_>,
+) -> Result<(Option<Record>, Reply), Memory>
+    requires sound { IsSound tables.now.tables }
+    requires later { tables.now.tables.last ≤ asked.now.at.0 }
+    requires plan { plan.old ≡ no_plan }
+    requires asked { spec.IsAsked asked.now }
+    ensures { IfOk result (λ r. PlansBehindTurn tables.now.tables plan.new asked.now r.0 r.1) }
+{
+    let taken = turn(alloc, tables, plan, asked.at)?;
+    plan.mark();
+    let (own, answer) = ask(alloc, tables, plan, asked)?;
+    Ok((left_with(asked.at, taken, own), Reply { taken, answer }))
+}
+
+// The record of an event before which so many actions were taken, and that leaves this one itself.
+fn left_with(at: Moment, taken: u32, own: Option<Record>) -> Option<Record>
+    ensures { result ≡ deciding.left_with at.0 taken own }
+{
+    match own {
+        Some(record) => Some(record),
+        None if taken > 0 => Some(Record::Turn { at }),
+        None => None,
     }
 }

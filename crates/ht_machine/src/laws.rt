@@ -4,6 +4,7 @@ ghost use Rattle.ht_base.specs.declared.event.Event.{Event};
 ghost use Rattle.ht_base.specs.declared.event.Event.TheVariants.{Ask};
 ghost use Rattle.ht_base.specs.declared.moment.Moment.{Moment};
 ghost use Rattle.ht_base.specs.declared.record.Record.{Record};
+ghost use Rattle.ht_base.specs.declared.record.Record.TheVariants.{Asked};
 ghost use Rattle.ht_base.specs.declared.reply.Reply.{Reply};
 ghost use Rattle.ht_base.specs.declared.retry.Retry.{Retry};
 ghost use Rattle.ht_base.specs.declared.task_id.TaskId.{TaskId};
@@ -24,11 +25,11 @@ pub fn one_outcome()
 {}
 
 /// A numbered command that was accepted acts once: whenever it is sent again in a history, by the same
-/// person's device and for the same operation and task, it changes nothing. It gets its first answer, or
-/// is refused since the device has sent a later one, or for want of memory.
+/// person's device and for the same operation and task, it does nothing, behind what was due before it. It
+/// gets its first answer, or is refused since the device has sent a later one, or for want of memory.
 pub fn a_command_acts_once()
-    ensures kept { (t : TablesOf) (at : Moment) (caller : List ℕ) (r : Retry) (task : TaskId) (command : Command) (left : Record) (reply : Reply) (after : TablesOf)
-        → AscendBy slot_cmp t.slots → Decides t (Ask at caller (Some r) task command) (Some left) reply after
+    ensures kept { (t : TablesOf) (at moment : Moment) (caller : List ℕ) (r : Retry) (task : TaskId) (command : Command) (reply : Reply) (after : TablesOf)
+        → AscendBy slot_cmp t.slots → Decides t (Ask at caller (Some r) task command) (Some (Asked moment caller (Some r) task command)) reply after
         → (s : Slot) × IsAccepted t caller r task command reply.answer s × IsSince s after }
     ensures remembered { (s : Slot) (t : TablesOf) (history : History) → IsSince s t → IsHistory t history → Remembers s t history }
 {}

@@ -2,6 +2,7 @@
 //! then committed.
 #![tactic(auto)]
 
+mod ahead;
 mod answering;
 #[cfg(test)]
 mod answers_in_words;
@@ -11,6 +12,7 @@ mod authorisation_tests;
 mod commanding;
 #[cfg(test)]
 mod comment_tests;
+mod course;
 mod creating;
 #[cfg(test)]
 mod creating_tests;
@@ -29,8 +31,13 @@ mod sending;
 #[cfg(test)]
 mod sending_tests;
 mod sheets;
+mod taking;
 #[cfg(test)]
 mod tests;
+#[cfg(test)]
+mod turn_tests;
+mod turning;
 
 pub use deciding::{Decision, decide, run_one};
 pub use laws::{a_command_acts_once, one_outcome};
+pub use turning::turn;

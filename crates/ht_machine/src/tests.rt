@@ -80,7 +80,7 @@ pub(crate) type Done = (TaskId, State, Option<Name>);
 pub(crate) fn done_of(answer: &Answer) -> Option<Done> {
     match answer {
         Answer::Done { task, state, owner } => Some((*task, *state, *owner)),
-        Answer::Sheet(_) => None,
+        Answer::Sheet(_) | Answer::Turned => None,
         Answer::Refused(_) => None,
     }
 }
@@ -89,7 +89,7 @@ pub(crate) fn done_of(answer: &Answer) -> Option<Done> {
 pub(crate) fn refusal_of(answer: &Answer) -> Option<Refusal> {
     match answer {
         Answer::Refused(refusal) => Some(*refusal),
-        Answer::Done { .. } => None,
+        Answer::Done { .. } | Answer::Turned => None,
         Answer::Sheet(_) => None,
     }
 }

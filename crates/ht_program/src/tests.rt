@@ -238,17 +238,21 @@ fn answers(alloc: Global, models: &str, table: &[(&str, &str, &str, &str)]) -> R
 fn a_task_is_what_its_model_says(rt: HostRuntime) -> Result<(), Fail> {
     let urgent = "[[model]]\nname = \"urgent\"\npriority = \"-1\"\n\
         potentialOwners = \"when(priority == 0, user('anna'), nobody)\"\n";
-    let due = "[[model]]\nname = \"due\"\ninput = [{name = \"sum\", kind = \"int\"}]\n\
-        deadline = [{name = \"one\", kind = \"start\", for = \"PT1S\"}]\n";
+    let due = "[[model]]\nname = \"due\"\npotentialOwners = \"user('anna')\"\n\
+        [[model.deadline]]\nname = \"one\"\nkind = \"start\"\nfor = \"PT1S\"\n\
+        escalation = [{name = \"move\", reassign = \"user('ben')\"}]\n";
     let asks = "[[model]]\nname = \"asks\"\ninput = [{name = \"sum\", kind = \"int\"}]\n";
     let reserved = "{\"owner\":\"anna\",\"state\":\"Reserved\",\"task\":1}";
-    let unknown = "{\"fault\":\"Unknown\",\"model\":\"due\"}";
+    let bens = "{\"owner\":\"ben\",\"state\":\"Reserved\",\"task\":1}";
     let part = "{\"fault\":\"PartRefused\",\"part\":\"sum\"}";
     let urgent_row = [("POST /tasks", "dan", "201 Created", reserved)];
-    let due_row = [("POST /tasks", "dan", "422 Unprocessable Entity", unknown)];
+    let due_rows = [
+        ("POST /tasks", "dan", "201 Created", reserved),
+        ("POST /tasks/1/claim", "ben", "200 OK", bens),
+    ];
     let asks_row = [("POST /tasks", "dan", "422 Unprocessable Entity", part)];
     assert!(rt; answers(rt.alloc(), urgent, &urgent_row)?);
-    assert!(rt; answers(rt.alloc(), due, &due_row)?);
+    assert!(rt; answers(rt.alloc(), due, &due_rows)?);
     assert!(rt; answers(rt.alloc(), asks, &asks_row)?);
     Ok(())
 }

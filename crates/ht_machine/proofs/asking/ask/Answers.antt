@@ -7,4 +7,4 @@ use Rattle.ht_machine.proofs.asking.ask.Goals as goal
 pub returns-in-Refused : goal.returns-in-Refused
 returns-in-Refused c =
     let refusal = c.in-Refused.refusal in
-    idle_asked c.args.tables.now.tables c.args.plan.now c.args.asked.now c.op-op.result (sending.Refused refusal) c.op-op.ensures c.in-Refused.ensures.sent (answer.Refused refusal) c.requires.sound c.requires.plan ((refl, refl), refl)
+    idle_asked c.args.tables.now.tables c.args.plan.now c.args.asked.now c.op-op.result (sending.Refused refusal) c.op-op.ensures c.in-Refused.ensures.sent c.requires.ready (answer.Refused refusal) ((refl, refl), refl)

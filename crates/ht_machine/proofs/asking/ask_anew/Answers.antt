@@ -11,28 +11,20 @@ use Rattle.ht_machine.proofs.asking.ask_anew.Goals as goal
 use Rattle.ht_owner.specs.declared.refusal.ActRefusal.{ActRefusal}
 use Rattle.ht_owner.specs.declared.refusal.ActRefusal.TheVariants as why
 use Rattle.ht_tree.specs.Plans.{PlanOf, planned}
-use Rattle.ht_tree.specs.Soundness.{IsSound}
-use Rattle.ht_tree.specs.Tables.{TablesOf}
-use Rattle.ht_tree.proofs.PublicLaws.{planned_nothing}
-
-pub command-requires-clause-sound : goal.command-requires-clause-sound
-command-requires-clause-sound c =
-    let t = c.args.tables.now.tables in
-    let S : TablesOf → Type 0 = λ u. IsSound u in
-    subst S (sym (planned_nothing t c.args.plan.now c.requires.plan)) c.requires.sound
 
 pub returns-in_ok-left-in-Ok : goal.returns-in_ok-left-in-Ok
 returns-in_ok-left-in-Ok c =
     let t = c.args.tables.now.tables in
     let a = c.args.asked.now in
+    let p = c.args.plan.now in
     let q = c.command.new.plan in
     let person = c.args.person in
     let kept = c.done-kept.result in
-    let P : PlanOf → Type 0 = λ p. PlansNew t p a.at.0 person a.retry a.task a.command.now (record_of a) (Some (record_of a)) (answer_of kept) in
-    let L : Record → Type 0 = λ r. PlansNew t c.keep.new.plan a.at.0 person a.retry a.task a.command.now (record_of a) (Some r) (answer_of kept) in
-    let A : Answer → Type 0 = λ x. PlansNew t c.keep.new.plan a.at.0 person a.retry a.task a.command.now (record_of a) (Some c.in_ok-left-in-Ok.left) x in
+    let P : PlanOf → Type 0 = λ x. PlansNew t p x a.at.0 person a.retry a.task a.command.now (record_of a) (Some (record_of a)) (answer_of kept) in
+    let L : Record → Type 0 = λ r. PlansNew t p c.keep.new.plan a.at.0 person a.retry a.task a.command.now (record_of a) (Some r) (answer_of kept) in
+    let A : Answer → Type 0 = λ x. PlansNew t p c.keep.new.plan a.at.0 person a.retry a.task a.command.now (record_of a) (Some c.in_ok-left-in-Ok.left) x in
     let plan_is : c.keep.new.plan ≡ keeping_reply q person a.retry (op_of a.command.now) a.task kept = c.keep.ensures ∙ ap (λ (o : Op). keeping_reply q person a.retry o a.task kept) c.op.ensures in
-    let plans = asked_anew t c.args.plan.now q person a c.requires.sound c.requires.plan c.in-Ok.about kept c.requires.later c.requires.person c.requires.asked c.in-Ok.ensures c.done-kept.ensures.shows c.done-kept.ensures.known in
+    let plans = asked_anew t p q person a c.requires.ready c.in-Ok.about kept c.requires.later c.requires.person c.requires.asked c.in-Ok.ensures c.done-kept.ensures.shows c.done-kept.ensures.known in
     subst A (sym c.answer_of.ensures) (subst L (sym c.in_ok-left-in-Ok.ensures) (subst P (sym plan_is) plans))
 
 pub returns-in-Err-Refused : goal.returns-in-Err-Refused
@@ -43,4 +35,4 @@ returns-in-Err-Refused c =
     let refusal = c.in-Err-Refused.refusal in
     let T : ActRefusal → Type 0 = λ r. Tries t old c.command.new.plan (Comes (planned t old) c.args.person a.at.0 a.task.0 a.command.now) (Err r) in
     let tried : T (why.Refused refusal) = subst T c.in-Err-Refused.field-0-is c.in-Err-Refused.ensures in
-    rw c.in-Err-Refused.field-0-is (refused_anew t old c.command.new.plan c.args.person a c.requires.sound c.requires.plan c.back.new.self refusal c.back.ensures tried.1 tried.0)
+    rw c.in-Err-Refused.field-0-is (refused_anew t old c.command.new.plan c.args.person a c.requires.ready c.back.new.self refusal c.back.ensures tried.1 tried.0)

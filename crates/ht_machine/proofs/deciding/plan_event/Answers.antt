@@ -1,15 +1,50 @@
-use Rattle.std.proofs.Common.{None, refl, sym, subst}
+use Rattle.std.proofs.Common.{◌≡◌, ◌≤◌, ℕ, None, ap, refl, sym, subst, ◌∙◌, arith, max}
 use Rattle.ht_base.specs.declared.event.Event.{Event}
-use Rattle.ht_machine.specs.Deciding.{Leads}
-use Rattle.ht_machine.proofs.Asked.{stays_leaves}
+use Rattle.ht_base.specs.declared.event.Event.TheVariants as event
+use Rattle.ht_base.specs.Events.{IsValid}
+use Rattle.ht_base.specs.Moment.{last_moment}
+use Rattle.ht_base.specs.declared.reply.Answer.TheVariants.{Turned}
+use Rattle.ht_base.specs.declared.reply.Reply.{Reply}
+use Rattle.ht_machine.specs.Deciding.{Decides, DecidesAt, effective}
+use Rattle.ht_machine.specs.Planning.{Plans}
+use Rattle.ht_machine.proofs.BehindTurn.{read_leaves, turn_plans}
 use Rattle.ht_machine.proofs.deciding.plan_event.Goals as goal
+use Rattle.ht_tree.proofs.PublicLaws.{planned_nothing}
+use Rattle.ht_tree.specs.Plans.{planned}
+use Rattle.ht_tree.specs.Soundness.{IsSound}
+use Rattle.ht_tree.specs.Tables.{TablesOf}
+
+pub turn-requires-clause-sound : goal.turn-requires-clause-sound
+turn-requires-clause-sound c =
+    let t = c.args.tables.now.tables in
+    let S : TablesOf → Type 0 = λ u. IsSound u in
+    subst S (sym (planned_nothing t c.args.plan.now c.requires.plan)) c.last-last.ensures.sound
+
+pub returns-in_ok-taken-in-Turn : goal.returns-in_ok-taken-in-Turn
+returns-in_ok-taken-in-Turn c =
+    let t = c.args.tables.now.tables in
+    let at = c.in-Turn.at in
+    let moment = c.effective-at.result.0 in
+    let is = c.effective-at.ensures in
+    let last = c.last-last.ensures.value in
+    let last_within = c.last-last.ensures.sound.last_within in
+    let V : Event → Type 0 = λ e. IsValid e in
+    let valid : at.0 ≤ last_moment = subst V c.in-Turn.is c.requires.valid in
+    let within : moment ≤ last_moment = omega (arith, is, last, last_within, valid) in
+    let later : t.last ≤ moment = omega (arith, is, last) in
+    let r = turn_plans t c.args.plan.now c.turn.new.plan moment c.in_ok-taken-in-Turn.taken c.requires.plan c.in_ok-taken-in-Turn.ensures.turns at within later c.left_with.result c.left_with.ensures in
+    let same : moment ≡ effective t at.0 = is ∙ ap (λ (n : ℕ). max at.0 n) last in
+    let D : ℕ → Type 0 = λ m. DecidesAt t m (event.Turn at) c.left_with.result (record { taken = c.in_ok-taken-in-Turn.taken; answer = Turned }) r.0 in
+    let E : Event → Type 0 = λ e. Decides t e c.left_with.result (record { taken = c.in_ok-taken-in-Turn.taken; answer = Turned }) r.0 in
+    record { after = r.0; decides = subst E (sym c.in-Turn.is) (subst D same r.1); leaves = r.2 }
 
 pub returns-in_ok-answer-in-Read : goal.returns-in_ok-answer-in-Read
 returns-in_ok-answer-in-Read c =
     let t = c.args.tables.now.tables in
-    let L : Event → Type 0 = λ e. Leads t e None c.in_ok-answer-in-Read.answer t in
+    let reply : Reply = record { taken = 0; answer = c.in_ok-answer-in-Read.answer } in
+    let D : Event → Type 0 = λ e. Decides t e None reply t in
     record {
       after = t;
-      leads = subst L (sym c.in-Read.is) ((refl, refl), c.in_ok-answer-in-Read.ensures);
-      leaves = stays_leaves t c.args.plan.now c.requires.plan c.last-last.ensures.sound;
+      decides = subst D (sym c.in-Read.is) (refl, ((refl, refl), c.in_ok-answer-in-Read.ensures));
+      leaves = read_leaves t c.args.plan.now c.requires.plan c.last-last.ensures.sound;
     }
