@@ -19,8 +19,8 @@ pub record TablesOf : Type 0 where
   pub slots : List Slot
   pub last : ℕ
 
--- and how many more rows, notifications, slots and dues they take without memory, and which dues go and come with the
--- plan that was prepared last
+-- and how many more rows, notifications, slots and dues they take without memory, and which dues go and
+-- come with the plan that was prepared last
 pub record RoomyTables : Type 0 where
   pub tables : TablesOf
   pub room : ℕ

@@ -15,8 +15,8 @@ use std::alloc::Global;
 use std::marker::Model;
 
 /// A planned change of the tables: the rows that are put, of which the last of a task counts, the
-/// notifications that are added, and the reply that is kept. It can go back to its last mark. What it is asked costs at most a logarithm of
-/// the number of its rows.
+/// notifications that are added, and the reply that is kept. It can go back to its last mark. What it is
+/// asked costs at most a logarithm of the number of its rows.
 #[derive(Drop)]
 pub struct Plan {
     puts: Puts,

@@ -22,8 +22,8 @@ use std::marker::Model;
 
 /// The tasks of an office, over its models and its people, its notifications, and the last numbered
 /// command of each device. A contract also sees in `room`, `notice_room`, `slot_room` and `due_room` how
-/// many more tasks, notifications, devices and dues they take without memory, and in `gone` and `news` the dues that go and come with the plan that
-/// was prepared last.
+/// many more tasks, notifications, devices and dues they take without memory, and in `gone` and `news` the
+/// dues that go and come with the plan that was prepared last.
 #[derive(Drop)]
 pub struct Tables {
     models: Models,
