@@ -24,7 +24,7 @@ use Rattle.ht_models.specs.Model.{DeadlineOf, ModelOf}
 use Rattle.ht_tree.specs.declared.row.Row.{Row}
 use Rattle.ht_tree.specs.Activation.{state_by}
 use Rattle.ht_tree.specs.Families.{is_final}
-use Rattle.ht_tree.specs.RowDues.{deadline_due, deadline_dues, deadline_moment, deadlines_of, due_of, is_obsolete, kind_of, moment_by, row_dues}
+use Rattle.ht_tree.specs.RowDues.{deadline_due, deadline_dues, deadline_moment, deadlines_of, due_of, is_obsolete, kind_of, moment_by, open_moment, row_dues}
 use Rattle.ht_tree.specs.Soundness.{is_created, is_suspended}
 
 -- ---- one after another
@@ -142,10 +142,10 @@ either : (a b c d : Bool) → (a ≡ true → c ≡ true) → (b ≡ true → d 
 either true b c d f g h = ap (λ (x : Bool). x || d) (f refl)
 either false b c d f g h = ap (λ (x : Bool). c || x) (g h) ∙ or-true c
 
-none_or_these : (due : Due) (xs : List Due) (a b : Bool) → (a ≡ true → b ≡ true) → has due (if b then [] else xs) ≡ true → has due (if a then [] else xs) ≡ true
-none_or_these due xs a true test h = absurd cc
-none_or_these due xs false false test h = h
-none_or_these due xs true false test h = absurd (let wrong : false ≡ true = test refl in cc)
+none_or_this : (m : Option Moment) (a b : Bool) → (a ≡ true → b ≡ true) → ((if b then None else m) ≡ None) ⊎ ((if b then None else m) ≡ (if a then None else m))
+none_or_this m a true test = inl refl
+none_or_this m false false test = inr refl
+none_or_this m true false test = absurd (let wrong : false ≡ true = test refl in cc)
 
 module _ (old new : Row) (ages : Ages old new) where
   same_due : (kind place : ℕ) (at : Option Moment) → due_of new kind place at ≡ due_of old kind place at
@@ -167,14 +167,16 @@ module _ (old new : Row) (ages : Ages old new) where
       ∙ ap (λ (input : Values). moment_by old.created input d.period d.at d.part) ages.input
 
   deadline_before : (due : Due) (place : ℕ) (d : DeadlineOf) → has due (deadline_due new place d) ≡ true → has due (deadline_due old place d) ≡ true
-  deadline_before due place d h =
-      let kind = kind_of d.kind in
-      let passed = has_place place new.taken || is_obsolete d.kind new in
-      let same : due_of new kind place (deadline_moment new d) ≡ due_of old kind place (deadline_moment old d) =
-      same_due kind place (deadline_moment new d) ∙ ap (due_of old kind place) (same_moment d) in
-      none_or_these due (due_of old kind place (deadline_moment old d)) (has_place place old.taken || is_obsolete d.kind old) passed
-      (either (has_place place old.taken) (is_obsolete d.kind old) (has_place place new.taken) (is_obsolete d.kind new) (ages.taken place) (obsolete_still d.kind))
-      (sym (ap (λ (l : List Due). has due (if passed then [] else l)) same) ∙ h)
+  deadline_before due place d h = due_before due (kind_of d.kind) place (open_moment old place d) (open_moment new place d) (subst P (sym (same_moment d)) none_or_same) h
+    where
+      passed : Bool
+      passed = has_place place new.taken || is_obsolete d.kind new
+
+      abbrev P : Option Moment → Type 0
+      P m = ((if passed then None else m) ≡ None) ⊎ ((if passed then None else m) ≡ open_moment old place d)
+
+      none_or_same : P (deadline_moment old d)
+      none_or_same = none_or_this (deadline_moment old d) (has_place place old.taken || is_obsolete d.kind old) passed (either (has_place place old.taken) (is_obsolete d.kind old) (has_place place new.taken) (is_obsolete d.kind new) (ages.taken place) (obsolete_still d.kind))
 
   -- in two lists, one behind the other
   has_in : (due : Due) (xs ys : List Due) → has due (xs ++ ys) ≡ (has due xs || has due ys)

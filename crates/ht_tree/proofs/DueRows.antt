@@ -1,5 +1,5 @@
 -- Which due is of which row, and what it says of it.
-use Rattle.std.proofs.Common.{◌≡◌, ℕ, ◌+◌, zero, suc, Bool, true, false, if◌then◌else◌, List, [], ◌∷◌, ◌++◌, Option, Some, None, refl, sym, ap, subst, ◌∙◌, inl, inr, ◌⊎◌, ◌||◌, ◌&&◌, ◌==◌, not, ◌≤◌, length, leb-false, eq-eqb, arith}
+use Rattle.std.proofs.Common.{◌≡◌, ℕ, ◌+◌, zero, suc, Bool, true, false, if◌then◌else◌, List, [], ◌∷◌, ◌++◌, Option, Some, None, refl, sym, ap, subst, ◌∙◌, inl, inr, ◌⊎◌, ◌||◌, ◌&&◌, ◌==◌, ◌≤◌, length, leb-false, eq-eqb, arith}
 use Rattle.std.specs.Prelude.{nat_le, nat_lt, slice_get}
 use Rattle.std.proofs.lemmas.Bool.{cases_eq}
 use Rattle.std.proofs.lemmas.Bool.Decides.{nat_tests}
@@ -19,7 +19,7 @@ use Rattle.ht_models.specs.Model.{DeadlineOf, ModelOf}
 use Rattle.ht_tree.specs.declared.row.Row.{Row}
 use Rattle.ht_tree.specs.Plans.{IsPlanOf, PlanOf, planned}
 use Rattle.ht_tree.specs.Soundness.{IsSound}
-use Rattle.ht_tree.specs.RowDues.{all_dues, changed_dues, deadline_as, deadline_due, deadline_dues, deadline_moment, deadlines_of, due_of, is_obsolete, kind_of, moment_as, row_dues, task_dues}
+use Rattle.ht_tree.specs.RowDues.{all_dues, changed_dues, deadline_as, deadline_due, deadline_dues, deadline_moment, deadlines_of, due_of, is_obsolete, kind_of, moment_as, open_moment, row_dues, task_dues}
 use Rattle.ht_tree.specs.Rows.{row_at}
 use Rattle.ht_tree.specs.Tables.{TablesOf}
 use Rattle.ht_tree.proofs.DuesInStep.{Numbered, has_append, has_flat, has_in_order, in_order_ascends, kept_or_new, new_there, not_of_task, or_false}
@@ -139,6 +139,21 @@ pub record IsOfDeadline (row : Row) (ds : List DeadlineOf) (place : ℕ) (q : Du
   pub not_obsolete : is_obsolete d.kind row ≡ false
   pub moment : deadline_moment row d ≡ Some q.at
 
+-- its moment says that it is neither taken nor obsolete
+of_open : (row : Row) (ds : List DeadlineOf) (place : ℕ) (q : Due) (d : DeadlineOf) → slice_get ds place ≡ Some d → q.kind ≡ kind_of d.kind → open_moment row q.place d ≡ Some q.at → IsOfDeadline row ds place q
+of_open row ds place q d there kind is = go (persons.has q.place row.taken) (is_obsolete d.kind row) refl refl is
+  where
+    go : (a b : Bool) → persons.has q.place row.taken ≡ a → is_obsolete d.kind row ≡ b → (if a || b then None else deadline_moment row d) ≡ Some q.at → IsOfDeadline row ds place q
+    go true b e f is = absurd cc
+    go false true e f is = absurd cc
+    go false false e f is = record { d = d; there = there; kind = kind; not_taken = e; not_obsolete = f; moment = is }
+
+is_open : (row : Row) (ds : List DeadlineOf) (place : ℕ) (q : Due) (is : IsOfDeadline row ds place q) → open_moment row q.place is.d ≡ Some q.at
+is_open row ds place q is =
+    ap (λ (b : Bool). if b || is_obsolete (is.d).kind row then None else deadline_moment row is.d) is.not_taken
+    ∙ ap (λ (b : Bool). if b then None else deadline_moment row is.d) is.not_obsolete
+    ∙ is.moment
+
 -- what a due says of its row
 pub data IsOfRow (models : List ModelOf) (row : Row) (q : Due) : Type 0 where
   waits : q.kind ≡ 0 → q.place ≡ 0 → row.waits ≡ Some q.at → IsOfRow models row q
@@ -174,7 +189,10 @@ alone row kind place (Some at) q h = go (compare_dues q due) refl
 of_deadlines : (row : Row) (from : ℕ) (ds : List DeadlineOf) (q : Due) → has q (deadline_dues row from ds) ≡ true → (n : ℕ) × (q.place ≡ from + n) × IsOfDeadline row ds n q
 of_deadlines row from [] q h = absurd cc
 of_deadlines row from (d ∷ ds) q h = elim (either q (deadline_due row from d) (deadline_dues row (from + 1) ds) h) [
-  | inl first ↦ go (persons.has from row.taken || is_obsolete d.kind row) refl first
+  | inl first ↦
+      let a = alone row (kind_of d.kind) from (open_moment row from d) q first in
+      let place = a.place_is in
+      (zero, omega (arith, place), of_open row (d ∷ ds) zero q d refl a.kind_is (ap (λ (n : ℕ). open_moment row n d) place ∙ a.moment_is))
   | inr later ↦
       let rest = of_deadlines row (from + 1) ds q later in
       let e = rest.1 in
@@ -184,22 +202,6 @@ of_deadlines row from (d ∷ ds) q h = elim (either q (deadline_due row from d) 
         record { d = it.d; there = it.there; kind = it.kind; not_taken = it.not_taken; not_obsolete = it.not_obsolete; moment = it.moment },
       )
 ]
-  where
-    parts : (a b : Bool) → (a || b) ≡ false → (a ≡ false) × (b ≡ false)
-    parts false false e = (refl, refl)
-    parts true b e = absurd cc
-    parts false true e = absurd cc
-
-    go : (b : Bool) → (persons.has from row.taken || is_obsolete d.kind row) ≡ b → has q (if b then [] else due_of row (kind_of d.kind) from (deadline_moment row d)) ≡ true → (n : ℕ) × (q.place ≡ from + n) × IsOfDeadline row (d ∷ ds) n q
-    go true e none = absurd cc
-    go false e one =
-        let a = alone row (kind_of d.kind) from (deadline_moment row d) q one in
-        let p = parts (persons.has from row.taken) (is_obsolete d.kind row) e in
-        let place = a.place_is in (
-          zero,
-          omega (arith, place),
-          record { d = d; there = refl; kind = a.kind_is; not_taken = ap (λ (n : ℕ). persons.has n row.taken) place ∙ p.0; not_obsolete = p.1; moment = a.moment_is },
-        )
 
 pub means_due : (models : List ModelOf) (row : Row) (q : Due) → has q (row_dues models row) ≡ true → IsOfRow models row q
 means_due models row q h = elim (either q (due_of row 0 0 row.waits ++ due_of row 1 0 row.until) (deadline_dues row 0 (deadlines_of models row)) h) [
@@ -239,13 +241,10 @@ module _ (row : Row) (q : Due) (task : q.task ≡ row.task) where
   has_deadline from (d ∷ ds) zero place is =
       let same : d ≡ is.d = (let there = is.there in cc) in
       let here : q.place ≡ from = omega (arith, place) in
-      let kept : (persons.has from row.taken || is_obsolete d.kind row) ≡ false =
-      ap (λ (n : ℕ). persons.has n row.taken || is_obsolete d.kind row) (sym here)
-      ∙ ap (λ (x : DeadlineOf). persons.has q.place row.taken || is_obsolete x.kind row) same
-      ∙ ap (λ b. b || is_obsolete (is.d).kind row) is.not_taken
-      ∙ is.not_obsolete in
+      let moment : open_moment row from d ≡ Some q.at =
+      ap (λ (n : ℕ). open_moment row n d) (sym here) ∙ ap (λ (x : DeadlineOf). open_moment row q.place x) same ∙ is_open row (d ∷ ds) zero q is in
       first_of q (deadline_due row from d) (deadline_dues row (from + 1) ds)
-      (rw kept (has_alone (kind_of d.kind) from (deadline_moment row d) (is.kind ∙ ap (λ (x : DeadlineOf). kind_of x.kind) (sym same)) here (ap (λ (x : DeadlineOf). deadline_moment row x) same ∙ is.moment)))
+      (has_alone (kind_of d.kind) from (open_moment row from d) (is.kind ∙ ap (λ (x : DeadlineOf). kind_of x.kind) (sym same)) here moment)
   has_deadline from (d ∷ ds) (suc n) place is =
       second_of q (deadline_due row from d) (deadline_dues row (from + 1) ds)
       (has_deadline (from + 1) ds n (omega (arith, place)) (record { d = is.d; there = is.there; kind = is.kind; not_taken = is.not_taken; not_obsolete = is.not_obsolete; moment = is.moment }))
@@ -266,21 +265,14 @@ module _ (row : Row) (q : Due) (task : q.task ≡ row.task) where
 module _ (models : List ModelOf) (row : Row) (q : Due) where
   of_deadline : (k p : ℕ) (o : Option DeadlineOf) → q.kind ≡ k → q.place ≡ p → slice_get (deadlines_of models row) p ≡ o → deadline_as row k p o ≡ Some q.at → IsOfRow models row q
   of_deadline k p None kind place there m = absurd cc
-  of_deadline k p (Some d) kind place there m = go (not (k == kind_of d.kind) || persons.has p row.taken) (is_obsolete d.kind row) refl refl m
+  of_deadline k p (Some d) kind place there m = go (k == kind_of d.kind) refl m
     where
-      parts : (a b : Bool) → (not a || b) ≡ false → (a ≡ true) × (b ≡ false)
-      parts true false e = (refl, refl)
-      parts true true e = absurd cc
-      parts false b e = absurd cc
-
-      go : (a b : Bool) → (not (k == kind_of d.kind) || persons.has p row.taken) ≡ a → is_obsolete d.kind row ≡ b → (if a then None else (if b then None else deadline_moment row d)) ≡ Some q.at → IsOfRow models row q
-      go true b e f m = absurd cc
-      go false true e f m = absurd cc
-      go false false e f m =
-          let p_is = parts (k == kind_of d.kind) (persons.has p row.taken) e in
+      go : (b : Bool) → (k == kind_of d.kind) ≡ b → (if b then open_moment row p d else None) ≡ Some q.at → IsOfRow models row q
+      go false e m = absurd cc
+      go true e m =
           let its : k ≡ kind_of d.kind = grind (arith, nat_tests) in
           let P : ℕ → Type 0 = λ n. slice_get (deadlines_of models row) n ≡ Some d in
-          IsOfRow.deadline (record { d = d; there = subst P (sym place) there; kind = kind ∙ its; not_taken = ap (λ (n : ℕ). persons.has n row.taken) place ∙ p_is.1; not_obsolete = f; moment = m })
+          IsOfRow.deadline (of_open row (deadlines_of models row) q.place q d (subst P (sym place) there) (kind ∙ its) (ap (λ (n : ℕ). open_moment row n d) place ∙ m))
 
   by_moment : (k p : ℕ) → q.kind ≡ k → q.place ≡ p → moment_as models row k p ≡ Some q.at → IsOfRow models row q
   by_moment zero zero kind place m = IsOfRow.waits kind place m
@@ -299,13 +291,11 @@ module _ (models : List ModelOf) (row : Row) (q : Due) where
   its_moment (IsOfRow.deadline is) =
       let kind = (is.d).kind in
       let same : (kind_of kind == kind_of kind) ≡ true = grind (arith, nat_tests) in
-      let left : (not (kind_of kind == kind_of kind) || persons.has q.place row.taken) ≡ false = rw same is.not_taken in
       ap (λ (n : ℕ). moment_as models row n q.place) is.kind
       ∙ its_deadline kind q.place
       ∙ ap (λ (o : Option DeadlineOf). deadline_as row (kind_of kind) q.place o) is.there
-      ∙ ap (λ (b : Bool). if b then None else (if is_obsolete kind row then None else deadline_moment row is.d)) left
-      ∙ ap (λ (b : Bool). if b then None else deadline_moment row is.d) is.not_obsolete
-      ∙ is.moment
+      ∙ ap (λ (b : Bool). if b then open_moment row q.place is.d else None) same
+      ∙ is_open row (deadlines_of models row) q.place q is
 
   -- a test of the moment tells whether the due is one of the row's
   pub told_due : (told : Bool) → q.task ≡ row.task → (told ≡ true → moment_as models row q.kind q.place ≡ Some q.at) → (moment_as models row q.kind q.place ≡ Some q.at → told ≡ true) → told ≡ has q (row_dues models row)

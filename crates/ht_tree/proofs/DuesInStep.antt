@@ -9,7 +9,6 @@ use Rattle.std.specs.declared.cmp.Ordering.TheVariants.{Less, Equal, Greater}
 use Rattle.std.proofs.lemmas.Bool.{and_parts, cases_eq, eqb-true}
 use Rattle.std.proofs.lemmas.Bool.Decides.{nat_tests}
 use Rattle.ht_base.specs.declared.moment.Moment.{Moment}
-use Rattle.ht_base.specs.Persons as persons
 use Rattle.ht_due.specs.declared.due.Due.{Due}
 use Rattle.ht_due.specs.Dues.{AreNew, Ascends, compare_dues, has, merged}
 use Rattle.ht_due.proofs.PublicLaws.{ascends_all_put, ascends_merged, exact, has_all_put, has_merged, same_dues}
@@ -17,7 +16,7 @@ use Rattle.ht_models.specs.Model.{DeadlineOf, ModelOf}
 use Rattle.ht_tree.specs.declared.row.Row.{Row}
 use Rattle.ht_tree.specs.Places.{last_of, later_or}
 use Rattle.ht_tree.specs.Plans.{AreDuesPrepared, Follow, IsPlanOf, PlanOf, committed, planned}
-use Rattle.ht_tree.specs.RowDues.{all_dues, changed_dues, deadline_due, deadline_dues, deadline_moment, deadlines_of, due_of, in_order, is_obsolete, kind_of, row_dues, task_dues}
+use Rattle.ht_tree.specs.RowDues.{all_dues, changed_dues, deadline_due, deadline_dues, deadlines_of, due_of, in_order, kind_of, open_moment, row_dues, task_dues}
 use Rattle.ht_tree.specs.Rows.{put_in, row_at}
 use Rattle.ht_tree.specs.Soundness.{IsSound}
 use Rattle.ht_tree.specs.Tables.{RoomyTables, TablesOf}
@@ -60,19 +59,12 @@ module _ (row : Row) (q : Due) (other : row.task.0 ≡ q.task.0 → ⊥) where
       go Less e = refl
       go Greater e = refl
 
-  not_deadline : (place : ℕ) (d : DeadlineOf) → has q (deadline_due row place d) ≡ false
-  not_deadline place d = go (persons.has place row.taken || is_obsolete d.kind row)
-    where
-      go : (b : Bool) → has q (if b then [] else due_of row (kind_of d.kind) place (deadline_moment row d)) ≡ false
-      go true = refl
-      go false = not_due (kind_of d.kind) place (deadline_moment row d)
-
   neither : (xs ys : List Due) → has q xs ≡ false → has q ys ≡ false → has q (xs ++ ys) ≡ false
   neither xs ys e f = has_append q xs ys ∙ ap (λ b. b || has q ys) e ∙ f
 
   not_deadlines : (place : ℕ) (ds : List DeadlineOf) → has q (deadline_dues row place ds) ≡ false
   not_deadlines place [] = refl
-  not_deadlines place (d ∷ ds) = neither (deadline_due row place d) (deadline_dues row (place + 1) ds) (not_deadline place d) (not_deadlines (place + 1) ds)
+  not_deadlines place (d ∷ ds) = neither (deadline_due row place d) (deadline_dues row (place + 1) ds) (not_due (kind_of d.kind) place (open_moment row place d)) (not_deadlines (place + 1) ds)
 
   pub not_of_row : (models : List ModelOf) → has q (row_dues models row) ≡ false
   not_of_row models =

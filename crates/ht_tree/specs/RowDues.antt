@@ -1,6 +1,6 @@
 -- What is due of the tasks, and when (WS-HumanTask 1.1, 4.9): deferred activations, the ends of
 -- suspensions, and the deadlines that are neither taken nor obsolete.
-use Rattle.std.specs.Prelude.{ℕ, zero, suc, ◌+◌, ◌==◌, max, min, Bool, not, ◌||◌, List, [], ◌∷◌, ◌++◌, filter, fold, nat_le, slice_get, Option, Some, None, option_map, if◌then◌else◌}
+use Rattle.std.specs.Prelude.{ℕ, zero, suc, ◌+◌, ◌==◌, max, min, Bool, ◌||◌, List, [], ◌∷◌, ◌++◌, filter, fold, nat_le, slice_get, Option, Some, None, option_map, if◌then◌else◌}
 use Rattle.std.specs.List.{flat_map}
 use Rattle.std.specs.Option.{option_map_or}
 use Rattle.std.specs.Ordering.{match_ordering}
@@ -62,9 +62,12 @@ abbrev pub kind_of : DeadlineKind → ℕ
 kind_of Start = 2
 kind_of Completion = 3
 
--- the deadline at a place of the row's model, where it isn't taken and isn't obsolete
+-- when the deadline at a place of the row's model is due: it isn't taken and isn't obsolete
+abbrev pub open_moment : Row → ℕ → DeadlineOf → Option Moment
+open_moment row place d = if has place row.taken || is_obsolete d.kind row then None else deadline_moment row d
+
 abbrev pub deadline_due : Row → ℕ → DeadlineOf → List Due
-deadline_due row place d = if has place row.taken || is_obsolete d.kind row then [] else due_of row (kind_of d.kind) place (deadline_moment row d)
+deadline_due row place d = due_of row (kind_of d.kind) place (open_moment row place d)
 
 -- those from a place on
 abbrev pub deadline_dues : Row → ℕ → List DeadlineOf → List Due
@@ -77,7 +80,7 @@ deadlines_of models row = option_map_or (λ m. m.deadlines) (slice_get models ro
 -- when its action of a kind, of the deadline at a place, is due
 abbrev pub deadline_as : Row → ℕ → ℕ → Option DeadlineOf → Option Moment
 deadline_as row kind place None = None
-deadline_as row kind place (Some d) = if not (kind == kind_of d.kind) || has place row.taken then None else (if is_obsolete d.kind row then None else deadline_moment row d)
+deadline_as row kind place (Some d) = if kind == kind_of d.kind then open_moment row place d else None
 
 abbrev pub moment_as : List ModelOf → Row → ℕ → ℕ → Option Moment
 moment_as models row zero zero = row.waits

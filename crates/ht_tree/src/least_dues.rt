@@ -4,7 +4,7 @@ ghost use Rattle.ht_models.specs.Shown as shown;
 ghost use Rattle.ht_tree.specs.Plans.{IsPlanOf, planned};
 ghost use Rattle.ht_tree.specs.RowDues as spec;
 
-use crate::row_dues::{is_obsolete, kind_of, moment_of};
+use crate::row_dues::{kind_of, open_moment};
 use crate::{Plan, Row, Tables};
 use ht_base::Moment;
 use ht_due::Due;
@@ -60,10 +60,8 @@ fn least_deadline(row: &Row, deadlines: &[Deadline]) -> Option<Due>
 fn deadline_due(row: &Row, place: u32, deadline: &Deadline) -> Option<Due>
     ensures { result ≡ spec.least_of (spec.deadline_due row.now place (shown.deadline_of deadline.now)) }
 {
-    if row.taken.contains(place) || is_obsolete(deadline.kind, row) {
-        return None;
-    }
-    due_at(row, kind_of(deadline.kind), place, moment_of(row, deadline))
+    let at = open_moment(row, place, deadline);
+    due_at(row, kind_of(deadline.kind), place, at)
 }
 
 fn due_at(row: &Row, kind: u8, place: u32, at: Option<Moment>) -> Option<Due>

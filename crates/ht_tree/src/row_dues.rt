@@ -61,10 +61,7 @@ fn add_deadline(
 ) -> Result<(), Memory>
     ensures { OnOk result (dues.new.items ≡ dues.old.items ++ spec.deadline_due row.now place (shown.deadline_of deadline.now)) }
 {
-    if row.taken.contains(place) || is_obsolete(deadline.kind, row) {
-        return Ok(());
-    }
-    let at = moment_of(row, deadline);
+    let at = open_moment(row, place, deadline);
     add_due(row, kind_of(deadline.kind), place, at, dues)
 }
 
@@ -101,16 +98,24 @@ fn deadline_as(row: &Row, kind: u8, place: u32, deadline: Option<&Deadline>) -> 
     ensures { result ≡ spec.deadline_as row.now kind place (option_map (λ d. shown.deadline_of d.now) deadline.entry) }
 {
     let deadline = deadline?;
-    if kind != kind_of(deadline.kind) || row.taken.contains(place) {
+    if kind != kind_of(deadline.kind) {
         return None;
     }
-    if is_obsolete(deadline.kind, row) {
+    open_moment(row, place, deadline)
+}
+
+/// When the deadline at a place of the row's model is due. None where it is taken or obsolete, or by an
+/// input part that isn't set.
+pub(crate) fn open_moment(row: &Row, place: u32, deadline: &Deadline) -> Option<Moment>
+    ensures { result ≡ spec.open_moment row.now place (shown.deadline_of deadline.now) }
+{
+    if row.taken.contains(place) || is_obsolete(deadline.kind, row) {
         return None;
     }
     moment_of(row, deadline)
 }
 
-pub(crate) fn is_obsolete(kind: DeadlineKind, row: &Row) -> bool
+fn is_obsolete(kind: DeadlineKind, row: &Row) -> bool
     ensures { result ≡ spec.is_obsolete kind row.now }
 {
     match kind {
@@ -128,8 +133,7 @@ pub(crate) fn kind_of(kind: DeadlineKind) -> u8
     }
 }
 
-// When the deadline is due. None where it is by an input part that isn't set.
-pub(crate) fn moment_of(row: &Row, deadline: &Deadline) -> Option<Moment>
+fn moment_of(row: &Row, deadline: &Deadline) -> Option<Moment>
     ensures { result ≡ spec.deadline_moment row.now (shown.deadline_of deadline.now) }
 {
     if let Some(period) = deadline.period {
