@@ -35,8 +35,8 @@ fn least_of(models: &Models, row: Option<&Row>) -> Option<Due>
     }
 }
 
-/// The least of what is due of a row. It takes no memory.
-pub fn least_due(models: &Models, row: &Row) -> Option<Due>
+// The least of what is due of a row.
+fn least_due(models: &Models, row: &Row) -> Option<Due>
     requires { row.now.model < length models.now }
     ensures { result ≡ spec.least_of (spec.row_dues models.now row.now) }
 {

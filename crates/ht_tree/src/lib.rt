@@ -37,7 +37,7 @@ pub use comments::{Comment, Comments};
 pub use creating::{CreateRefusal, create};
 pub use family::sub_tasks;
 pub use giving::{refused_part, values_given};
-pub use least_dues::{least_changed, least_due, lesser};
+pub use least_dues::{least_changed, lesser};
 pub use notice::Notice;
 pub use plan::Plan;
 pub use row::Row;
