@@ -1,5 +1,5 @@
 //! Laws of deadlines that are taken, for proofs alone: the functions do nothing.
-ghost use Rattle.std.specs.Prelude.{◌≡◌, ℕ};
+ghost use Rattle.std.specs.Prelude.{◌≡◌, ◌≤◌, ℕ, Some};
 ghost use Rattle.ht_base.specs.declared.moment.Moment.{Moment};
 ghost use Rattle.ht_due.specs.declared.due.Due.{Due};
 ghost use Rattle.ht_escalate.specs.Escalating.{IsOpen, TakesDeadline};
@@ -7,7 +7,6 @@ ghost use Rattle.ht_escalate.specs.Leaving.{LeavesRest};
 ghost use Rattle.ht_tree.specs.RowDues.{first_due};
 ghost use Rattle.ht_tree.specs.Soundness.{IsSound};
 ghost use Rattle.ht_tree.specs.Tables.{TablesOf, at_moment};
-ghost use Rattle.std.specs.Prelude.{◌≤◌, Some};
 
 /// A deadline is taken in one way.
 pub fn a_deadline_is_taken_in_one_way()
