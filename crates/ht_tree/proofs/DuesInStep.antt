@@ -219,6 +219,10 @@ module _ (t : TablesOf) (puts : List Row) (follow : Follow t t.rows puts) (befor
       go true a e = e
       go false a e = cc
 
+  -- and each that goes was there
+  pub were_there : (q : Due) → has q gone ≡ true → has q (all_dues t) ≡ true
+  were_there q h = has_all q ∙ (and_parts (is_some (last_of q.task.0 puts)) (has q (task_dues t.models t.rows q.task.0)) (sym (has_gone q) ∙ h)).1
+
   -- the dues of all rows, once those of the changed tasks are out and the new ones in
   pub step_is : merged (all_dues t) gone news ≡ in_order (flat_map (row_dues t.models) rows_after)
   step_is = ordered (merged (all_dues t) gone news) (flat_map (row_dues t.models) rows_after) (ascends_merged (all_dues t) gone news (in_order_ascends (flat_map (row_dues t.models) t.rows))) (λ q.
@@ -290,6 +294,7 @@ pub record ChangesDues (t : RoomyTables) (p : PlanOf) (dues : List Due) : Type 0
   pub ascend : Ascends dues
   pub gone : Ascends t.gone
   pub news : Ascends t.news
+  pub there : (q : Due) → has q t.gone ≡ true → has q dues ≡ true
   pub absent : AreNew t.news t.gone dues
   pub due : merged dues t.gone t.news ≡ all_dues (planned t.tables p)
 
@@ -304,6 +309,7 @@ changes_dues t p at dues fit before after prepared is =
       ascend = subst Ascends (sym is) (in_order_ascends (flat_map (row_dues u.models) u.rows));
       gone = subst Ascends (sym prepared.gone) (changed_ascend u.models u.rows puts);
       news = subst Ascends (sym prepared.news) (changed_ascend u.models (planned u p).rows puts);
+      there = λ q h. ap (has q) is ∙ were_there u puts fit.changes_fit before.numbered after.numbered q (ap (has q) (sym prepared.gone) ∙ h);
       absent = subst N (sym prepared.news) (subst G (sym prepared.gone) (subst D (sym is) (are_new u puts fit.changes_fit before.numbered after.numbered)));
       due =
           ap (λ all. merged all t.gone t.news) is

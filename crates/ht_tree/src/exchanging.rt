@@ -1,5 +1,6 @@
-ghost use Rattle.std.specs.Prelude.{◌≡◌, ◌+◌, ◌≤◌, fold, length};
-ghost use Rattle.ht_due.specs.Dues.{AreAbsent, AreNew, Ascends, merged, put_due, without};
+ghost use Rattle.std.specs.Prelude.{◌≡◌, ◌+◌, ◌≤◌, fold, length, true};
+ghost use Rattle.ht_due.specs.declared.due.Due.{Due};
+ghost use Rattle.ht_due.specs.Dues.{AreAbsent, AreNew, Ascends, has, merged, put_due, without};
 
 use ht_due::{Due, DueQueue};
 
@@ -7,15 +8,21 @@ use ht_due::{Due, DueQueue};
 /// all does.
 const FEW: usize = 8;
 
-/// Takes dues out of a queue and puts others in, each list ascending. It takes no memory.
+/// Takes dues out of a queue, which are there, and puts others in, each list ascending. It takes no
+/// memory.
 pub(crate) fn exchange(queue: &mut DueQueue, gone: &[Due], news: &[Due])
     requires spare { length news.now ≤ queue.old.spare }
     requires ascend { Ascends queue.old.dues }
     requires gone { Ascends gone.now }
     requires news { Ascends news.now }
+    requires there { (due : Due) → has due gone.now ≡ true → has due queue.old.dues ≡ true }
     requires absent { AreNew news.now gone.now queue.old.dues }
     ensures { queue.new.dues ≡ merged queue.old.dues gone.now news.now }
 {
+    // Most changes of a task leave what is due of it.
+    if gone == news {
+        return;
+    }
     if gone.len() + news.len() > FEW {
         queue.merge(gone, news);
     } else {

@@ -1,7 +1,7 @@
 use Rattle.std.proofs.Common.{◌≡◌, ◌++◌, ◌≤◌, ℕ, List, ap, arith, fold, length, length-append, rules, sym, subst, vec_len, ◌∙◌}
 use Rattle.std.specs.List.{flat_map}
 use Rattle.ht_due.specs.declared.due.Due.{Due}
-use Rattle.ht_due.specs.Dues.{AreNew, Ascends, merged}
+use Rattle.ht_due.specs.Dues.{AreNew, Ascends, has, merged}
 use Rattle.ht_tree.specs.declared.notice.Notice.{Notice}
 use Rattle.ht_tree.specs.declared.row.Row.{Row}
 use Rattle.ht_tree.specs.declared.tables.Tables.TheInside.{Inside}
@@ -52,6 +52,11 @@ exchange-requires-clause-gone c = subst Ascends (sym c.deref.ensures.value) (cha
 
 pub exchange-requires-clause-news : goal.exchange-requires-clause-news
 exchange-requires-clause-news c = subst Ascends (sym c.deref-2.ensures.value) (changes c.self.inside c.args.self.now c.args.plan c.args.at.0 c.self.view_is c.self.invariant c.requires.fits c.requires.sound c.requires.prepared.2).news
+
+pub exchange-requires-clause-there : goal.exchange-requires-clause-there
+exchange-requires-clause-there c =
+    let change = changes c.self.inside c.args.self.now c.args.plan c.args.at.0 c.self.view_is c.self.invariant c.requires.fits c.requires.sound c.requires.prepared.2 in
+    λ due h. change.there due (ap (has due) (sym c.deref.ensures.value) ∙ h)
 
 pub exchange-requires-clause-absent : goal.exchange-requires-clause-absent
 exchange-requires-clause-absent c =
