@@ -1,10 +1,14 @@
 ghost use Rattle.std.specs.Prelude.{IfOk};
 ghost use Rattle.ht_due.specs.Dues.{Ascends};
+ghost use Rattle.ht_tree.specs.Plans.{IsPlanOf, planned};
+ghost use Rattle.ht_tree.specs.Soundness.{IsSound};
 
 use crate::exchanging::exchange;
 use crate::row_dues::add_dues;
 use crate::tests::{created, urged};
-use crate::{CreateRefusal, Plan, Row, Tables, Taken, create};
+use crate::{
+    CreateRefusal, Plan, Row, Tables, Taken, create, dues_after, dues_behind, is_due, least_changed,
+};
 use ht_base::{LAST, Moment, Name, Person, State, TaskId, Value, Values};
 use ht_due::{Due, DueQueue, in_order};
 use ht_models::Models;
@@ -67,13 +71,16 @@ fn are_due(rt: &impl Abort, queue: &DueQueue, dues: &[Due])
 
 // ---- in step
 
-// A task of dan's that waits up to 5000.
-fn waiting(
+// A plan of a task of dan's that waits up to 5000.
+fn planned_waiting(
     rt: &impl Abort,
     alloc: Global,
-    tables: &mut Tables,
+    tables: &Tables,
     model: u32,
-) -> Result<TaskId, CreateRefusal> {
+) -> Result<Plan, CreateRefusal>
+    ensures fits { IfOk result (λ plan. IsPlanOf tables.now.tables plan) }
+    ensures sound { IfOk result (λ plan. IsSound (planned tables.now.tables plan)) }
+{
     assert!(rt; model < tables.models().count());
     assert!(rt; DAN.0 < tables.people().persons());
     assert!(rt; tables.rows() < u32::MAX);
@@ -81,10 +88,22 @@ fn waiting(
     let at = tables.last();
     let input = Values::new(alloc);
     let waits = Some(Moment(5000));
-    let task = create(alloc, tables, &mut plan, model, None, DAN, input, waits, at)?;
+    create(alloc, tables, &mut plan, model, None, DAN, input, waits, at)?;
+    Ok(plan)
+}
+
+// And the task.
+fn waiting(
+    rt: &impl Abort,
+    alloc: Global,
+    tables: &mut Tables,
+    model: u32,
+) -> Result<(), CreateRefusal> {
+    let plan = planned_waiting(rt, alloc, tables, model)?;
     tables.prepare(&plan)?;
+    let at = tables.last();
     tables.commit(plan, at);
-    Ok(task)
+    Ok(())
 }
 
 #[test]
@@ -150,6 +169,53 @@ fn many_dues_come_and_go_at_once(rt: HostRuntime) -> Result<(), Fail> {
     are_due(&rt, &queue, &dues);
     exchange(&mut queue, &dues, &[]);
     are_due(&rt, &queue, &[]);
+    Ok(())
+}
+
+// ---- of a plan
+
+// Whether each of these would be due after the plan.
+fn would_be_due(rt: &impl Abort, tables: &Tables, plan: &Plan, dues: &[Due], would: bool)
+    requires plan { IsPlanOf tables.now.tables plan.now }
+    requires sound { IsSound (planned tables.now.tables plan.now) }
+{
+    for due in dues {
+        assert_eq!(rt; is_due(tables, plan, *due), would, "{due:?}");
+    }
+}
+
+// Task 1 has two completion deadlines. Task 2 would wait, and have a start deadline.
+#[test]
+fn a_plan_tells_what_would_be_due(rt: HostRuntime) -> Result<(), Fail> {
+    let alloc = rt.alloc();
+    let mut tables = tables_of(alloc, MODELS)?;
+    created(&rt, alloc, &mut tables, TIMED)?;
+    let plan = planned_waiting(&rt, alloc, &tables, LATE)?;
+    let new = [due_at(5000, 2, 0, 0), due_at(5000, 2, 2, 0)];
+    let old = [due_at(10_000, 1, 3, 0), due_at(10_000, 1, 3, 1)];
+    let all = [new[0], new[1], old[0], old[1]];
+    let none = [
+        due_at(4999, 2, 0, 0),
+        due_at(5000, 1, 0, 0),
+        due_at(5000, 2, 1, 0),
+        due_at(5000, 2, 2, 1),
+        due_at(5000, 3, 0, 0),
+    ];
+    assert_eq!(rt;
+        dues_after(alloc, &tables, &plan)?.as_slice(),
+        new.as_slice()
+    );
+    assert_eq!(rt;
+        dues_behind(alloc, &tables, &plan, 0)?.as_slice(),
+        all.as_slice()
+    );
+    assert_eq!(rt;
+        dues_behind(alloc, &tables, &plan, 1)?.as_slice(),
+        new.as_slice()
+    );
+    assert_eq!(rt; least_changed(&tables, &plan), Some(new[0]));
+    would_be_due(&rt, &tables, &plan, &all, true);
+    would_be_due(&rt, &tables, &plan, &none, false);
     Ok(())
 }
 
