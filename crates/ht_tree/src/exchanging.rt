@@ -1,6 +1,6 @@
-ghost use Rattle.std.specs.Prelude.{◌≡◌, ◌+◌, ◌≤◌, fold, length, true};
+ghost use Rattle.std.specs.Prelude.{◌≡◌, ◌+◌, ◌≤◌, filter, fold, length, not, true};
 ghost use Rattle.ht_due.specs.declared.due.Due.{Due};
-ghost use Rattle.ht_due.specs.Dues.{AreAbsent, AreNew, Ascends, has, merged, put_due, without};
+ghost use Rattle.ht_due.specs.Dues.{AreNew, Ascends, has, merged, put_due, without};
 
 use ht_due::{Due, DueQueue};
 
@@ -26,27 +26,39 @@ pub(crate) fn exchange(queue: &mut DueQueue, gone: &[Due], news: &[Due])
     if gone.len() + news.len() > FEW {
         queue.merge(gone, news);
     } else {
-        take_out(queue, gone);
-        put_in(queue, news);
+        take_out(queue, gone, news);
+        put_in(queue, gone, news);
     }
 }
 
-fn take_out(queue: &mut DueQueue, gone: &[Due])
-    ensures dues { queue.new.dues ≡ fold without queue.old.dues gone.now }
+// Those that come again stay.
+fn take_out(queue: &mut DueQueue, gone: &[Due], news: &[Due])
+    ensures dues { queue.new.dues ≡ fold without queue.old.dues (filter (λ due. not (has due news.now)) gone.now) }
     ensures spare { queue.old.spare ≤ queue.new.spare }
 {
     for due in gone {
-        let _ = queue.remove(*due);
+        if !is_among(*due, news) {
+            let _ = queue.remove(*due);
+        }
     }
 }
 
-fn put_in(queue: &mut DueQueue, news: &[Due])
+// Those that stayed are there.
+fn put_in(queue: &mut DueQueue, gone: &[Due], news: &[Due])
     requires spare { length news.now ≤ queue.old.spare }
     requires news { Ascends news.now }
-    requires absent { AreAbsent news.now queue.old.dues }
-    ensures { queue.new.dues ≡ fold put_due queue.old.dues news.now }
+    requires absent { AreNew news.now gone.now queue.old.dues }
+    ensures { queue.new.dues ≡ fold put_due queue.old.dues (filter (λ due. not (has due gone.now)) news.now) }
 {
     for due in news {
-        queue.insert(*due);
+        if !is_among(*due, gone) {
+            queue.insert(*due);
+        }
     }
+}
+
+fn is_among(due: Due, dues: &[Due]) -> bool
+    ensures { result ≡ has due dues.now }
+{
+    dues.contains(&due)
 }
