@@ -1,4 +1,4 @@
-use Rattle.std.proofs.Common.{◌≡◌, ◌∙◌, List, ap, sym}
+use Rattle.std.proofs.Common.{◌∙◌, List, ap, sym}
 use Rattle.ht_due.specs.Dues.{has}
 use Rattle.ht_models.specs.Model.{ModelOf}
 use Rattle.ht_tree.specs.Plans.{planned}

@@ -1,7 +1,6 @@
 use Rattle.std.proofs.Common.{true, is_some, ◌∷◌, [], ◌++◌, length, ◌≡◌, ℕ, ◌+◌, ◌≤◌, List, Option, Some, None, ap, sym, ◌∙◌, subst, arith}
 use Rattle.std.specs.Option.{option_map_or}
 use Rattle.std.specs.Prelude.{slice_get}
-use Rattle.ht_base.specs.declared.task_id.TaskId.{TaskId}
 use Rattle.ht_models.specs.Model.{ModelOf}
 use Rattle.ht_models.specs.Shown.{model_of}
 use Rattle.ht_tree.specs.declared.row.Row.{Row}

@@ -1,4 +1,4 @@
-use Rattle.std.proofs.Common.{rules, ◌≡◌, ℕ, ◌==◌, ◌&&◌, ◌||◌, Bool, true, false, List, [], ◌∷◌, length, map, Option, None, Some, if◌then◌else◌, vec_len, refl, ap, sym, ◌∙◌, arith}
+use Rattle.std.proofs.Common.{rules, ◌≡◌, ℕ, ◌==◌, ◌&&◌, ◌||◌, Bool, true, false, List, [], ◌∷◌, length, Option, None, Some, if◌then◌else◌, vec_len, refl, ap, sym, ◌∙◌}
 use Rattle.std.proofs.lemmas.Bool.{eqb-true}
 use Rattle.std.proofs.lemmas.List.{length-map, nil_from_length}
 use Rattle.std.specs.Option.{option_map_or}
@@ -9,7 +9,7 @@ use Rattle.ht_models.specs.Model.{ModelOf, names}
 use Rattle.ht_models.specs.Shown as shown
 use Rattle.ht_models.specs.SubEntries.{SubEntry}
 use Rattle.ht_tree.specs.declared.row.Row.{Row}
-use Rattle.ht_tree.specs.Families.{is_made, is_of_entry, is_sub_of, sub_tasks}
+use Rattle.ht_tree.specs.Families.{is_made, is_sub_of, sub_tasks}
 use Rattle.ht_tree.specs.Plans.{planned}
 use Rattle.ht_tree.proofs.family_tests.model_below.Goals as goal
 

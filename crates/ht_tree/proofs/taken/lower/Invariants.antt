@@ -1,4 +1,4 @@
-use Rattle.std.proofs.Common.{◌≡◌, ◌++◌, ◌≤◌, drop, length, take}
+use Rattle.std.proofs.Common.{◌≡◌, ◌++◌, drop, take}
 use Rattle.ht_tree.specs.Passed.{with_place}
 use Rattle.ht_tree.proofs.taken.lower.Given as goal
 

@@ -1,4 +1,4 @@
-use Rattle.std.proofs.Common.{◌≡◌, ℕ, ◌≤◌, List, length, None, Option, ap, sym, ◌∙◌, subst, arith}
+use Rattle.std.proofs.Common.{◌≡◌, ◌≤◌, List, length, None, ap, sym, ◌∙◌, subst, arith}
 use Rattle.ht_base.specs.declared.operation.Op.TheVariants.{Claim}
 use Rattle.ht_base.specs.declared.state.State.TheVariants.{Reserved}
 use Rattle.ht_base.specs.Moment.{last_moment}
