@@ -167,16 +167,12 @@ module _ (old new : Row) (ages : Ages old new) where
       ∙ ap (λ (input : Values). moment_by old.created input d.period d.at d.part) ages.input
 
   deadline_before : (due : Due) (place : ℕ) (d : DeadlineOf) → has due (deadline_due new place d) ≡ true → has due (deadline_due old place d) ≡ true
-  deadline_before due place d h = due_before due (kind_of d.kind) place (open_moment old place d) (open_moment new place d) (subst P (sym (same_moment d)) none_or_same) h
-    where
-      passed : Bool
-      passed = has_place place new.taken || is_obsolete d.kind new
-
-      abbrev P : Option Moment → Type 0
-      P m = ((if passed then None else m) ≡ None) ⊎ ((if passed then None else m) ≡ open_moment old place d)
-
-      none_or_same : P (deadline_moment old d)
-      none_or_same = none_or_this (deadline_moment old d) (has_place place old.taken || is_obsolete d.kind old) passed (either (has_place place old.taken) (is_obsolete d.kind old) (has_place place new.taken) (is_obsolete d.kind new) (ages.taken place) (obsolete_still d.kind))
+  deadline_before due place d h =
+      let passed = has_place place new.taken || is_obsolete d.kind new in
+      let P : Option Moment → Type 0 = λ m. ((if passed then None else m) ≡ None) ⊎ ((if passed then None else m) ≡ open_moment old place d) in
+      let still = either (has_place place old.taken) (is_obsolete d.kind old) (has_place place new.taken) (is_obsolete d.kind new) (ages.taken place) (obsolete_still d.kind) in
+      let none_or_same = none_or_this (deadline_moment old d) (has_place place old.taken || is_obsolete d.kind old) passed still in
+      due_before due (kind_of d.kind) place (open_moment old place d) (open_moment new place d) (subst P (sym (same_moment d)) none_or_same) h
 
   -- in two lists, one behind the other
   has_in : (due : Due) (xs ys : List Due) → has due (xs ++ ys) ≡ (has due xs || has due ys)
