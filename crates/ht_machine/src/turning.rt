@@ -6,6 +6,7 @@ ghost use Rattle.ht_tree.specs.Soundness.{IsSound};
 
 use crate::course::Course;
 use ht_base::{Memory, Moment};
+use ht_escalate::first;
 use ht_tree::{Plan, Tables};
 use std::alloc::Global;
 
@@ -13,9 +14,23 @@ use std::alloc::Global;
 /// due then, by the order of dues, until nothing is (WS-HumanTask 1.1, 4.9 and 4.10). Each acts as at the
 /// moment at which it was due. It tells how many actions were taken. After `Memory` the plan holds some of
 /// them, and can go back to its mark.
-///
-/// An action that is taken comes behind the one before it in that order, so what is due is walked once.
 pub fn turn(alloc: Global, tables: &Tables, plan: &mut Plan, at: Moment) -> Result<u32, Memory>
+    requires plan { IsPlanOf tables.now.tables plan.old }
+    requires sound { IsSound (planned tables.now.tables plan.old) }
+    requires at { at.0 ≤ last_moment }
+    ensures turns { IfOk result (λ taken. Turns tables.now.tables plan.old plan.new at.0 taken) }
+    ensures marked { OnErr result (plan.new.marked ≡ plan.old.marked) }
+{
+    // Most commands find nothing due.
+    match first(tables, plan, at) {
+        Some(_) => take_all(alloc, tables, plan, at),
+        None => Ok(0),
+    }
+}
+
+// An action that is taken comes behind the one before it in the order of dues, so what is due is walked
+// once.
+fn take_all(alloc: Global, tables: &Tables, plan: &mut Plan, at: Moment) -> Result<u32, Memory>
     requires plan { IsPlanOf tables.now.tables plan.old }
     requires sound { IsSound (planned tables.now.tables plan.old) }
     requires at { at.0 ≤ last_moment }

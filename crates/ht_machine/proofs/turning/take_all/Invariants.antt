@@ -1,6 +1,6 @@
 use Rattle.std.proofs.Common.{◌≤◌}
 use Rattle.ht_machine.specs.Courses.{IsOnCourse, IsUnderWay}
-use Rattle.ht_machine.proofs.turning.turn.Given as goal
+use Rattle.ht_machine.proofs.turning.take_all.Given as goal
 use Rattle.ht_tree.specs.Plans.{planned}
 use Rattle.ht_tree.specs.RowDues.{all_dues}
 
