@@ -1,7 +1,7 @@
 -- Which dues are ahead, and the first of them.
-use Rattle.std.proofs.Common.{◌≡◌, ◌<◌, ◌≤◌, ◌||◌, ◌==◌, ℕ, Bool, true, false, List, [], ◌∷◌, Option, None, Some, refl, sym, ap, ◌∙◌, inl, inr, ◌⊎◌, arith, if◌then◌else◌, ltb-true, ltb-false}
+use Rattle.std.proofs.Common.{◌≡◌, ◌<◌, ◌≤◌, ◌||◌, ◌==◌, ℕ, Bool, true, false, List, [], ◌∷◌, Option, None, Some, refl, sym, ap, ◌∙◌, inl, inr, ◌⊎◌, arith, ltb-true, ltb-false}
 use Rattle.std.specs.Prelude.{nat_lt, slice_get}
-use Rattle.std.specs.Ordering.{is_eq, is_lt, nat_cmp, ordering_reverse, ordering_then}
+use Rattle.std.specs.Ordering.{is_eq, is_lt, match_ordering, nat_cmp, ordering_reverse, ordering_then}
 use Rattle.std.specs.declared.cmp.Ordering.{Ordering}
 use Rattle.std.specs.declared.cmp.Ordering.TheVariants.{Less, Equal, Greater}
 use Rattle.std.proofs.lemmas.Bool.{cases_eq}
@@ -9,7 +9,8 @@ use Rattle.std.proofs.lemmas.Cmp.{nat_cmp_total, tied_itself}
 use Rattle.ht_due.specs.declared.due.Due.{Due}
 use Rattle.ht_due.specs.Dues.{Ascends, compare_dues, has, next_after}
 use Rattle.ht_due.proofs.PublicLaws.{due_order, exact, itself, least_none, least_some, next_none, next_some}
-use Rattle.ht_machine.specs.Ahead.{IsFirstAhead, in_either, in_list, lesser_of}
+use Rattle.ht_machine.specs.Ahead.{IsFirstAhead, in_either, in_list}
+use Rattle.ht_tree.specs.RowDues.{lesser}
 
 -- ---- the order of dues
 
@@ -109,11 +110,11 @@ module _ (xs ys : List Due) (passed : Option Due) where
       always true = refl
       always false = refl
 
-  pub by_lesser : (a b : Option Due) → IsFirstAhead (in_list xs) passed a → IsFirstAhead (in_list ys) passed b → IsFirstAhead (in_either xs ys) passed (lesser_of a b)
+  pub by_lesser : (a b : Option Due) → IsFirstAhead (in_list xs) passed a → IsFirstAhead (in_list ys) passed b → IsFirstAhead (in_either xs ys) passed (lesser a b)
   by_lesser None None f g = λ due h on. elim (in_one due h) [ inl t ↦ f due t on | inr t ↦ g due t on ]
   by_lesser None (Some b) f g = (in_second b g.0, g.1, λ due h on before. elim (in_one due h) [ inl t ↦ f due t on | inr t ↦ g.2 due t on before ])
   by_lesser (Some a) None f g = (in_first a f.0, f.1, λ due h on before. elim (in_one due h) [ inl t ↦ f.2 due t on before | inr t ↦ g due t on ])
-  by_lesser (Some a) (Some b) f g = at (compare_dues b a) refl
+  by_lesser (Some a) (Some b) f g = at (compare_dues a b) refl
     where
       P : Option Due → Type 0
       P r = IsFirstAhead (in_either xs ys) passed r
@@ -133,28 +134,7 @@ module _ (xs ys : List Due) (passed : Option Due) where
               go Equal e = inr (exact p q e)
               go Greater e = absurd (apart (due_order.antisymm q p ∙ ap ordering_reverse e))
 
-      at : (o : Ordering) → compare_dues b a ≡ o → P (if is_lt (compare_dues b a) then Some b else Some a)
-      at Less e = rw e (
-        in_second b g.0,
-        g.1,
-        λ due h on before. elim (in_one due h) [
-          | inl t ↦ late b a due (λ x. let y = due_order.antisymm a b ∙ ap ordering_reverse e in absurd cc) (λ x. f.2 due t on x) before
-          | inr t ↦ g.2 due t on before
-        ],
-      )
-      at Equal e = rw e (
-        in_first a f.0,
-        f.1,
-        λ due h on before. elim (in_one due h) [
-          | inl t ↦ f.2 due t on before
-          | inr t ↦ late a b due (λ x. absurd cc) (λ x. g.2 due t on x) before
-        ],
-      )
-      at Greater e = rw e (
-        in_first a f.0,
-        f.1,
-        λ due h on before. elim (in_one due h) [
-          | inl t ↦ f.2 due t on before
-          | inr t ↦ late a b due (λ x. absurd cc) (λ x. g.2 due t on x) before
-        ],
-      )
+      at : (o : Ordering) → compare_dues a b ≡ o → P (match_ordering (compare_dues a b) (Some a) (Some a) (Some b))
+      at Less e = rw e (in_first a f.0, f.1, λ due h on before. elim (in_one due h) [ inl t ↦ f.2 due t on before | inr t ↦ late a b due (λ x. let y = due_order.antisymm a b ∙ ap ordering_reverse x in absurd cc) (λ x. g.2 due t on x) before ])
+      at Equal e = rw e (in_first a f.0, f.1, λ due h on before. elim (in_one due h) [ inl t ↦ f.2 due t on before | inr t ↦ late a b due (λ x. let y = due_order.antisymm a b ∙ ap ordering_reverse x in absurd cc) (λ x. g.2 due t on x) before ])
+      at Greater e = rw e (in_second b g.0, g.1, λ due h on before. elim (in_one due h) [ inl t ↦ late b a due (λ x. absurd cc) (λ x. f.2 due t on x) before | inr t ↦ g.2 due t on before ])

@@ -1,6 +1,5 @@
 -- What is due behind the last that was passed.
-use Rattle.std.specs.Prelude.{◌≡◌, ◌≢◌, Bool, true, ◌||◌, if◌then◌else◌, List, Option, None, Some}
-use Rattle.std.specs.Ordering.{is_lt}
+use Rattle.std.specs.Prelude.{◌≡◌, ◌≢◌, Bool, true, ◌||◌, List, Option, None, Some}
 use Rattle.std.specs.declared.cmp.Ordering.TheVariants.{Less}
 use Rattle.ht_due.specs.declared.due.Due.{Due}
 use Rattle.ht_due.specs.Dues.{compare_dues, has}
@@ -20,8 +19,3 @@ in_list xs due = has due xs
 
 abbrev pub in_either : List Due → List Due → Due → Bool
 in_either xs ys due = has due xs || has due ys
-
-abbrev pub lesser_of : Option Due → Option Due → Option Due
-lesser_of None b = b
-lesser_of (Some a) None = Some a
-lesser_of (Some a) (Some b) = if is_lt (compare_dues b a) then Some b else Some a

@@ -1,10 +1,11 @@
 ghost use Rattle.std.specs.Prelude.{◌≡◌, ◌||◌, OnOk};
 ghost use Rattle.ht_due.specs.declared.due.Due.{Due};
 ghost use Rattle.ht_due.specs.Dues.{AreAbsent, Ascends, has};
-ghost use Rattle.ht_machine.specs.Ahead.{IsFirstAhead, in_either, in_list, lesser_of};
+ghost use Rattle.ht_machine.specs.Ahead.{IsFirstAhead, in_either, in_list};
 
 use ht_base::Memory;
 use ht_due::{Due, DueQueue};
+use ht_tree::lesser;
 
 /// The first due of both queues that comes behind the last that was passed.
 pub(crate) fn next(kept: &DueQueue, news: &DueQueue, passed: Option<Due>) -> Option<Due>
@@ -19,16 +20,6 @@ fn first_ahead(dues: &DueQueue, passed: Option<Due>) -> Option<Due>
     match passed {
         None => dues.least(),
         Some(due) => dues.after(due),
-    }
-}
-
-fn lesser(a: Option<Due>, b: Option<Due>) -> Option<Due>
-    ensures { result ≡ lesser_of a b }
-{
-    match (a, b) {
-        (Some(a), Some(b)) if b < a => Some(b),
-        (Some(a), _) => Some(a),
-        (None, b) => b,
     }
 }
 
