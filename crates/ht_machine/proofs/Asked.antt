@@ -14,7 +14,7 @@ use Rattle.ht_compose.specs.ByHand.{IsEntryOf}
 use Rattle.ht_machine.specs.declared.asking.Asked.{Asked as Ask}
 use Rattle.ht_machine.specs.declared.sending.Sending.{Sending}
 use Rattle.ht_machine.specs.declared.sending.Sending.TheVariants.{New}
-use Rattle.ht_machine.specs.Commands.{ActsOn, AfterEffect, BehindGate, Comes, DoesOn, MakesEntry, Outcome, accepted, refused}
+use Rattle.ht_machine.specs.Commands.{ActsOn, AfterEffect, BehindGate, Comes, DoesOn, MakesEntry, accepted, refused}
 use Rattle.ht_machine.specs.Deciding.{AsksAs, NamesOwner, Shows}
 use Rattle.ht_machine.specs.Gate.{Gate, gate, opens, shuts}
 use Rattle.ht_machine.specs.Planning.{Does, IsAsked, IsReady, Leaves, PlansAsk, PlansNew, record_of}

@@ -1,20 +1,17 @@
 -- What is left where a turn comes first.
-use Rattle.std.proofs.Common.{◌≡◌, ◌≤◌, ℕ, zero, suc, List, length, Option, None, Some, refl, ap, sym, subst, ◌∙◌, arith}
+use Rattle.std.proofs.Common.{◌≡◌, ◌≤◌, ℕ, zero, suc, Option, None, Some, refl, ap, sym, subst, ◌∙◌}
 use Rattle.ht_base.specs.declared.event.Event.TheVariants as event
 use Rattle.ht_base.specs.declared.moment.Moment.{Moment}
 use Rattle.ht_base.specs.declared.record.Record.{Record}
 use Rattle.ht_base.specs.declared.reply.Answer.{Answer}
 use Rattle.ht_base.specs.declared.reply.Answer.TheVariants.{Turned}
-use Rattle.ht_base.specs.declared.reply.Reply.{Reply}
 use Rattle.ht_base.specs.Moment.{last_moment}
-use Rattle.ht_due.specs.declared.due.Due.{Due}
 use Rattle.ht_machine.specs.declared.asking.Asked.{Asked as Ask}
-use Rattle.ht_machine.specs.Deciding.{Asks, DecidesAt, Leads, after_with, left_with}
-use Rattle.ht_machine.specs.Planning.{IsReady, Leaves, Plans, PlansAsk, PlansBehindTurn}
+use Rattle.ht_machine.specs.Deciding.{Asks, DecidesAt, after_with, left_with}
+use Rattle.ht_machine.specs.Planning.{IsReady, Leaves, PlansAsk}
 use Rattle.ht_machine.specs.Turning.{IsTurn, Turns}
 use Rattle.ht_machine.proofs.Asked.{stays_leaves}
-use Rattle.ht_tree.specs.declared.slot.Slot.{Slot}
-use Rattle.ht_tree.specs.Plans.{ChangesOf, IsPlanOf, PlanOf, no_plan, planned}
+use Rattle.ht_tree.specs.Plans.{PlanOf, no_plan, planned}
 use Rattle.ht_tree.specs.Soundness.{IsSound}
 use Rattle.ht_tree.specs.Tables.{TablesOf, at_moment}
 use Rattle.ht_tree.proofs.PublicLaws.{no_plan_fits, planned_nothing, sound_at}

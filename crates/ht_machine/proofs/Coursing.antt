@@ -1,16 +1,15 @@
 -- How a turn goes on.
-use Rattle.std.proofs.Common.{◌≡◌, ℕ, ◌+◌, ◌<◌, ◌≤◌, Bool, true, false, List, [], length, Option, Some, None, refl, sym, ap, subst, ◌∙◌, inl, inr, ◌⊎◌, ◌||◌, ◌&&◌, arith, ltb-true, ltb-false}
-use Rattle.std.specs.Prelude.{nat_lt, slice_get}
+use Rattle.std.proofs.Common.{◌≡◌, ℕ, ◌<◌, ◌≤◌, Bool, true, false, List, [], length, Option, Some, None, refl, sym, ap, ◌∙◌, inl, inr, ◌||◌, ◌&&◌, arith, ltb-false}
+use Rattle.std.specs.Prelude.{nat_lt}
 use Rattle.std.specs.declared.cmp.Ordering.TheVariants.{Less}
-use Rattle.ht_base.specs.declared.moment.Moment.{Moment}
 use Rattle.ht_due.specs.declared.due.Due.{Due}
 use Rattle.ht_due.specs.Dues.{Ascends, compare_dues, has}
 use Rattle.ht_machine.specs.Ahead.{IsAhead, IsFirstAhead, in_either}
 use Rattle.ht_machine.specs.Courses.{IsOnCourse}
 use Rattle.ht_machine.proofs.Filtered.{first_by, first_is, none_by}
 use Rattle.ht_machine.proofs.Firsts.{comes_behind, later_task, no_earlier}
-use Rattle.ht_machine.proofs.OldAndNew.{HasAged, IsOldOrNew, old_or_new}
-use Rattle.ht_tree.proofs.PublicLaws.{HasRow, changed_there, kept_or_changed, row_of_due, within}
+use Rattle.ht_machine.proofs.OldAndNew.{HasAged, old_or_new}
+use Rattle.ht_tree.proofs.PublicLaws.{changed_there, kept_or_changed, row_of_due, within}
 use Rattle.ht_tree.specs.RowDues.{all_dues, changed_dues, first_due}
 use Rattle.ht_tree.specs.Plans.{IsPlanOf, PlanOf, planned}
 use Rattle.ht_tree.specs.Soundness.{IsSound}

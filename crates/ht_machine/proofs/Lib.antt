@@ -7,6 +7,7 @@ mod Created
 mod Filtered
 mod Firsts
 mod Followed
+mod LastMoment
 mod MadeByHand
 mod OldAndNew
 mod OneOutcome
@@ -14,5 +15,8 @@ mod OneTurn
 mod PartsShown
 mod Remembering
 mod Rows
+mod StillTaken
 mod Taken
+mod Timing
+mod TurnsApart
 mod UnderWay

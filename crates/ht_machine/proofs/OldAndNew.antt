@@ -1,25 +1,18 @@
 -- What is due once an action was taken: of old tasks no more than before, and of new ones nothing earlier.
-use Rattle.std.proofs.Common.{◌≡◌, ℕ, ◌+◌, ◌<◌, ◌≤◌, Bool, true, false, List, [], length, suc, zero, ltb-true, ltb-false, Option, Some, None, refl, sym, ap, subst, ◌∙◌, inl, inr, ◌⊎◌, ◌||◌, arith, max, min}
-use Rattle.std.specs.Prelude.{nat_lt, option_map, slice_get}
+use Rattle.std.proofs.Common.{◌≡◌, ℕ, ◌<◌, ◌≤◌, Bool, true, false, List, length, suc, zero, ltb-true, ltb-false, Option, Some, None, refl, sym, ap, subst, ◌∙◌, inl, inr, ◌⊎◌, arith}
+use Rattle.std.specs.Prelude.{nat_lt, option_map}
 use Rattle.ht_base.specs.declared.moment.Moment.{Moment}
-use Rattle.ht_base.specs.declared.value.Value.{Value}
 use Rattle.ht_base.specs.declared.values.Values.{Values}
 use Rattle.ht_base.specs.Moment.{last_moment}
 use Rattle.ht_base.specs.Values.{value_of}
 use Rattle.ht_due.specs.declared.due.Due.{Due}
 use Rattle.ht_due.specs.Dues.{has}
-use Rattle.ht_models.specs.Model.{DeadlineOf, ModelOf}
+use Rattle.ht_models.specs.Model.{ModelOf}
 use Rattle.ht_compose.proofs.PublicLaws.{was_due}
 use Rattle.ht_compose.specs.Aging.{AllAge}
-use Rattle.ht_tree.proofs.PublicLaws.{HasRow, IsOfDeadline, IsOfRow, due_of_row, is_due, means_due, row_of_due, some_at, within}
-use Rattle.ht_base.specs.declared.task_id.TaskId.{TaskId}
-use Rattle.ht_base.specs.Persons as persons
-use Rattle.ht_models.specs.declared.deadlines.DeadlineKind.{DeadlineKind}
-use Rattle.ht_models.specs.declared.deadlines.DeadlineKind.TheVariants.{Start, Completion}
-use Rattle.std.specs.Option.{option_map_or}
-use Rattle.ht_tree.specs.Families.{is_final}
+use Rattle.ht_tree.proofs.PublicLaws.{HasRow, IsOfRow, due_of_row, means_due, row_of_due, some_at, within}
 use Rattle.ht_tree.specs.declared.row.Row.{Row}
-use Rattle.ht_tree.specs.RowDues.{all_dues, after_period, deadline_moment, deadlines_of, is_obsolete, later_moment, moment_by, moment_in, row_dues}
+use Rattle.ht_tree.specs.RowDues.{all_dues, after_period, later_moment, moment_by, moment_in, row_dues}
 use Rattle.ht_tree.specs.Rows.{row_at}
 use Rattle.ht_tree.specs.Soundness.{IsSound}
 use Rattle.ht_tree.specs.Tables.{TablesOf, task_row}

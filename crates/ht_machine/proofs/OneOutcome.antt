@@ -207,7 +207,7 @@ same_asks t moment retry task c asked (New person) k l a b u v s r =
 same_asks t moment retry task c asked (Answered reply) k l a b u v s r = record { left = s.0.0 ∙ sym r.0.0; answer = s.1 ∙ sym r.1; after = s.0.1 ∙ sym r.0.1 }
 same_asks t moment retry task c asked (sending.Refused why) k l a b u v s r = record { left = s.0.0 ∙ sym r.0.0; answer = s.1 ∙ sym r.1; after = s.0.1 ∙ sym r.0.1 }
 
-same_led : (t : TablesOf) (moment : ℕ) (e : Event) (k l : Option Record) (a b : Answer) (u v : TablesOf) → Leads t moment e k a u → Leads t moment e l b v → AreSame k l a b u v
+pub same_led : (t : TablesOf) (moment : ℕ) (e : Event) (k l : Option Record) (a b : Answer) (u v : TablesOf) → Leads t moment e k a u → Leads t moment e l b v → AreSame k l a b u v
 same_led t moment (Turn at) k l a b u v s r = record { left = s.0.0 ∙ sym r.0.0; answer = s.1 ∙ sym r.1; after = s.0.1 ∙ sym r.0.1 }
 same_led t moment (Ask at caller retry task c) k l a b u v s r =
     let asked = Asked (record { 0 = moment }) caller retry task c in

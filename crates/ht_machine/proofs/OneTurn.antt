@@ -1,5 +1,5 @@
 -- A turn has one end, and changes rows and notifications alone.
-use Rattle.std.proofs.Common.{◌≡◌, ◌≤◌, ℕ, zero, suc, List, [], ◌∷◌, Option, None, Some, refl, ap, sym, subst, ◌∙◌}
+use Rattle.std.proofs.Common.{◌≡◌, ℕ, zero, suc, List, [], ◌∷◌, None, Some, refl, ap, sym, subst, ◌∙◌}
 use Rattle.std.specs.Prelude.{slice_get}
 use Rattle.ht_base.specs.declared.moment.Moment.{Moment}
 use Rattle.ht_compose.proofs.PublicLaws.{determined, ends_rows, frees_rows, one_end}

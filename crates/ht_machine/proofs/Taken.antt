@@ -1,7 +1,5 @@
 -- What an action that is taken makes of what is due: old tasks age, and it is due no more.
-use Rattle.std.proofs.Common.{◌≡◌, ℕ, zero, suc, Bool, true, false, if◌then◌else◌, List, ◌∷◌, [], length, None, Option, Some, refl, sym, ap, subst, ◌∙◌, inl, inr, ◌⊎◌, ◌||◌, ◌≤◌, ◌<◌, ◌+◌, ◌++◌, IsTrue, is_some, eq-eqb, arith}
-use Rattle.std.specs.Prelude.{nat_lt, slice_get}
-use Rattle.std.specs.Option.{option_map_or}
+use Rattle.std.proofs.Common.{◌≡◌, ℕ, zero, suc, Bool, true, false, if◌then◌else◌, ◌∷◌, [], length, None, Option, Some, refl, sym, ap, subst, ◌∙◌, inl, inr, ◌⊎◌, ◌≤◌, ◌++◌, IsTrue, is_some, eq-eqb, arith}
 use Rattle.ht_base.specs.declared.moment.Moment.{Moment}
 use Rattle.ht_base.specs.declared.task_id.TaskId.{TaskId}
 use Rattle.ht_base.specs.Persons as persons
@@ -15,29 +13,29 @@ use Rattle.ht_compose.specs.Agenda.Ends.{on}
 use Rattle.ht_compose.specs.Downward.{moved_by}
 use Rattle.ht_compose.specs.Items.{Does, Step, activated, activated_as, activates, does, on_model, on_task, still}
 use Rattle.ht_compose.specs.Items.Item.{Begin}
+use Rattle.ht_compose.specs.Work.{AreNumbered}
 use Rattle.ht_models.specs.declared.deadlines.DeadlineKind.{DeadlineKind}
 use Rattle.ht_models.specs.declared.deadlines.DeadlineKind.TheVariants.{Start, Completion}
 use Rattle.ht_tree.specs.Plans.{IsNext}
 use Rattle.ht_due.specs.declared.due.Due.{Due}
 use Rattle.ht_due.specs.Dues.{has}
 use Rattle.ht_compose.specs.Freeing.{Resumes}
-use Rattle.ht_escalate.proofs.PublicLaws.{IsKept, taken_has_it, taken_has_more, taken_is_kept}
-use Rattle.ht_escalate.specs.Escalating.{IsOpen, TakesDeadline, taken_row}
+use Rattle.ht_escalate.proofs.PublicLaws.{taken_has_it, taken_has_more, taken_is_kept}
+use Rattle.ht_escalate.specs.Escalating.{TakesDeadline, taken_row}
 use Rattle.ht_machine.specs.Turning.{Takes, TakesKind}
-use Rattle.ht_machine.proofs.OldAndNew.{HasAged}
 use Rattle.ht_machine.proofs.Rows.{one}
 use Rattle.ht_models.specs.Model.{ModelOf}
-use Rattle.ht_tree.proofs.PublicLaws.{HasRow, IsOfDeadline, IsOfRow, due_of_row, means_due, row_at-put_in, row_of_due, some_at, within}
+use Rattle.ht_tree.proofs.PublicLaws.{IsOfRow, means_due, row_at-put_in, row_of_due, some_at, within}
 use Rattle.ht_tree.specs.declared.row.Row.{Row}
-use Rattle.ht_tree.specs.RowDues.{all_dues, deadlines_of, kind_of}
+use Rattle.ht_tree.specs.RowDues.{all_dues, kind_of}
 use Rattle.ht_tree.specs.Rows.{row_at}
 use Rattle.ht_tree.specs.Soundness.{IsSound, is_created, is_suspended}
 use Rattle.ht_tree.specs.Tables.{TablesOf, model_of, task_row, with_row}
 
 -- ---- tasks age
 
-escalated_ages : (at : Moment) (task place : ℕ) (u v : TablesOf) → IsSound u → TakesDeadline at task place u v → AllAge at u v
-escalated_ages at task place u v sound (row, m, d, there, of, listed, is) =
+escalated_ages : (at : Moment) (task place : ℕ) (u v : TablesOf) → AreNumbered u.rows → TakesDeadline at task place u v → AllAge at u v
+escalated_ages at task place u v numbered (row, m, d, there, of, listed, is) =
     let k = taken_is_kept u row m d place in
     let new = taken_row u row m d place in
     let A : TablesOf → Type 0 = λ w. AllAge at u w in
@@ -52,22 +50,22 @@ escalated_ages at task place u v sound (row, m, d, there, of, listed, is) =
       until = inr k.until;
       taken = λ p h. taken_has_more place p row.taken h;
     } in
-    let put = put_ages at u task row new sound.numbered there ages in
+    let put = put_ages at u task row new numbered there ages in
     subst A (sym is) (record { there = put.there; new = put.new })
 
-resumed_ages : (at : Moment) (task : ℕ) (u v : TablesOf) → IsSound u → Resumes at task u v → AllAge at u v
-resumed_ages at task u v sound (row, there, frees) =
+resumed_ages : (at : Moment) (task : ℕ) (u v : TablesOf) → AreNumbered u.rows → Resumes at task u v → AllAge at u v
+resumed_ages at task u v numbered (row, there, frees) =
     let mid = with_row u (freed row) in
-    let first = put_ages at u task row (freed row) sound.numbered there (freed_ages row) in
-    all_age_further at u mid v first (all_age_freed at task mid v (numbered_still at u mid sound.numbered first) frees)
+    let first = put_ages at u task row (freed row) numbered there (freed_ages row) in
+    all_age_further at u mid v first (all_age_freed at task mid v (numbered_still at u mid numbered first) frees)
 
-pub takes_ages : (u v : TablesOf) (due : Due) → IsSound u → Takes u due v → AllAge due.at u v
-takes_ages u v due sound takes = go due.kind takes
+pub takes_ages : (u v : TablesOf) (due : Due) → AreNumbered u.rows → Takes u due v → AllAge due.at u v
+takes_ages u v due numbered takes = go due.kind takes
   where
     go : (k : ℕ) → TakesKind k due.at due.task.0 due.place u v → AllAge due.at u v
-    go zero ends = all_age due.at u v (Activate due.task.0 ∷ []) sound.numbered ends
-    go (suc zero) resumes = resumed_ages due.at due.task.0 u v sound resumes
-    go (suc (suc n)) escalates = escalated_ages due.at due.task.0 due.place u v sound escalates
+    go zero ends = all_age due.at u v (Activate due.task.0 ∷ []) numbered ends
+    go (suc zero) resumes = resumed_ages due.at due.task.0 u v numbered resumes
+    go (suc (suc n)) escalates = escalated_ages due.at due.task.0 due.place u v numbered escalates
 
 -- ---- models stay
 
@@ -99,33 +97,6 @@ suspended_of u due sound h kind =
     by row (IsOfRow.waits k p m) until = absurd (let e : 0 ≡ 1 = sym k ∙ kind in cc)
     by row (IsOfRow.until k p m) until = until (ap is_some m)
     by row (IsOfRow.deadline is) until = absurd (not_resumed (is.d).kind (sym kind ∙ is.kind))
-
--- a deadline that is open
-pub open_of : (u : TablesOf) (due : Due) → IsSound u → has due (all_dues u) ≡ true → (due.kind ≡ 0 → ⊥) → (due.kind ≡ 1 → ⊥) → IsOpen u due.task.0 due.place
-open_of u due sound h first second =
-    let its = row_of_due u due sound.numbered h in
-    by its.row its.there (means_due u.models its.row due its.due)
-  where
-    of_model : (row : Row) → task_row u due.task.0 ≡ Some row → (is : IsOfDeadline row (deadlines_of u.models row) due.place due) → (o : Option ModelOf) → slice_get u.models row.model ≡ o → IsOpen u due.task.0 due.place
-    of_model row there is None none =
-        let empty : slice_get (deadlines_of u.models row) due.place ≡ None = ap (λ (o : Option ModelOf). slice_get (option_map_or (λ (m : ModelOf). m.deadlines) o []) due.place) none in
-        let listed = is.there in
-        absurd cc
-    of_model row there is (Some m) found = record {
-      row = row;
-      there = there;
-      model = m;
-      of_model = found;
-      deadline = is.d;
-      listed = ap (λ (o : Option ModelOf). slice_get (option_map_or (λ (x : ModelOf). x.deadlines) o []) due.place) (sym found) ∙ is.there;
-      not_taken = is.not_taken;
-      not_obsolete = is.not_obsolete;
-    }
-
-    by : (row : Row) → task_row u due.task.0 ≡ Some row → IsOfRow u.models row due → IsOpen u due.task.0 due.place
-    by row there (IsOfRow.waits k p m) = absurd (first k)
-    by row there (IsOfRow.until k p m) = absurd (second k)
-    by row there (IsOfRow.deadline is) = of_model row there is (slice_get u.models row.model) refl
 
 -- the model of a task's row
 model_there : (u : TablesOf) (row : Row) (task : ℕ) → IsSound u → task_row u task ≡ Some row → (m : ModelOf) × (model_of u row ≡ Some m)

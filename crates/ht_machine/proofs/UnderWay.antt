@@ -1,11 +1,11 @@
 -- A turn from its beginning to its end.
-use Rattle.std.proofs.Common.{◌≡◌, ◌≤◌, ℕ, ◌+◌, suc, zero, List, [], ◌∷◌, ◌++◌, length, None, Option, Some, refl, sym, ap, subst, ◌∙◌, inl, inr, ◌⊎◌, Result, Ok, Err, OnErr, arith}
+use Rattle.std.proofs.Common.{◌≡◌, ◌≤◌, ℕ, ◌+◌, List, [], ◌∷◌, ◌++◌, length, None, Some, refl, sym, subst, ◌∙◌, inl, inr, Result, Ok, Err, OnErr, arith}
 use Rattle.ht_due.specs.declared.due.Due.{Due}
-use Rattle.ht_machine.specs.Courses.{GoesOn, IsTaken, IsUnderWay, TakesFirst}
-use Rattle.ht_machine.specs.Turning.{IsTurn, Takes, Takings, Turns}
+use Rattle.ht_machine.specs.Courses.{GoesOn, IsUnderWay}
+use Rattle.ht_machine.specs.Turning.{Takes, Takings, Turns}
 use Rattle.ht_machine.specs.Turning.Takings.{end, on}
 use Rattle.ht_tree.proofs.PublicLaws.{goes_on, stays}
-use Rattle.ht_tree.specs.Plans.{Goes, IsPlanOf, PlanOf, planned}
+use Rattle.ht_tree.specs.Plans.{IsPlanOf, PlanOf, planned}
 use Rattle.ht_tree.specs.RowDues.{first_due}
 use Rattle.ht_tree.specs.Soundness.{IsSound}
 use Rattle.ht_tree.specs.Tables.{TablesOf}

@@ -1,5 +1,5 @@
 -- Where a turn stands on its way along what is due.
-use Rattle.std.specs.Prelude.{◌≡◌, ◌⊎◌, ◌≤◌, ℕ, ◌+◌, true, List, length, Option, None, Some, Bool, false, ◌&&◌}
+use Rattle.std.specs.Prelude.{◌≡◌, ◌⊎◌, ◌≤◌, ℕ, ◌+◌, true, List, length, Option, Some}
 use Rattle.ht_due.specs.declared.due.Due.{Due}
 use Rattle.ht_due.specs.Dues.{Ascends, has}
 use Rattle.ht_machine.specs.Ahead.{IsAhead, in_either}

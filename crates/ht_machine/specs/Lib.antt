@@ -11,4 +11,6 @@ pub mod Once
 pub mod Planning
 pub mod Sending
 pub mod Sheets
+pub mod TakenOnce
+pub mod Timer
 pub mod Turning

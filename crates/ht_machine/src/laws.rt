@@ -1,17 +1,22 @@
-ghost use Rattle.std.specs.Prelude.{◌≡◌, ℕ, List, Option, Some};
+ghost use Rattle.std.specs.Prelude.{◌≡◌, ◌≤◌, ◌++◌, ℕ, false, true, List, Option, Some};
 ghost use Rattle.ht_base.specs.declared.event.Command.{Command};
 ghost use Rattle.ht_base.specs.declared.event.Event.{Event};
-ghost use Rattle.ht_base.specs.declared.event.Event.TheVariants.{Ask};
+ghost use Rattle.ht_base.specs.declared.event.Event.TheVariants.{Ask, Turn};
 ghost use Rattle.ht_base.specs.declared.moment.Moment.{Moment};
 ghost use Rattle.ht_base.specs.declared.record.Record.{Record};
 ghost use Rattle.ht_base.specs.declared.record.Record.TheVariants.{Asked};
 ghost use Rattle.ht_base.specs.declared.reply.Reply.{Reply};
 ghost use Rattle.ht_base.specs.declared.retry.Retry.{Retry};
 ghost use Rattle.ht_base.specs.declared.task_id.TaskId.{TaskId};
+ghost use Rattle.ht_base.specs.History.{end_of};
 ghost use Rattle.ht_base.specs.Ordered.{AscendBy};
+ghost use Rattle.ht_due.specs.declared.due.Due.{Due};
 ghost use Rattle.ht_machine.specs.Deciding.{Decides};
 ghost use Rattle.ht_machine.specs.History.{History, IsHistory};
 ghost use Rattle.ht_machine.specs.Once.{IsAccepted, IsSince, Remembers};
+ghost use Rattle.ht_machine.specs.TakenOnce.{AreNumbered, WasTaken, is_among};
+ghost use Rattle.ht_machine.specs.Timer.{AreAlike, DifferByTurns, IsTimely, answers_of, events_of, last_after};
+ghost use Rattle.ht_machine.specs.Turning.{IsTurn};
 ghost use Rattle.ht_tree.specs.declared.slot.Slot.{Slot};
 ghost use Rattle.ht_tree.specs.Slots.{slot_cmp};
 ghost use Rattle.ht_tree.specs.Tables.{TablesOf};
@@ -32,4 +37,33 @@ pub fn a_command_acts_once()
         → AscendBy slot_cmp t.slots → Decides t (Ask at caller (Some r) task command) (Some (Asked moment caller (Some r) task command)) reply after
         → (s : Slot) × IsAccepted t caller r task command reply.answer s × IsSince s after }
     ensures remembered { (s : Slot) (t : TablesOf) (history : History) → IsSince s t → IsHistory t history → Remembers s t history }
+{}
+
+/// What is due may be taken in two turns: one at a moment and then one at a later moment leave the tables
+/// that one at the later moment leaves, and take the same in the same order.
+pub fn a_turn_may_come_in_two()
+    ensures tables { (t u v w : TablesOf) (m n : ℕ) (ds es fs : List Due) → m ≤ n → IsTurn m t ds u → IsTurn n u es v → IsTurn n t fs w → v ≡ w }
+    ensures taken { (t u v w : TablesOf) (m n : ℕ) (ds es fs : List Due) → m ≤ n → IsTurn m t ds u → IsTurn n u es v → IsTurn n t fs w → ds ++ es ≡ fs }
+{}
+
+/// When the timer runs, and whether, changes no answer of a command: two histories from the same tables,
+/// of the same events but for Turn events, at moments that don't fall and without want of memory, answer
+/// their commands alike.
+pub fn the_timer_changes_no_answer()
+    ensures { (t : TablesOf) (few more : History) → IsTimely t few → IsTimely t more → DifferByTurns (events_of few) (events_of more) → answers_of few ≡ answers_of more }
+{}
+
+/// After one more Turn event, at a moment that none of their events is behind, such histories end with
+/// tables that are equal but for the moment of the last record.
+pub fn a_last_turn_leaves_the_same()
+    ensures { (t : TablesOf) (few more : History) → IsTimely t few → IsTimely t more → DifferByTurns (events_of few) (events_of more) → (at : Moment) → last_after t.last (events_of few) ≤ at.0 → last_after t.last (events_of more) ≤ at.0 → (k l : Option Record) (r s : Reply) (u v : TablesOf) → Decides (end_of t few) (Turn at) k r u → Decides (end_of t more) (Turn at) l s v → AreAlike u v }
+{}
+
+/// A deadline that was taken is never taken again: it stays so whatever event comes, and no turn takes it.
+/// One that a turn takes is taken behind it. The rows stand at their numbers, as in all tables that are
+/// sound.
+pub fn a_deadline_is_taken_once()
+    ensures stays { (t : TablesOf) (e : Event) (k : Option Record) (r : Reply) (after : TablesOf) (task place : ℕ) → AreNumbered t.rows → Decides t e k r after → WasTaken t task place → WasTaken after task place }
+    ensures never_again { (by : ℕ) (t after : TablesOf) (dues : List Due) (task place : ℕ) → AreNumbered t.rows → IsTurn by t dues after → WasTaken t task place → is_among task place dues ≡ false }
+    ensures taken { (by : ℕ) (t after : TablesOf) (dues : List Due) (task place : ℕ) → AreNumbered t.rows → IsTurn by t dues after → is_among task place dues ≡ true → WasTaken after task place }
 {}

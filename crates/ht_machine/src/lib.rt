@@ -35,9 +35,14 @@ mod taking;
 #[cfg(test)]
 mod tests;
 #[cfg(test)]
+mod timer_tests;
+#[cfg(test)]
 mod turn_tests;
 mod turning;
 
 pub use deciding::{Decision, decide, run_one};
-pub use laws::{a_command_acts_once, one_outcome};
+pub use laws::{
+    a_command_acts_once, a_deadline_is_taken_once, a_last_turn_leaves_the_same,
+    a_turn_may_come_in_two, one_outcome, the_timer_changes_no_answer,
+};
 pub use turning::turn;

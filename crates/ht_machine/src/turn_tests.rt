@@ -145,7 +145,7 @@ fn created_at(alloc: Global, given: &str) -> Result<Command, Fail>
 }
 
 // A moment, a person, a task, an operation and what is given to it.
-fn event_of(alloc: Global, line: &str) -> Result<Event, Fail>
+pub(crate) fn event_of(alloc: Global, line: &str) -> Result<Event, Fail>
     ensures { IfOk result IsValid }
 {
     let (at, rest) = line.split_once(" ").ok_or("a moment")?;

@@ -6,11 +6,9 @@ use Rattle.ht_base.specs.Moment.{last_moment}
 use Rattle.ht_base.specs.declared.reply.Answer.TheVariants.{Turned}
 use Rattle.ht_base.specs.declared.reply.Reply.{Reply}
 use Rattle.ht_machine.specs.Deciding.{Decides, DecidesAt, effective}
-use Rattle.ht_machine.specs.Planning.{Plans}
 use Rattle.ht_machine.proofs.BehindTurn.{read_leaves, turn_plans}
 use Rattle.ht_machine.proofs.deciding.plan_event.Goals as goal
 use Rattle.ht_tree.proofs.PublicLaws.{planned_nothing}
-use Rattle.ht_tree.specs.Plans.{planned}
 use Rattle.ht_tree.specs.Soundness.{IsSound}
 use Rattle.ht_tree.specs.Tables.{TablesOf}
 

@@ -1,7 +1,6 @@
-use Rattle.std.proofs.Common.{refl, sym}
-use Rattle.ht_machine.proofs.BehindTurn.{ready_then, then_asks}
+use Rattle.std.proofs.Common.{refl}
+use Rattle.ht_machine.proofs.BehindTurn.{then_asks}
 use Rattle.ht_machine.proofs.deciding.turn_then_ask.Goals as goal
-use Rattle.ht_tree.specs.Plans.{planned}
 
 pub returns : goal.returns
 returns c =

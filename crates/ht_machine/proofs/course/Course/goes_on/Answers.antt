@@ -1,8 +1,7 @@
-use Rattle.std.proofs.Common.{◌≡◌, ◌≤◌, ℕ, List, true, false, Option, None, Some, refl, sym, subst, ap, ◌∙◌, inl, inr, arith}
+use Rattle.std.proofs.Common.{◌≡◌, List, true, None, Some, sym, subst, inr}
 use Rattle.ht_due.specs.declared.due.Due.{Due}
 use Rattle.ht_due.specs.Dues.{has}
 use Rattle.ht_machine.specs.Ahead.{IsFirstAhead, in_either}
-use Rattle.ht_machine.specs.Courses.{GoesOn, IsOnCourse, IsTaken, TakesFirst}
 use Rattle.ht_machine.proofs.Firsts.{before_is, not_before}
 use Rattle.ht_machine.proofs.Coursing.{goes_on, is_first, none_ahead, none_then, passes}
 use Rattle.ht_machine.proofs.OldAndNew.{HasAged}
@@ -40,7 +39,7 @@ returns-clause-course c =
     let v = planned t c.take.new.plan in
     let due = c.in-Some.due in
     let taken = c.in_ok-take.ensures.taken in
-    let ages = takes_ages u v due c.requires.sound taken.takes in
+    let ages = takes_ages u v due (c.requires.sound).numbered taken.takes in
     let aged : HasAged due.at u v = record { models = takes_models u v due taken.takes; age = ages; before = c.requires.sound; after = taken.sound } in
     let news = c.args.self.now.news.dues in
     let F : List Due → Type 0 = λ l. IsFirstAhead (in_either l news) c.args.self.now.passed (Some c.in-Some.due) in

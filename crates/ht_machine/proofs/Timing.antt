@@ -1,0 +1,275 @@
+-- When the timer runs, and whether, makes no difference to what commands are answered.
+use Rattle.std.proofs.Common.{◌≡◌, ◌≤◌, ℕ, zero, suc, List, [], ◌∷◌, ◌++◌, length, filter, map, if◌then◌else◌, Option, None, Some, refl, ap, sym, subst, ◌∙◌, inl, inr, arith}
+use Rattle.ht_base.specs.declared.event.Command.{Command}
+use Rattle.ht_base.specs.declared.event.Event.{Event}
+use Rattle.ht_base.specs.declared.event.Event.TheVariants.{Ask, Read, Turn}
+use Rattle.ht_base.specs.declared.event.Query.{Query}
+use Rattle.ht_base.specs.declared.moment.Moment.{Moment}
+use Rattle.ht_base.specs.declared.record.Record.{Record}
+use Rattle.ht_base.specs.declared.record.Record.TheVariants.{Asked}
+use Rattle.ht_base.specs.declared.reply.Answer.{Answer}
+use Rattle.ht_base.specs.declared.reply.Reply.{Reply}
+use Rattle.ht_base.specs.declared.retry.Retry.{Retry}
+use Rattle.ht_base.specs.declared.task_id.TaskId.{TaskId}
+use Rattle.ht_base.specs.Events.{op_of}
+use Rattle.ht_base.specs.History.{end_of}
+use Rattle.ht_due.specs.declared.due.Due.{Due}
+use Rattle.ht_machine.specs.declared.sending.Sending.{Sending}
+use Rattle.ht_machine.specs.declared.sending.Sending.TheVariants as sending
+use Rattle.ht_machine.specs.declared.sending.Sending.TheVariants.{New, Answered}
+use Rattle.ht_machine.specs.Commands.{Outcome, accepted, refused}
+use Rattle.ht_machine.specs.Deciding.{AsksAs, Decides, DecidesAt, Leads, Settles, after_with, effective}
+use Rattle.ht_machine.specs.History.{History, IsHistory, IsStep}
+use Rattle.ht_machine.specs.Timer.{AreAlike, DifferByTurns, HadMemory, IsTimely, NeverFall, answers_of, events_of, is_command, last_after, moment_after, without_turns}
+use Rattle.ht_machine.specs.Turning.{IsTurn}
+use Rattle.ht_machine.proofs.LastMoment.{leads_with_last, turn_with_last}
+use Rattle.ht_machine.proofs.OneOutcome.{same_led}
+use Rattle.ht_machine.proofs.OneTurn.{one_turn, turn_keeps}
+use Rattle.ht_machine.proofs.TurnsApart.{turn_then}
+use Rattle.ht_tree.specs.Tables.{TablesOf, at_moment}
+
+-- but for the moment of the last record
+abbrev bare : TablesOf → TablesOf
+bare t = at_moment t 0
+
+pub alike : (u v : TablesOf) → bare u ≡ bare v → AreAlike u v
+alike u v same = ap (λ (t : TablesOf). at_moment t v.last) (sym same)
+
+bare_turn : (by : ℕ) (u v : TablesOf) (ds : List Due) → IsTurn by u ds v → IsTurn by (bare u) ds (bare v)
+bare_turn by u v ds turn = turn_with_last 0 by u v ds turn
+
+-- ---- tables that turns bring together
+
+-- from both of these moments on
+abbrev Meet : ℕ → ℕ → TablesOf → TablesOf → Type 0
+Meet f g s t = (n : ℕ) (ds es : List Due) (u v : TablesOf) → f ≤ n → g ≤ n → IsTurn n (bare s) ds u → IsTurn n (bare t) es v → u ≡ v
+
+meet_back : (f g : ℕ) (s t : TablesOf) → Meet f g s t → Meet g f t s
+meet_back f g s t meet n ds es u v low high a b = sym (meet n es ds v u high low b a)
+
+same_meet : (f g : ℕ) (s t : TablesOf) → bare s ≡ bare t → Meet f g s t
+same_meet f g s t same n ds es u v low high a b =
+    let T : TablesOf → Type 0 = λ x. IsTurn n x ds u in
+    (one_turn n (bare t) u v ds es (subst T same a) b).after
+
+-- also where one of them was turned before
+turned_meet : (f g h : ℕ) (s t turned after : TablesOf) (ds : List Due) → g ≤ h → Meet f g s t → IsTurn h t ds turned → bare after ≡ bare turned → Meet f h s after
+turned_meet f g h s t turned after ds up meet turn same n es fs u v low high a b =
+    let T : TablesOf → Type 0 = λ x. IsTurn n x fs v in
+    let whole = turn_then h n (bare t) (bare turned) v ds fs high (bare_turn h t turned ds turn) (subst T same b) in
+    meet n es (ds ++ fs) u v low (omega arith) a whole
+
+-- ---- what an event leaves
+
+bare_after : (moment n : ℕ) (own : Option Record) (u : TablesOf) → bare (after_with moment n own u) ≡ bare u
+bare_after moment n (Some k) u = refl
+bare_after moment zero None u = refl
+bare_after moment (suc n) None u = refl
+
+low_after : (moment n : ℕ) (own : Option Record) (u : TablesOf) → u.last ≤ moment → (after_with moment n own u).last ≤ moment
+low_after moment n (Some k) u low = low
+low_after moment zero None u low = low
+low_after moment (suc n) None u low = omega arith
+
+same_last : (u v : TablesOf) → v ≡ u → v.last ≡ u.last
+same_last u v is = ap (λ (t : TablesOf). t.last) is
+
+low_settled : (u : TablesOf) (moment person : ℕ) (c : Command) (retry : Option Retry) (task : TaskId) (asked : Record) (o : Outcome) (left : Option Record) (answer : Answer) (after : TablesOf) → u.last ≤ moment → Settles u moment person retry (op_of c) task asked o left answer after → after.last ≤ moment
+low_settled u moment person c retry task asked (accepted v about) left answer after low (reply, shows, kept, is, told) = let last = same_last _ after is in omega arith
+low_settled u moment person c retry task asked (refused why) left answer after low ((none, is), told) = let last = same_last u after is in omega arith
+
+low_led : (u : TablesOf) (moment : ℕ) (e : Event) (left : Option Record) (answer : Answer) (after : TablesOf) → u.last ≤ moment → Leads u moment e left answer after → after.last ≤ moment
+low_led u moment (Turn at) left answer after low ((none, is), told) = let last = same_last u after is in omega arith
+low_led u moment (Read caller what) left answer after low ((none, is), told) = let last = same_last u after is in omega arith
+low_led u moment (Ask at caller retry task c) left answer after low asks = go asks.sending asks.asks
+  where
+    go : (known : Sending) → AsksAs u moment retry task c (Asked (record { 0 = moment }) caller retry task c) known left answer after → after.last ≤ moment
+    go (New person) (o, comes, settles) = low_settled u moment person c retry task (Asked (record { 0 = moment }) caller retry task c) o left answer after low settles
+    go (Answered reply) ((none, is), told) = let last = same_last u after is in omega arith
+    go (sending.Refused why) ((none, is), told) = let last = same_last u after is in omega arith
+
+low_decided : (t : TablesOf) (moment : ℕ) (e : Event) (left : Option Record) (r : Reply) (after : TablesOf) → t.last ≤ moment → DecidesAt t moment e left r after → after.last ≤ moment
+low_decided t moment e left r after low d =
+    let turned : (d.turned).last ≡ t.last = ap (λ (w : TablesOf). w.last) (turn_keeps moment t d.turned d.dues d.turn) in
+    let acted = low_led d.turned moment e d.own r.answer d.acted (omega arith) d.leads in
+    let rest = low_after moment (length d.dues) d.own d.acted acted in
+    let last = same_last _ after d.after_is in
+    omega arith
+
+-- a Turn event leaves what its turn leaves
+turned_by : (t : TablesOf) (moment : ℕ) (at : Moment) (left : Option Record) (r : Reply) (after : TablesOf) → (d : DecidesAt t moment (Turn at) left r after) → bare after ≡ bare d.turned
+turned_by t moment at left r after d = ap bare d.after_is ∙ bare_after moment (length d.dues) d.own d.acted ∙ ap bare d.leads.0.1
+
+-- a command on tables that turns bring together
+pub record IsSameAsk (r q : Reply) (u v : TablesOf) : Type 0 where
+  pub answer : r.answer ≡ q.answer
+  pub after : bare u ≡ bare v
+
+same_ask : (f g : ℕ) (s t : TablesOf) (moment : ℕ) (e : Event) (k l : Option Record) (r q : Reply) (u v : TablesOf) → f ≤ moment → g ≤ moment → Meet f g s t → DecidesAt s moment e k r u → DecidesAt t moment e l q v → IsSameAsk r q u v
+same_ask f g s t moment e k l r q u v low low_too meet a b =
+    let turned = meet moment a.dues b.dues (bare a.turned) (bare b.turned) low low_too (bare_turn moment s a.turned a.dues a.turn) (bare_turn moment t b.turned b.dues b.turn) in
+    let x = leads_with_last 0 a.turned moment e a.own r.answer a.acted a.leads in
+    let y = leads_with_last 0 b.turned moment e b.own q.answer b.acted b.leads in
+    let L : TablesOf → Type 0 = λ w. Leads w moment e a.own r.answer x.0 in
+    let same = same_led (bare b.turned) moment e a.own b.own r.answer q.answer x.0 y.0 (subst L turned x.1) y.1 in
+    let first : bare u ≡ bare x.0 = ap bare a.after_is ∙ bare_after moment (length a.dues) a.own a.acted ∙ x.2 in
+    let second : bare v ≡ bare y.0 = ap bare b.after_is ∙ bare_after moment (length b.dues) b.own b.acted ∙ y.2 in
+    record { answer = same.answer; after = first ∙ ap bare same.after ∙ sym second }
+
+-- ---- histories
+
+-- the events without Turn events, the answers of the commands, and the last moment and tables
+data Timed : ℕ → TablesOf → List Event → List Answer → ℕ → TablesOf → Type 0 where
+  stop : {f : ℕ} {s : TablesOf} → Timed f s [] [] f s
+  turn : {f g : ℕ} {s t u : TablesOf} {es : List Event} {xs : List Answer} {at : Moment} {left : Option Record} {r : Reply} → f ≤ at.0 → Decides s (Turn at) left r t → Timed at.0 t es xs g u → Timed f s es xs g u
+  ask : {f g : ℕ} {s t u : TablesOf} {es : List Event} {xs : List Answer} {at : Moment} {caller : List ℕ} {retry : Option Retry} {task : TaskId} {c : Command} {left : Option Record} {r : Reply} → f ≤ at.0 → Decides s (Ask at caller retry task c) left r t → Timed at.0 t es xs g u → Timed f s (Ask at caller retry task c ∷ es) (r.answer ∷ xs) g u
+  read : {f g : ℕ} {s u : TablesOf} {es : List Event} {xs : List Answer} {caller : List ℕ} {what : Query} → Timed f s es xs g u → Timed f s (Read caller what ∷ es) xs g u
+
+timed : (f : ℕ) (s : TablesOf) (h : History) → IsHistory s h → HadMemory h → NeverFall f (events_of h) → Timed f s (without_turns (events_of h)) (answers_of h) (last_after f (events_of h)) (end_of s h)
+timed f s [] legal memory moments = stop
+timed f s (e ∷ es) (step, legal) (plenty, memory) (up, moments) = at e.event step up (timed (moment_after f e.event) e.after es legal memory moments)
+  where
+    commands : History
+    commands = filter (λ k. is_command k.event) es
+
+    at : {g : ℕ} {u : TablesOf} → (x : Event) → IsStep s x e.reply e.after → f ≤ moment_after f x → Timed (moment_after f x) e.after (without_turns (events_of es)) (answers_of es) g u → Timed f s (without_turns (x ∷ events_of es)) (map (λ k. (k.reply).answer) (if is_command x then e ∷ commands else commands)) g u
+    at (Turn moment) (inl (left, d)) up rest = turn up d rest
+    at (Ask moment caller retry task c) (inl (left, d)) up rest = ask up d rest
+    at {g = g} {u = u} (Read caller what) (inl (left, (taken, ((none, is), told)))) up rest =
+        let T : TablesOf → Type 0 = λ x. Timed f x (without_turns (events_of es)) (answers_of es) g u in
+        read (subst T is rest)
+    at x (inr (short, is)) up rest = absurd (plenty short)
+
+at_own : (t : TablesOf) (n : ℕ) → t.last ≤ n → effective t n ≡ n
+at_own t n low = omega arith
+
+at_its_moment : (t : TablesOf) (n : ℕ) (e : Event) (left : Option Record) (r : Reply) (after : TablesOf) → t.last ≤ n → DecidesAt t (effective t n) e left r after → DecidesAt t n e left r after
+at_its_moment t n e left r after low d =
+    let D : ℕ → Type 0 = λ m. DecidesAt t m e left r after in
+    subst D (at_own t n low) d
+
+-- the turns of a history in front of a stop, a read and a command
+
+record Stops (f : ℕ) (s : TablesOf) (ys : List Answer) (q : ℕ) (v : TablesOf) : Type 0 where
+  pub none : ys ≡ []
+  pub meet : Meet f q s v
+  pub low : v.last ≤ q
+
+record Reads (f : ℕ) (s : TablesOf) (es : List Event) (ys : List Answer) (q : ℕ) (v : TablesOf) : Type 0 where
+  pub g : ℕ
+  pub t : TablesOf
+  pub meet : Meet f g s t
+  pub low : t.last ≤ g
+  pub rest : Timed g t es ys q v
+
+record Acts (f : ℕ) (s : TablesOf) (at : Moment) (e : Event) (es : List Event) (ys : List Answer) (q : ℕ) (v : TablesOf) : Type 0 where
+  pub g : ℕ
+  pub t : TablesOf
+  pub meet : Meet f g s t
+  pub low : t.last ≤ g
+  pub up : g ≤ at.0
+  pub left : Option Record
+  pub reply : Reply
+  pub after : TablesOf
+  pub here : DecidesAt t at.0 e left reply after
+  pub more : List Answer
+  pub answers : ys ≡ reply.answer ∷ more
+  pub rest : Timed at.0 after es more q v
+
+-- what a turn leaves of the second
+record Turned (f h : ℕ) (s t : TablesOf) : Type 0 where
+  pub meet : Meet f h s t
+  pub low : t.last ≤ h
+
+turned : (f g : ℕ) (s t mid : TablesOf) (at : Moment) (k : Option Record) (r : Reply) → t.last ≤ g → g ≤ at.0 → Meet f g s t → Decides t (Turn at) k r mid → Turned f at.0 s mid
+turned f g s t mid at k r low up meet here =
+    let d = at_its_moment t at.0 (Turn at) k r mid (omega arith) here in
+    record { meet = turned_meet f g at.0 s t d.turned mid d.dues up meet d.turn (turned_by t at.0 at k r mid d); low = low_decided t at.0 (Turn at) k r mid (omega arith) d }
+
+module _ (f : ℕ) (s : TablesOf) where
+  stops : (g : ℕ) (t : TablesOf) (ys : List Answer) (q : ℕ) (v : TablesOf) → t.last ≤ g → Meet f g s t → Timed g t [] ys q v → Stops f s ys q v
+  stops g t [] q v low meet stop = record { none = refl; meet = meet; low = low }
+  stops g t ys q v low meet (turn {t = mid} {at = at} {left = k} {r = r} up here rest) =
+      let next = turned f g s t mid at k r low up meet here in
+      stops at.0 mid ys q v next.low next.meet rest
+
+  reads : (caller : List ℕ) (what : Query) (es : List Event) (g : ℕ) (t : TablesOf) (ys : List Answer) (q : ℕ) (v : TablesOf) → t.last ≤ g → Meet f g s t → Timed g t (Read caller what ∷ es) ys q v → Reads f s es ys q v
+  reads caller what es g t ys q v low meet (read rest) = record { g = g; t = t; meet = meet; low = low; rest = rest }
+  reads caller what es g t ys q v low meet (turn {t = mid} {at = at} {left = k} {r = r} up here rest) =
+      let next = turned f g s t mid at k r low up meet here in
+      reads caller what es at.0 mid ys q v next.low next.meet rest
+
+  acts : (at : Moment) (caller : List ℕ) (retry : Option Retry) (task : TaskId) (c : Command) (es : List Event) (g : ℕ) (t : TablesOf) (ys : List Answer) (q : ℕ) (v : TablesOf) → t.last ≤ g → Meet f g s t → Timed g t (Ask at caller retry task c ∷ es) ys q v → Acts f s at (Ask at caller retry task c) es ys q v
+  acts at caller retry task c es g t (y ∷ ys) q v low meet (ask {t = after} {left = k} {r = r} up here rest) = record {
+    g = g;
+    t = t;
+    meet = meet;
+    low = low;
+    up = up;
+    left = k;
+    reply = r;
+    after = after;
+    here = at_its_moment t at.0 (Ask at caller retry task c) k r after (omega arith) here;
+    more = ys;
+    answers = refl;
+    rest = rest;
+  }
+  acts at caller retry task c es g t ys q v low meet (turn {t = mid} {at = now} {left = k} {r = r} up here rest) =
+      let next = turned f g s t mid now k r low up meet here in
+      acts at caller retry task c es now.0 mid ys q v next.low next.meet rest
+
+-- the answers are the same, and turns bring the tables together
+pub record Together (xs ys : List Answer) (p q : ℕ) (u v : TablesOf) : Type 0 where
+  pub answers : xs ≡ ys
+  pub meet : Meet p q u v
+  pub low : u.last ≤ p
+  pub low_too : v.last ≤ q
+
+together : (es : List Event) (f g : ℕ) (s t : TablesOf) (xs ys : List Answer) (p q : ℕ) (u v : TablesOf) → s.last ≤ f → t.last ≤ g → Meet f g s t → Timed f s es xs p u → Timed g t es ys q v → Together xs ys p q u v
+together [] f g s t [] ys p q u v low low_too meet stop b =
+    let next = stops f s g t ys q v low_too meet b in
+    record { answers = sym next.none; meet = next.meet; low = low; low_too = next.low }
+together es f g s t xs ys p q u v low low_too meet (turn {t = mid} {at = at} {left = k} {r = r} up here rest) b =
+    let next = turned g f t s mid at k r low up (meet_back f g s t meet) here in
+    together es at.0 g mid t xs ys p q u v next.low low_too (meet_back g at.0 t mid next.meet) rest b
+together (Read caller what ∷ es) f g s t xs ys p q u v low low_too meet (read a) b =
+    let next = reads f s caller what es g t ys q v low_too meet b in
+    together es f next.g s next.t xs ys p q u v low next.low next.meet a next.rest
+together (Ask at caller retry task c ∷ es) f g s t (x ∷ xs) ys p q u v low low_too meet (ask {t = mid} {left = k} {r = r} up here a) b =
+    let next = acts f s at caller retry task c es g t ys q v low_too meet b in
+    let e = Ask at caller retry task c in
+    let d = at_its_moment s at.0 e k r mid (omega arith) here in
+    let same = same_ask f next.g s next.t at.0 e k next.left r next.reply mid next.after up next.up next.meet d next.here in
+    let first_low = low_decided s at.0 e k r mid (omega arith) d in
+    let next_low = next.low in
+    let next_up = next.up in
+    let second_low = low_decided next.t at.0 e next.left next.reply next.after (omega arith) next.here in
+    let rest = together es at.0 at.0 mid next.after xs next.more p q u v first_low second_low (same_meet at.0 at.0 mid next.after same.after) a next.rest in
+    record {
+      answers = ap (λ (z : Answer). z ∷ xs) same.answer ∙ ap (λ (zs : List Answer). (next.reply).answer ∷ zs) rest.answers ∙ sym next.answers;
+      meet = rest.meet;
+      low = rest.low;
+      low_too = rest.low_too;
+    }
+
+-- ---- two histories of the same events but for their Turn events
+
+module _ (t : TablesOf) (few more : History) (a : IsTimely t few) (b : IsTimely t more) (differ : DifferByTurns (events_of few) (events_of more)) where
+  both : Together (answers_of few) (answers_of more) (last_after t.last (events_of few)) (last_after t.last (events_of more)) (end_of t few) (end_of t more)
+  both =
+      let T : List Event → Type 0 = λ es. Timed t.last t es (answers_of few) (last_after t.last (events_of few)) (end_of t few) in
+      together (without_turns (events_of more)) t.last t.last t t (answers_of few) (answers_of more) (last_after t.last (events_of few)) (last_after t.last (events_of more)) (end_of t few) (end_of t more) (omega arith) (omega arith) (same_meet t.last t.last t t refl) (subst T differ (timed t.last t few a.legal a.memory a.moments)) (timed t.last t more b.legal b.memory b.moments)
+
+  pub same_answers : answers_of few ≡ answers_of more
+  same_answers = both.answers
+
+  pub same_ends : (at : Moment) (k l : Option Record) (r q : Reply) (u v : TablesOf) → last_after t.last (events_of few) ≤ at.0 → last_after t.last (events_of more) ≤ at.0 → Decides (end_of t few) (Turn at) k r u → Decides (end_of t more) (Turn at) l q v → AreAlike u v
+  same_ends at k l r q u v low low_too here there =
+      let s = end_of t few in
+      let w = end_of t more in
+      let first_low = both.low in
+      let second_low = both.low_too in
+      let d = at_its_moment s at.0 (Turn at) k r u (omega arith) here in
+      let e = at_its_moment w at.0 (Turn at) l q v (omega arith) there in
+      let same = both.meet at.0 d.dues e.dues (bare d.turned) (bare e.turned) low low_too (bare_turn at.0 s d.turned d.dues d.turn) (bare_turn at.0 w e.turned e.dues e.turn) in
+      alike u v (turned_by s at.0 at k r u d ∙ same ∙ sym (turned_by w at.0 at l q v e))

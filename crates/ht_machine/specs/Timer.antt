@@ -1,0 +1,66 @@
+-- When the timer runs, and whether: histories of the same events but for their Turn events.
+use Rattle.std.specs.Prelude.{◌≡◌, ◌≢◌, ◌≤◌, ℕ, Bool, true, false, not, List, [], ◌∷◌, filter, map}
+use Rattle.ht_base.specs.declared.event.Event.{Event}
+use Rattle.ht_base.specs.declared.event.Event.TheVariants.{Ask, Read, Turn}
+use Rattle.ht_base.specs.declared.reply.Answer.{Answer}
+use Rattle.ht_machine.specs.History.{History, IsHistory, memory_reply}
+use Rattle.ht_tree.specs.Tables.{TablesOf, at_moment}
+
+-- ---- events
+
+abbrev pub is_turn : Event → Bool
+is_turn (Turn at) = true
+is_turn _ = false
+
+abbrev pub is_command : Event → Bool
+is_command (Ask at caller retry task command) = true
+is_command _ = false
+
+abbrev pub without_turns : List Event → List Event
+without_turns events = filter (λ e. not (is_turn e)) events
+
+-- one is the other with Turn events added or left out, anywhere
+abbrev pub DifferByTurns : List Event → List Event → Type 0
+DifferByTurns few more = without_turns few ≡ without_turns more
+
+-- the moment of an event; a read has that of the event before it
+abbrev pub moment_after : ℕ → Event → ℕ
+moment_after before (Turn at) = at.0
+moment_after before (Ask at caller retry task command) = at.0
+moment_after before (Read caller what) = before
+
+-- the moments begin no lower than this one, and don't fall
+abbrev pub NeverFall : ℕ → List Event → Type 0
+NeverFall before [] = Unit {0}
+NeverFall before (e ∷ es) = (before ≤ moment_after before e) × NeverFall (moment_after before e) es
+
+-- the moment of the last one
+abbrev pub last_after : ℕ → List Event → ℕ
+last_after before [] = before
+last_after before (e ∷ es) = last_after (moment_after before e) es
+
+-- ---- histories
+
+abbrev pub events_of : History → List Event
+events_of history = map (λ e. e.event) history
+
+-- what the commands were answered
+abbrev pub answers_of : History → List Answer
+answers_of history = map (λ e. (e.reply).answer) (filter (λ e. is_command e.event) history)
+
+-- no reply is one for want of memory
+abbrev pub HadMemory : History → Type 0
+HadMemory [] = Unit {0}
+HadMemory (e ∷ es) = (e.reply ≢ memory_reply) × HadMemory es
+
+-- from these tables on, at moments that don't fall
+pub record IsTimely (t : TablesOf) (history : History) : Type 0 where
+  pub legal : IsHistory t history
+  pub memory : HadMemory history
+  pub moments : NeverFall t.last (events_of history)
+
+-- ---- tables
+
+-- equal but for the moment of the last record
+abbrev pub AreAlike : TablesOf → TablesOf → Type 0
+AreAlike u v = v ≡ at_moment u v.last
