@@ -1,5 +1,5 @@
 -- When the timer runs, and whether, makes no difference to what commands are answered.
-use Rattle.std.proofs.Common.{◌≡◌, ◌≤◌, ℕ, zero, suc, List, [], ◌∷◌, ◌++◌, length, filter, map, if◌then◌else◌, Option, None, Some, refl, ap, sym, subst, ◌∙◌, inl, inr, arith}
+use Rattle.std.proofs.Common.{◌≡◌, ◌≤◌, ℕ, zero, suc, Bool, true, false, not, List, [], ◌∷◌, ◌++◌, length, filter, map, if◌then◌else◌, Option, None, Some, refl, ap, sym, subst, ◌∙◌, inl, inr, arith}
 use Rattle.ht_base.specs.declared.event.Command.{Command}
 use Rattle.ht_base.specs.declared.event.Event.{Event}
 use Rattle.ht_base.specs.declared.event.Event.TheVariants.{Ask, Read, Turn}
@@ -20,7 +20,8 @@ use Rattle.ht_machine.specs.declared.sending.Sending.TheVariants.{New, Answered}
 use Rattle.ht_machine.specs.Commands.{Outcome, accepted, refused}
 use Rattle.ht_machine.specs.Deciding.{AsksAs, Decides, DecidesAt, Leads, Settles, after_with, effective}
 use Rattle.ht_machine.specs.History.{History, IsHistory, IsStep}
-use Rattle.ht_machine.specs.Timer.{AreAlike, DifferByTurns, HadMemory, IsTimely, NeverFall, answers_of, events_of, is_command, last_after, moment_after, without_turns}
+use Rattle.ht_machine.specs.Timer.{AreAlike, AddsTurns, HadMemory, IsTimely, NeverFall, answers_of, events_of, is_command, last_after, moment_after}
+use Rattle.ht_machine.specs.Timer.AddsTurns.{both, none as alone, turn as added}
 use Rattle.ht_machine.specs.Turning.{IsTurn}
 use Rattle.ht_machine.proofs.LastMoment.{leads_with_last, turn_with_last}
 use Rattle.ht_machine.proofs.OneOutcome.{same_led}
@@ -117,6 +118,13 @@ same_ask f g s t moment e k l r q u v low low_too meet a b =
     record { answer = same.answer; after = first ∙ ap bare same.after ∙ sym second }
 
 -- ---- histories
+
+abbrev is_turn : Event → Bool
+is_turn (Turn at) = true
+is_turn _ = false
+
+abbrev without_turns : List Event → List Event
+without_turns events = filter (λ e. not (is_turn e)) events
 
 -- the events without Turn events, the answers of the commands, and the last moment and tables
 data Timed : ℕ → TablesOf → List Event → List Answer → ℕ → TablesOf → Type 0 where
@@ -252,24 +260,50 @@ together (Ask at caller retry task c ∷ es) f g s t (x ∷ xs) ys p q u v low l
       low_too = rest.low_too;
     }
 
--- ---- two histories of the same events but for their Turn events
+-- ---- Turn events that are added
 
-module _ (t : TablesOf) (few more : History) (a : IsTimely t few) (b : IsTimely t more) (differ : DifferByTurns (events_of few) (events_of more)) where
-  both : Together (answers_of few) (answers_of more) (last_after t.last (events_of few)) (last_after t.last (events_of more)) (end_of t few) (end_of t more)
-  both =
+same_others : (few more : List Event) → AddsTurns few more → without_turns few ≡ without_turns more
+same_others [] [] alone = refl
+same_others (e ∷ few) [] adds = elim adds [ ]
+same_others (e ∷ few) (x ∷ more) (both rest) = at e (same_others few more rest)
+  where
+    at : (x : Event) → without_turns few ≡ without_turns more → without_turns (x ∷ few) ≡ without_turns (x ∷ more)
+    at (Turn moment) is = is
+    at (Ask moment caller retry task c) is = ap (λ (es : List Event). Ask moment caller retry task c ∷ es) is
+    at (Read caller what) is = ap (λ (es : List Event). Read caller what ∷ es) is
+same_others few (Turn at ∷ more) (added rest) = same_others few more rest
+
+-- the last moment is no lower with them
+no_lower : (f g : ℕ) (few more : List Event) → f ≤ g → AddsTurns few more → NeverFall g more → last_after f few ≤ last_after g more
+no_lower f g [] [] low alone up = low
+no_lower f g (e ∷ few) [] low adds up = elim adds [ ]
+no_lower f g (e ∷ few) (x ∷ more) low (both rest) (up, later) = no_lower (moment_after f e) (moment_after g e) few more (at e) rest later
+  where
+    at : (x : Event) → moment_after f x ≤ moment_after g x
+    at (Turn moment) = omega arith
+    at (Ask moment caller retry task c) = omega arith
+    at (Read caller what) = low
+no_lower f g few (Turn at ∷ more) low (added rest) (up, later) = no_lower f at.0 few more (omega (arith, low, up)) rest later
+
+-- ---- two histories of the same events, to one of which Turn events are added
+
+module _ (t : TablesOf) (few more : History) (a : IsTimely t few) (b : IsTimely t more) (adds : AddsTurns (events_of few) (events_of more)) where
+  compared : Together (answers_of few) (answers_of more) (last_after t.last (events_of few)) (last_after t.last (events_of more)) (end_of t few) (end_of t more)
+  compared =
       let T : List Event → Type 0 = λ es. Timed t.last t es (answers_of few) (last_after t.last (events_of few)) (end_of t few) in
-      together (without_turns (events_of more)) t.last t.last t t (answers_of few) (answers_of more) (last_after t.last (events_of few)) (last_after t.last (events_of more)) (end_of t few) (end_of t more) (omega arith) (omega arith) (same_meet t.last t.last t t refl) (subst T differ (timed t.last t few a.legal a.memory a.moments)) (timed t.last t more b.legal b.memory b.moments)
+      together (without_turns (events_of more)) t.last t.last t t (answers_of few) (answers_of more) (last_after t.last (events_of few)) (last_after t.last (events_of more)) (end_of t few) (end_of t more) (omega arith) (omega arith) (same_meet t.last t.last t t refl) (subst T (same_others (events_of few) (events_of more) adds) (timed t.last t few a.legal a.memory a.moments)) (timed t.last t more b.legal b.memory b.moments)
 
   pub same_answers : answers_of few ≡ answers_of more
-  same_answers = both.answers
+  same_answers = compared.answers
 
-  pub same_ends : (at : Moment) (k l : Option Record) (r q : Reply) (u v : TablesOf) → last_after t.last (events_of few) ≤ at.0 → last_after t.last (events_of more) ≤ at.0 → Decides (end_of t few) (Turn at) k r u → Decides (end_of t more) (Turn at) l q v → AreAlike u v
-  same_ends at k l r q u v low low_too here there =
+  pub same_ends : (at : Moment) (k l : Option Record) (r q : Reply) (u v : TablesOf) → last_after t.last (events_of more) ≤ at.0 → Decides (end_of t few) (Turn at) k r u → Decides (end_of t more) (Turn at) l q v → AreAlike u v
+  same_ends at k l r q u v late here there =
       let s = end_of t few in
       let w = end_of t more in
-      let first_low = both.low in
-      let second_low = both.low_too in
+      let earlier = no_lower t.last t.last (events_of few) (events_of more) (omega arith) adds b.moments in
+      let first_low = compared.low in
+      let second_low = compared.low_too in
       let d = at_its_moment s at.0 (Turn at) k r u (omega arith) here in
       let e = at_its_moment w at.0 (Turn at) l q v (omega arith) there in
-      let same = both.meet at.0 d.dues e.dues (bare d.turned) (bare e.turned) low low_too (bare_turn at.0 s d.turned d.dues d.turn) (bare_turn at.0 w e.turned e.dues e.turn) in
+      let same = compared.meet at.0 d.dues e.dues (bare d.turned) (bare e.turned) (omega arith) late (bare_turn at.0 s d.turned d.dues d.turn) (bare_turn at.0 w e.turned e.dues e.turn) in
       alike u v (turned_by s at.0 at k r u d ∙ same ∙ sym (turned_by w at.0 at l q v e))

@@ -13,4 +13,5 @@ pub mod Sending
 pub mod Sheets
 pub mod TakenOnce
 pub mod Timer
+pub mod TimerExamples
 pub mod Turning

@@ -1,27 +1,23 @@
--- When the timer runs, and whether: histories of the same events but for their Turn events.
-use Rattle.std.specs.Prelude.{◌≡◌, ◌≢◌, ◌≤◌, ℕ, Bool, true, false, not, List, [], ◌∷◌, filter, map}
+-- When the timer runs, and whether: histories of the same events, to which Turn events are added.
+use Rattle.std.specs.Prelude.{◌≡◌, ◌≢◌, ◌≤◌, ℕ, Bool, true, false, List, [], ◌∷◌, filter, map}
 use Rattle.ht_base.specs.declared.event.Event.{Event}
 use Rattle.ht_base.specs.declared.event.Event.TheVariants.{Ask, Read, Turn}
+use Rattle.ht_base.specs.declared.moment.Moment.{Moment}
 use Rattle.ht_base.specs.declared.reply.Answer.{Answer}
 use Rattle.ht_machine.specs.History.{History, IsHistory, memory_reply}
 use Rattle.ht_tree.specs.Tables.{TablesOf, at_moment}
 
 -- ---- events
 
-abbrev pub is_turn : Event → Bool
-is_turn (Turn at) = true
-is_turn _ = false
-
 abbrev pub is_command : Event → Bool
 is_command (Ask at caller retry task command) = true
 is_command _ = false
 
-abbrev pub without_turns : List Event → List Event
-without_turns events = filter (λ e. not (is_turn e)) events
-
--- one is the other with Turn events added or left out, anywhere
-abbrev pub DifferByTurns : List Event → List Event → Type 0
-DifferByTurns few more = without_turns few ≡ without_turns more
+-- the second list is the first with Turn events added, anywhere
+pub data AddsTurns : List Event → List Event → Type 0 where
+  none : AddsTurns [] []
+  both : {e : Event} {few more : List Event} → AddsTurns few more → AddsTurns (e ∷ few) (e ∷ more)
+  turn : {at : Moment} {few more : List Event} → AddsTurns few more → AddsTurns few (Turn at ∷ more)
 
 -- the moment of an event; a read has that of the event before it
 abbrev pub moment_after : ℕ → Event → ℕ

@@ -15,7 +15,7 @@ ghost use Rattle.ht_machine.specs.Deciding.{Decides};
 ghost use Rattle.ht_machine.specs.History.{History, IsHistory};
 ghost use Rattle.ht_machine.specs.Once.{IsAccepted, IsSince, Remembers};
 ghost use Rattle.ht_machine.specs.TakenOnce.{AreNumbered, WasTaken, is_among};
-ghost use Rattle.ht_machine.specs.Timer.{AreAlike, DifferByTurns, IsTimely, answers_of, events_of, last_after};
+ghost use Rattle.ht_machine.specs.Timer.{AreAlike, AddsTurns, IsTimely, answers_of, events_of, last_after};
 ghost use Rattle.ht_machine.specs.Turning.{IsTurn};
 ghost use Rattle.ht_tree.specs.declared.slot.Slot.{Slot};
 ghost use Rattle.ht_tree.specs.Slots.{slot_cmp};
@@ -46,17 +46,18 @@ pub fn a_turn_may_come_in_two()
     ensures taken { (t u v w : TablesOf) (m n : ℕ) (ds es fs : List Due) → m ≤ n → IsTurn m t ds u → IsTurn n u es v → IsTurn n t fs w → ds ++ es ≡ fs }
 {}
 
-/// When the timer runs, and whether, changes no answer of a command: two histories from the same tables,
-/// of the same events but for Turn events, at moments that don't fall and without want of memory, answer
-/// their commands alike.
+/// When the timer runs, and whether, changes no answer of a command: of two histories from the same
+/// tables, where one has the events of the other and Turn events beside them, the commands are answered
+/// alike. The moments don't fall and begin no lower than that of the last record, and memory doesn't run
+/// out.
 pub fn the_timer_changes_no_answer()
-    ensures { (t : TablesOf) (few more : History) → IsTimely t few → IsTimely t more → DifferByTurns (events_of few) (events_of more) → answers_of few ≡ answers_of more }
+    ensures { (t : TablesOf) (few more : History) → IsTimely t few → IsTimely t more → AddsTurns (events_of few) (events_of more) → answers_of few ≡ answers_of more }
 {}
 
-/// After one more Turn event, at a moment that none of their events is behind, such histories end with
+/// One more Turn event, at the last moment of the history that has more of them or behind it, leaves
 /// tables that are equal but for the moment of the last record.
 pub fn a_last_turn_leaves_the_same()
-    ensures { (t : TablesOf) (few more : History) → IsTimely t few → IsTimely t more → DifferByTurns (events_of few) (events_of more) → (at : Moment) → last_after t.last (events_of few) ≤ at.0 → last_after t.last (events_of more) ≤ at.0 → (k l : Option Record) (r s : Reply) (u v : TablesOf) → Decides (end_of t few) (Turn at) k r u → Decides (end_of t more) (Turn at) l s v → AreAlike u v }
+    ensures { (t : TablesOf) (few more : History) → IsTimely t few → IsTimely t more → AddsTurns (events_of few) (events_of more) → (at : Moment) → last_after t.last (events_of more) ≤ at.0 → (k l : Option Record) (r s : Reply) (u v : TablesOf) → Decides (end_of t few) (Turn at) k r u → Decides (end_of t more) (Turn at) l s v → AreAlike u v }
 {}
 
 /// A deadline that was taken is never taken again: it stays so whatever event comes, and no turn takes it.
