@@ -7,6 +7,7 @@ use Rattle.ht_base.specs.declared.moment.Moment.{Moment}
 use Rattle.ht_base.specs.declared.record.Record.{Record}
 use Rattle.ht_base.specs.declared.record.Record.TheVariants.{Asked, Opening, Turn}
 use Rattle.ht_base.specs.declared.reply.Answer.{Answer}
+use Rattle.ht_base.specs.declared.reply.Answer.TheVariants.{Refused}
 use Rattle.ht_base.specs.declared.reply.Limit.TheVariants.{Tasks}
 use Rattle.ht_base.specs.declared.reply.Refusal.TheVariants as refusal
 use Rattle.ht_base.specs.declared.reply.Unknown.TheVariants as unknown
@@ -23,11 +24,14 @@ use Rattle.ht_tree.specs.declared.row.Row.{Row}
 use Rattle.ht_tree.specs.Plans.{Goes, IsPlanOf, IsPrepared, PlanOf, committed, planned}
 use Rattle.ht_tree.specs.Soundness.{IsSound, KeepsSound}
 use Rattle.ht_tree.specs.Tables.{RoomyTables, TablesOf, model_named, task_row}
+use Rattle.ht_machine.specs.declared.answering.Response.{Response}
+use Rattle.ht_machine.specs.declared.answering.Response.TheVariants as response
 use Rattle.ht_machine.specs.declared.asking.Asked.{Asked as Ask}
 use Rattle.ht_machine.specs.declared.deciding.Decision.{Decision}
 use Rattle.ht_machine.specs.Commands.{ActivatesUnless, Outcome, accepted, refused}
 use Rattle.ht_machine.specs.declared.sending.Sending.TheVariants.{New}
 use Rattle.ht_machine.specs.Deciding.{Asks, AsksAs, Decides, DecidesAt}
+use Rattle.ht_machine.specs.Sending.{answer_of}
 
 -- ---- commands
 
@@ -80,6 +84,16 @@ pub record IsAsked (a : Ask) : Type 0 where
 -- as what it is kept
 abbrev pub record_of : Ask → Record
 record_of a = Asked a.at a.caller a.retry a.task a.command.now
+
+-- the record that a command leaves itself, by how it is answered, and its answer
+abbrev pub record_left : Ask → Response → Option Record
+record_left a (response.Accepted kept) = Some (record_of a)
+record_left a _ = None
+
+abbrev pub answer_given : Response → Answer
+answer_given (response.Accepted kept) = answer_of kept
+answer_given (response.Answered kept) = answer_of kept
+answer_given (response.Refused other) = Refused other
 
 -- the last moment is that of the record that is kept
 abbrev pub last_after : TablesOf → Option Record → ℕ

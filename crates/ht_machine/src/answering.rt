@@ -7,8 +7,16 @@ ghost use Rattle.ht_tree.specs.Tables.{directory, task_row};
 ghost use Rattle.ht_tree.specs.declared.row.Row.{Row};
 
 use crate::naming::name_or_none;
-use ht_base::{Answer, TaskId};
+use ht_base::{Answer, Refusal, TaskId};
 use ht_tree::{Kept, Plan, Tables};
+
+/// How a command is answered: it is accepted with this reply, or was before, or it is refused.
+#[derive(Clone, Copy, Debug, PartialEq, Eq)]
+pub(crate) enum Response {
+    Accepted(Kept),
+    Answered(Kept),
+    Refused(Refusal),
+}
 
 /// What is answered of a task as it would be after the plan: its state and its owner.
 pub(crate) fn done(tables: &Tables, plan: &Plan, task: TaskId) -> Kept

@@ -1,11 +1,11 @@
 ghost use Rattle.std.specs.Prelude.{◌≡◌, ◌≤◌, ◌<◌, IfOk, length};
 ghost use Rattle.ht_machine.specs.Planning as spec;
-ghost use Rattle.ht_machine.specs.Planning.{IsReady, PlansAsk, PlansNew};
+ghost use Rattle.ht_machine.specs.Planning.{IsReady, PlansAsk, PlansNew, answer_given, record_left};
 
-use crate::answering::{answer_of, done};
+use crate::answering::{Response, done};
 use crate::commanding::command;
 use crate::sending::{Sending, keep, sending_of};
-use ht_base::{Answer, Command, Memory, Moment, Name, Person, Record, Retry, TaskId};
+use ht_base::{Command, Memory, Moment, Name, Person, Record, Retry, TaskId};
 use ht_owner::ActRefusal;
 use ht_tree::{Plan, Tables};
 use std::alloc::Global;
@@ -20,24 +20,23 @@ pub(crate) struct Asked<'a> {
     pub(crate) command: &'a Command,
 }
 
-/// Plans a command, unless its caller is no person or its number tells that it isn't new. It tells the
-/// record that the command leaves, and its answer.
+/// Plans a command, unless its caller is no person or its number tells that it isn't new.
 pub(crate) fn ask(
     alloc: Global,
     tables: &Tables,
     plan: &mut Plan,
     asked: &Asked<'_>,
-) -> Result<(Option<Record>, Answer), Memory>
+) -> Result<Response, Memory>
     requires ready { IsReady tables.now.tables plan.old }
     requires later { tables.now.tables.last ≤ asked.now.at.0 }
     requires asked { spec.IsAsked asked.now }
-    ensures { IfOk result (λ r. PlansAsk tables.now.tables plan.old plan.new asked.now.at.0 asked.now.caller asked.now.retry asked.now.task asked.now.command.now r.0 r.1) }
+    ensures { IfOk result (λ r. PlansAsk tables.now.tables plan.old plan.new asked.now.at.0 asked.now.caller asked.now.retry asked.now.task asked.now.command.now (record_left asked.now r) (answer_given r)) }
 {
     let op = asked.command.op();
     match sending_of(tables, asked.caller, asked.retry, op, asked.task) {
         Sending::New(person) => ask_anew(alloc, tables, plan, person, asked),
-        Sending::Answered(kept) => Ok((None, answer_of(&kept))),
-        Sending::Refused(refusal) => Ok((None, Answer::Refused(refusal))),
+        Sending::Answered(kept) => Ok(Response::Answered(kept)),
+        Sending::Refused(refusal) => Ok(Response::Refused(refusal)),
     }
 }
 
@@ -48,12 +47,12 @@ fn ask_anew(
     plan: &mut Plan,
     person: Person,
     asked: &Asked<'_>,
-) -> Result<(Option<Record>, Answer), Memory>
+) -> Result<Response, Memory>
     requires ready { IsReady tables.now.tables plan.old }
     requires later { tables.now.tables.last ≤ asked.now.at.0 }
     requires person { person < length tables.now.tables.people.persons }
     requires asked { spec.IsAsked asked.now }
-    ensures { IfOk result (λ r. PlansNew tables.now.tables plan.old plan.new asked.now.at.0 person asked.now.retry asked.now.task asked.now.command.now (spec.record_of asked.now) r.0 r.1) }
+    ensures { IfOk result (λ r. PlansNew tables.now.tables plan.old plan.new asked.now.at.0 person asked.now.retry asked.now.task asked.now.command.now (spec.record_of asked.now) (record_left asked.now r) (answer_given r)) }
 {
     match command(
         alloc,
@@ -66,7 +65,6 @@ fn ask_anew(
     ) {
         Ok(about) => {
             let kept = done(tables, plan, about);
-            let left = record_of(alloc, asked)?;
             keep(
                 plan,
                 person,
@@ -75,18 +73,18 @@ fn ask_anew(
                 asked.task,
                 &kept,
             );
-            Ok((Some(left), answer_of(&kept)))
+            Ok(Response::Accepted(kept))
         }
         Err(ActRefusal::Refused(refusal)) => {
             plan.back();
-            Ok((None, Answer::Refused(refusal)))
+            Ok(Response::Refused(refusal))
         }
         Err(ActRefusal::Memory) => Err(Memory),
     }
 }
 
-// As what a command is kept.
-fn record_of(alloc: Global, asked: &Asked<'_>) -> Result<Record, Memory>
+/// As what a command is kept.
+pub(crate) fn record_of(alloc: Global, asked: &Asked<'_>) -> Result<Record, Memory>
     ensures { IfOk result (λ r. r ≡ spec.record_of asked.now) }
 {
     Ok(Record::Asked {

@@ -49,6 +49,8 @@ pub(crate) fn command(
 }
 
 // Plans a command on a task, unless the gate is shut.
+// Apart from the create, for which its locals would be cleared too.
+#[inline(never)]
 fn act_on(
     alloc: Global,
     tables: &Tables,

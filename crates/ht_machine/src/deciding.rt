@@ -1,4 +1,4 @@
-ghost use Rattle.std.specs.Prelude.{◌≡◌, ◌≤◌, max, IfOk, MatchResult, OnErr};
+ghost use Rattle.std.specs.Prelude.{◌≡◌, ◌≤◌, max, None, IfOk, MatchResult, OnErr};
 ghost use Rattle.ht_base.specs.Events.{IsValid};
 ghost use Rattle.ht_machine.specs.Deciding as deciding;
 ghost use Rattle.ht_machine.specs.History.{IsStep, memory_reply};
@@ -8,7 +8,8 @@ ghost use Rattle.ht_machine.specs.Planning.{IsDecided, Plans, PlansBehindTurn};
 ghost use Rattle.ht_tree.specs.Plans.{committed, no_plan};
 ghost use Rattle.ht_tree.specs.Soundness.{IsSound};
 
-use crate::asking::{Asked, ask};
+use crate::answering::{Response, answer_of};
+use crate::asking::{Asked, ask, record_of};
 use crate::reading::read;
 use crate::turning::turn;
 use ht_base::{Answer, Event, Memory, Moment, Record, Reply};
@@ -76,7 +77,7 @@ fn plan_event(
             let at = effective(last, *at);
             let taken = turn(alloc, tables, plan, at)?;
             let answer = Answer::Turned;
-            Ok((left_with(at, taken, None), Reply { taken, answer }))
+            Ok((turn_left(at, taken), Reply { taken, answer }))
         }
         Event::Ask {
             at,
@@ -123,17 +124,20 @@ fn turn_then_ask(
 {
     let taken = turn(alloc, tables, plan, asked.at)?;
     plan.mark();
-    let (own, answer) = ask(alloc, tables, plan, asked)?;
-    Ok((left_with(asked.at, taken, own), Reply { taken, answer }))
+    let (left, answer) = match ask(alloc, tables, plan, asked)? {
+        Response::Accepted(kept) => (Some(record_of(alloc, asked)?), answer_of(&kept)),
+        Response::Answered(kept) => (turn_left(asked.at, taken), answer_of(&kept)),
+        Response::Refused(refusal) => (turn_left(asked.at, taken), Answer::Refused(refusal)),
+    };
+    Ok((left, Reply { taken, answer }))
 }
 
-// The record of an event before which so many actions were taken, and that leaves this one itself.
-fn left_with(at: Moment, taken: u32, own: Option<Record>) -> Option<Record>
-    ensures { result ≡ deciding.left_with at.0 taken own }
+// The record of a turn that took so many actions.
+fn turn_left(at: Moment, taken: u32) -> Option<Record>
+    ensures { result ≡ deciding.left_with at.0 taken None }
 {
-    match own {
-        Some(record) => Some(record),
-        None if taken > 0 => Some(Record::Turn { at }),
-        None => None,
+    match taken {
+        0 => None,
+        _ => Some(Record::Turn { at }),
     }
 }

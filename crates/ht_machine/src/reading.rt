@@ -11,6 +11,8 @@ use ht_tree::{Plan, Tables};
 use std::alloc::Global;
 
 /// What a caller, who must be a person, asks of the tables as they stand.
+// Apart from the commands, for each of which its locals would be cleared too.
+#[inline(never)]
 pub(crate) fn read(
     alloc: Global,
     tables: &Tables,

@@ -30,6 +30,8 @@ pub fn turn(alloc: Global, tables: &Tables, plan: &mut Plan, at: Moment) -> Resu
 
 // An action that is taken comes behind the one before it in the order of dues, so what is due is walked
 // once.
+// Apart, since its locals would be cleared also where nothing is due.
+#[inline(never)]
 fn take_all(alloc: Global, tables: &Tables, plan: &mut Plan, at: Moment) -> Result<u32, Memory>
     requires plan { IsPlanOf tables.now.tables plan.old }
     requires sound { IsSound (planned tables.now.tables plan.old) }

@@ -1,7 +1,5 @@
 use Rattle.std.proofs.Common.{◌≡◌, Err, Some, ap, sym, subst, ◌∙◌}
 use Rattle.ht_base.specs.declared.operation.Op.{Op}
-use Rattle.ht_base.specs.declared.record.Record.{Record}
-use Rattle.ht_base.specs.declared.reply.Answer.{Answer}
 use Rattle.ht_base.specs.Events.{op_of}
 use Rattle.ht_machine.specs.Commands.{Comes}
 use Rattle.ht_machine.specs.Planning.{PlansNew, Tries, record_of}
@@ -12,8 +10,8 @@ use Rattle.ht_owner.specs.declared.refusal.ActRefusal.{ActRefusal}
 use Rattle.ht_owner.specs.declared.refusal.ActRefusal.TheVariants as why
 use Rattle.ht_tree.specs.Plans.{PlanOf, planned}
 
-pub returns-in_ok-left-in-Ok : goal.returns-in_ok-left-in-Ok
-returns-in_ok-left-in-Ok c =
+pub returns-in-Ok : goal.returns-in-Ok
+returns-in-Ok c =
     let t = c.args.tables.now.tables in
     let a = c.args.asked.now in
     let p = c.args.plan.now in
@@ -21,11 +19,8 @@ returns-in_ok-left-in-Ok c =
     let person = c.args.person in
     let kept = c.done-kept.result in
     let P : PlanOf → Type 0 = λ x. PlansNew t p x a.at.0 person a.retry a.task a.command.now (record_of a) (Some (record_of a)) (answer_of kept) in
-    let L : Record → Type 0 = λ r. PlansNew t p c.keep.new.plan a.at.0 person a.retry a.task a.command.now (record_of a) (Some r) (answer_of kept) in
-    let A : Answer → Type 0 = λ x. PlansNew t p c.keep.new.plan a.at.0 person a.retry a.task a.command.now (record_of a) (Some c.in_ok-left-in-Ok.left) x in
     let plan_is : c.keep.new.plan ≡ keeping_reply q person a.retry (op_of a.command.now) a.task kept = c.keep.ensures ∙ ap (λ (o : Op). keeping_reply q person a.retry o a.task kept) c.op.ensures in
-    let plans = asked_anew t p q person a c.requires.ready c.in-Ok.about kept c.requires.later c.requires.person c.requires.asked c.in-Ok.ensures c.done-kept.ensures.shows c.done-kept.ensures.known in
-    subst A (sym c.answer_of.ensures) (subst L (sym c.in_ok-left-in-Ok.ensures) (subst P (sym plan_is) plans))
+    subst P (sym plan_is) (asked_anew t p q person a c.requires.ready c.in-Ok.about kept c.requires.later c.requires.person c.requires.asked c.in-Ok.ensures c.done-kept.ensures.shows c.done-kept.ensures.known)
 
 pub returns-in-Err-Refused : goal.returns-in-Err-Refused
 returns-in-Err-Refused c =

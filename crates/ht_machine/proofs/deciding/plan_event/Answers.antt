@@ -30,10 +30,10 @@ returns-in_ok-taken-in-Turn c =
     let valid : at.0 ≤ last_moment = subst V c.in-Turn.is c.requires.valid in
     let within : moment ≤ last_moment = omega (arith, is, last, last_within, valid) in
     let later : t.last ≤ moment = omega (arith, is, last) in
-    let r = turn_plans t c.args.plan.now c.turn.new.plan moment c.in_ok-taken-in-Turn.taken c.requires.plan c.in_ok-taken-in-Turn.ensures.turns at within later c.left_with.result c.left_with.ensures in
+    let r = turn_plans t c.args.plan.now c.turn.new.plan moment c.in_ok-taken-in-Turn.taken c.requires.plan c.in_ok-taken-in-Turn.ensures.turns at within later c.turn_left.result c.turn_left.ensures in
     let same : moment ≡ effective t at.0 = is ∙ ap (λ (n : ℕ). max at.0 n) last in
-    let D : ℕ → Type 0 = λ m. DecidesAt t m (event.Turn at) c.left_with.result (record { taken = c.in_ok-taken-in-Turn.taken; answer = Turned }) r.0 in
-    let E : Event → Type 0 = λ e. Decides t e c.left_with.result (record { taken = c.in_ok-taken-in-Turn.taken; answer = Turned }) r.0 in
+    let D : ℕ → Type 0 = λ m. DecidesAt t m (event.Turn at) c.turn_left.result (record { taken = c.in_ok-taken-in-Turn.taken; answer = Turned }) r.0 in
+    let E : Event → Type 0 = λ e. Decides t e c.turn_left.result (record { taken = c.in_ok-taken-in-Turn.taken; answer = Turned }) r.0 in
     record { after = r.0; decides = subst E (sym c.in-Turn.is) (subst D same r.1); leaves = r.2 }
 
 pub returns-in_ok-answer-in-Read : goal.returns-in_ok-answer-in-Read
