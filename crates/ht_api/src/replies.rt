@@ -51,7 +51,7 @@ fn put_answer(answer: &Answer, writer: &mut Writer) -> Result<(), Memory>
     match answer {
         Answer::Done { task, state, owner } => put_done(*task, *state, owner, writer),
         Answer::Turned => put_turned(writer),
-        Answer::Sheet(sheet) => put_sheet(sheet, writer),
+        Answer::Sheet(sheet) => put_sheet(sheet.as_sheet(), writer),
         Answer::Refused(refusal) => put_refusal(refusal, writer),
     }
 }

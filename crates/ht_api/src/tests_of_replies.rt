@@ -1,8 +1,8 @@
 use crate::fits::parts_in;
 use crate::text_of;
 use ht_base::{
-    Answer, Bytes, Ids, Limit, Moment, Name, Names, Parts, Refusal, Reply, Roles, Sheet,
-    ShownComment, ShownComments, State, StateSet, TaskId, Txt, Unknown,
+    Answer, BoxedSheet, Bytes, Ids, Limit, Moment, Name, Names, Parts, Refusal, Reply, Roles,
+    Sheet, ShownComment, ShownComments, State, StateSet, TaskId, Txt, Unknown,
 };
 use serde_json::Value;
 use std::alloc::Global;
@@ -290,6 +290,7 @@ fn a_sheet_is_told(rt: HostRuntime) -> Result<(), Fail> {
         \"model\":\"unit\",\"output\":{},\"owner\":\"anna\",\"parent\":null,\
         \"potentialOwners\":[\"anna\",\"ben\"],\"priority\":5,\"stakeholders\":[],\"started\":false,\
         \"state\":\"Reserved\",\"subs\":[],\"task\":1,\"until\":null,\"waits\":null}";
+    let sheet = BoxedSheet::new(rt.alloc(), sheet)?;
     is_answered(&rt, rt.alloc(), Answer::Sheet(sheet), 200, text)
 }
 
@@ -344,5 +345,6 @@ fn a_sheet_may_have_each_value(rt: HostRuntime) -> Result<(), Fail> {
         until: Some(Moment(4)),
         waits: Some(Moment(253_402_300_799_999)),
     };
+    let sheet = BoxedSheet::new(rt.alloc(), sheet)?;
     is_answered(&rt, rt.alloc(), Answer::Sheet(sheet), 200, FULL_SHEET)
 }

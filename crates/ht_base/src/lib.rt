@@ -2,6 +2,7 @@
 //! and roles of a task, and the events, replies and refusals of the task machine.
 #![tactic(auto)]
 
+mod boxed_sheet;
 mod bytes;
 mod end;
 mod event;
@@ -38,6 +39,7 @@ mod value;
 mod value_list;
 mod values;
 
+pub use boxed_sheet::BoxedSheet;
 pub use bytes::Bytes;
 pub use end::End;
 pub use event::{Command, Event, Query};

@@ -1,4 +1,4 @@
-use crate::{Name, Roles, Sheet, State, StateSet, TaskId};
+use crate::{BoxedSheet, Name, Roles, State, StateSet, TaskId};
 
 /// The limit that a command would pass.
 #[derive(Clone, Copy, Debug, PartialEq, Eq)]
@@ -85,7 +85,7 @@ pub enum Answer {
     },
     /// What was due is done.
     Turned,
-    Sheet(Sheet),
+    Sheet(BoxedSheet),
     Refused(Refusal),
 }
 

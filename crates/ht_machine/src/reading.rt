@@ -6,7 +6,7 @@ ghost use Rattle.ht_tree.specs.Tables.{directory};
 
 use crate::gating::refusal_at_gate;
 use crate::sheets::sheet;
-use ht_base::{Answer, Memory, Name, Op, Person, Query, Refusal, TaskId};
+use ht_base::{Answer, BoxedSheet, Memory, Name, Op, Person, Query, Refusal, TaskId};
 use ht_tree::{Plan, Tables};
 use std::alloc::Global;
 
@@ -39,7 +39,10 @@ fn show(alloc: Global, tables: &Tables, person: Person, task: TaskId) -> Result<
         return Ok(Answer::Refused(refusal));
     }
     match tables.row(task) {
-        Some(row) => Ok(Answer::Sheet(sheet(alloc, tables, &nothing, row)?)),
+        Some(row) => {
+            let sheet = sheet(alloc, tables, &nothing, row)?;
+            Ok(Answer::Sheet(BoxedSheet::new(alloc, sheet)?))
+        }
         None => unreachable!(),
     }
 }

@@ -172,7 +172,7 @@ pub(crate) fn sheet_of(
 ) -> Result<Sheet, Fail> {
     let event = get(caller, task).ok_or("an event")?;
     match run_one(alloc, tables, &event)?.answer {
-        Answer::Sheet(sheet) => Ok(sheet),
+        Answer::Sheet(sheet) => Ok(sheet.into_sheet()),
         _ => Err(Fail::from("no sheet")),
     }
 }
