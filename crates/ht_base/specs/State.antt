@@ -22,6 +22,20 @@ state_name Obsolete = codes "Obsolete"
 abbrev pub all_states : List State
 all_states = Created ∷ Ready ∷ Reserved ∷ InProgress ∷ SuspendedReady ∷ SuspendedReserved ∷ SuspendedInProgress ∷ Completed ∷ Failed ∷ Error ∷ Exited ∷ Obsolete ∷ []
 
+-- a task has ended well
+abbrev pub is_completed : State → Bool
+is_completed Completed = true
+is_completed _ = false
+
+-- it has ended, in whichever way
+abbrev pub is_final : State → Bool
+is_final Completed = true
+is_final Failed = true
+is_final Error = true
+is_final Exited = true
+is_final Obsolete = true
+is_final _ = false
+
 abbrev pub contains_state : StateSet → State → Bool
 contains_state s Created = s.created
 contains_state s Ready = s.ready

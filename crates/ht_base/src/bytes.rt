@@ -22,7 +22,7 @@ impl Model for Bytes {
 }
 
 impl Bytes {
-    /// No bytes, and no room kept for any.
+    /// No bytes.
     pub fn new(alloc: Global) -> Bytes
         ensures { result.items ≡ [] }
     {

@@ -33,13 +33,22 @@ impl Persons {
         }
     }
 
-    /// Nobody, with room for this many.
+    /// Nobody. It takes memory for this many.
     pub fn with_capacity(alloc: Global, count: usize) -> Result<Persons, Memory>
         ensures { IfOk result (λ persons. persons ≡ []) }
     {
         Ok(Persons {
             items: Vec::with_capacity(alloc, count)?,
         })
+    }
+
+    /// One person.
+    pub fn alone(alloc: Global, person: Person) -> Result<Persons, Memory>
+        ensures { IfOk result (λ persons. persons ≡ person ∷ []) }
+    {
+        let mut persons = Persons::with_capacity(alloc, 1)?;
+        persons.push(person)?;
+        Ok(persons)
     }
 
     pub fn copy(&self, alloc: Global) -> Result<Persons, Memory>

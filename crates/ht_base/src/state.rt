@@ -1,4 +1,5 @@
 ghost use Rattle.std.specs.Prelude.{◌≡◌, ◌≤◌, length};
+ghost use Rattle.ht_base.specs.State as spec;
 ghost use Rattle.ht_base.specs.State.{state_name, contains_state, with_state};
 
 /// The state of a task (WS-HumanTask 1.1, 4.10 "Human task behavior and state transitions").
@@ -54,6 +55,23 @@ impl State {
             State::Exited => "Exited",
             State::Obsolete => "Obsolete",
         }
+    }
+
+    /// Whether a task in it has ended well.
+    pub fn is_completed(self) -> bool
+        ensures { result ≡ spec.is_completed self }
+    {
+        matches!(self, State::Completed)
+    }
+
+    /// Whether a task in it has ended, in whichever way.
+    pub fn is_final(self) -> bool
+        ensures { result ≡ spec.is_final self }
+    {
+        matches!(
+            self,
+            State::Completed | State::Failed | State::Error | State::Exited | State::Obsolete
+        )
     }
 }
 

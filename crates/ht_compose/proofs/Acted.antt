@@ -7,7 +7,7 @@ use Rattle.ht_compose.specs.Items.{Does, Item, Step, does, on_model, on_row, on_
 use Rattle.ht_compose.specs.Running.{Acts, item_of}
 use Rattle.ht_models.specs.Model.{ModelOf}
 use Rattle.ht_tree.specs.declared.row.Row.{Row}
-use Rattle.ht_tree.specs.Families.{is_final}
+use Rattle.ht_base.specs.State.{is_final}
 use Rattle.ht_tree.specs.Plans.{Goes, IsNext, IsPlanOf, Lends, PlanOf, planned}
 use Rattle.ht_tree.specs.Soundness.{Fits, IsSound, IsSoundRow}
 use Rattle.ht_tree.specs.Tables.{TablesOf, model_of, task_row, with_row}

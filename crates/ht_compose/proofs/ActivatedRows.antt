@@ -11,7 +11,7 @@ use Rattle.ht_compose.specs.Items.Item.{Activate, Begin}
 use Rattle.ht_models.specs.Model.{ModelOf}
 use Rattle.ht_tree.specs.declared.row.Row.{Row}
 use Rattle.ht_tree.specs.Activation.{state_by}
-use Rattle.ht_tree.specs.Families.{is_final}
+use Rattle.ht_base.specs.State.{is_final}
 use Rattle.ht_tree.specs.Soundness.{IsSoundRow, IsWhose, is_created, is_owned, is_suspended, needs_owner}
 use Rattle.ht_tree.specs.Tables.{TablesOf, model_of, task_row, with_row}
 use Rattle.ht_tree.proofs.PublicLaws.{by_people, filed_of}

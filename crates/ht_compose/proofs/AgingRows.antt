@@ -23,7 +23,7 @@ use Rattle.ht_models.specs.declared.deadlines.DeadlineKind.TheVariants.{Start, C
 use Rattle.ht_models.specs.Model.{DeadlineOf, ModelOf}
 use Rattle.ht_tree.specs.declared.row.Row.{Row}
 use Rattle.ht_tree.specs.Activation.{state_by}
-use Rattle.ht_tree.specs.Families.{is_final}
+use Rattle.ht_base.specs.State.{is_final}
 use Rattle.ht_tree.specs.RowDues.{deadline_due, deadline_dues, deadline_moment, deadlines_of, due_of, is_obsolete, kind_of, moment_by, open_moment, row_dues}
 use Rattle.ht_tree.specs.Soundness.{is_created, is_suspended}
 

@@ -25,7 +25,8 @@ use Rattle.ht_models.specs.Model.{FinishOf, ModelOf}
 use Rattle.ht_models.specs.SubEntries.{SubEntry}
 use Rattle.ht_tree.proofs.PublicLaws.{row_at-map, row_at-put_in, within}
 use Rattle.ht_tree.specs.declared.row.Row.{Row}
-use Rattle.ht_tree.specs.Families.{is_final, is_made}
+use Rattle.ht_base.specs.State.{is_final}
+use Rattle.ht_tree.specs.Families.{is_made}
 use Rattle.ht_tree.specs.Plans.{IsNext}
 use Rattle.ht_tree.specs.Rows.{put_in, row_at}
 use Rattle.ht_tree.specs.Soundness.{is_created}

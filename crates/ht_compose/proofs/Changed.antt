@@ -12,7 +12,7 @@ use Rattle.ht_compose.specs.Reaching.{changed, touches}
 use Rattle.ht_models.specs.Model.{ModelOf}
 use Rattle.ht_rules.specs.States.{opened}
 use Rattle.ht_tree.specs.declared.row.Row.{Row}
-use Rattle.ht_tree.specs.Families.{is_final}
+use Rattle.ht_base.specs.State.{is_final}
 use Rattle.ht_tree.specs.Soundness.{FitsIn, IsSoundIn, IsTimed, IsWhose, is_created, is_owned, is_ownerless, is_suspended, needs_owner}
 use Rattle.ht_tree.proofs.PublicLaws.{standing}
 

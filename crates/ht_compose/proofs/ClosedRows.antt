@@ -6,7 +6,7 @@ use Rattle.ht_compose.specs.Downward.{closed, end_below, ended}
 use Rattle.ht_compose.specs.Families.{is_above}
 use Rattle.ht_tree.proofs.PublicLaws.{standing}
 use Rattle.ht_tree.specs.declared.row.Row.{Row}
-use Rattle.ht_tree.specs.Families.{is_final}
+use Rattle.ht_base.specs.State.{is_final}
 
 ended_stands : (end : State) (row : Row) → standing (ended end row) ≡ standing row
 ended_stands end row = cases (is_final row.state)

@@ -3,7 +3,7 @@ use Rattle.std.proofs.Common.{◌≡◌, ℕ, ◌+◌, ◌≤◌, zero, suc, Boo
 use Rattle.std.specs.Prelude.{slice_get, slice_set}
 use Rattle.ht_compose.specs.Work.{going_on}
 use Rattle.ht_tree.specs.declared.row.Row.{Row}
-use Rattle.ht_tree.specs.Families.{is_final}
+use Rattle.ht_base.specs.State.{is_final}
 
 abbrev one : Row → ℕ
 one row = if is_final row.state then 0 else 1

@@ -15,7 +15,8 @@ use Rattle.ht_compose.proofs.SubRows.{made_among}
 use Rattle.ht_models.specs.Model.{ModelOf}
 use Rattle.ht_models.specs.SubEntries.{SubEntry}
 use Rattle.ht_tree.specs.declared.row.Row.{Row}
-use Rattle.ht_tree.specs.Families.{is_final, is_made, is_of_entry, sub_tasks}
+use Rattle.ht_base.specs.State.{is_final}
+use Rattle.ht_tree.specs.Families.{is_made, is_of_entry, sub_tasks}
 use Rattle.ht_tree.specs.Soundness.{IsSound}
 use Rattle.ht_tree.specs.Tables.{TablesOf, model_of, task_row}
 

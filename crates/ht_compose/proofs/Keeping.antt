@@ -13,7 +13,8 @@ use Rattle.ht_models.specs.SubEntries.{SubEntry}
 use Rattle.ht_models.specs.TreeSizes.{AreSized, entry_size}
 use Rattle.ht_tree.proofs.PublicLaws.{Alike, alike_put, behind_is, in_less, in_push, map_alike, new_small, of_itself, of_less, put_new, put_old, standing, there_alike, to_come_alike}
 use Rattle.ht_tree.specs.declared.row.Row.{Row}
-use Rattle.ht_tree.specs.Families.{is_final, is_made, to_come}
+use Rattle.ht_base.specs.State.{is_final}
+use Rattle.ht_tree.specs.Families.{is_made, to_come}
 use Rattle.ht_tree.specs.Plans.{Replaces}
 use Rattle.ht_tree.specs.Rows.{put_in, row_at}
 use Rattle.ht_tree.specs.Sizes.{size_of}

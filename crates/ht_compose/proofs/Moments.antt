@@ -1,4 +1,4 @@
--- What is done on composite tasks is the same whatever the moment of the last accepted command was.
+-- What is done on composite tasks is the same whatever the moment of the last record was.
 use Rattle.std.proofs.Common.{◌≡◌, ℕ, Bool, true, false, not, ◌&&◌, ◌||◌, List, [], ◌∷◌, ◌++◌, Option, None, Some, if◌then◌else◌, refl, ap, sym, ◌∙◌}
 use Rattle.std.specs.Prelude.{slice_get}
 use Rattle.ht_base.specs.declared.moment.Moment.{Moment}
@@ -13,7 +13,8 @@ use Rattle.ht_compose.specs.Items.Item.{Activate, Begin, Check, Close, Make, Nex
 use Rattle.ht_models.specs.Model.{FinishOf, ModelOf}
 use Rattle.ht_models.specs.SubEntries.{SubEntry}
 use Rattle.ht_tree.specs.declared.row.Row.{Row}
-use Rattle.ht_tree.specs.Families.{is_final, is_made}
+use Rattle.ht_base.specs.State.{is_final}
+use Rattle.ht_tree.specs.Families.{is_made}
 use Rattle.ht_tree.specs.Soundness.{is_created}
 use Rattle.ht_tree.specs.Tables.{TablesOf, at_moment, model_at, model_named, model_of, task_row, with_rows}
 

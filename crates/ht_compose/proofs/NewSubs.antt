@@ -15,7 +15,8 @@ use Rattle.ht_models.specs.Model.{ModelOf, names}
 use Rattle.ht_models.specs.SubEntries.{SubEntry}
 use Rattle.ht_tree.specs.declared.row.Row.{Row}
 use Rattle.ht_tree.specs.Creating.{IsInput, new_row}
-use Rattle.ht_tree.specs.Families.{IsNewSub, is_final, is_made}
+use Rattle.ht_base.specs.State.{is_final}
+use Rattle.ht_tree.specs.Families.{IsNewSub, is_made}
 use Rattle.ht_tree.specs.Plans.{Goes, PlanOf, planned}
 use Rattle.ht_tree.specs.Soundness.{IsHeldBy, IsSound}
 use Rattle.ht_tree.specs.Tables.{TablesOf, model_at, model_of, task_row, with_row}

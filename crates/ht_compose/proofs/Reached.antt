@@ -13,7 +13,8 @@ use Rattle.ht_compose.specs.Reaching.{Ends, all_reached, changed, reached}
 use Rattle.ht_compose.proofs.Chains.{sub_below}
 use Rattle.ht_compose.proofs.Changed.{EndsIn, changed_sound, changed_standing, ended_ends, freed_ends, held_ends}
 use Rattle.ht_tree.specs.declared.row.Row.{Row}
-use Rattle.ht_tree.specs.Families.{HaveEndedBelow, is_final}
+use Rattle.ht_base.specs.State.{is_final}
+use Rattle.ht_tree.specs.Families.{HaveEndedBelow}
 use Rattle.ht_tree.specs.Rows.{row_at}
 use Rattle.ht_tree.specs.Soundness.{IsSound, IsSoundRow}
 use Rattle.ht_tree.specs.Tables.{TablesOf, with_rows}

@@ -24,7 +24,7 @@ use Rattle.ht_compose.specs.Finishes.{Sets, all_ended, applies, chosen, complete
 use Rattle.ht_compose.proofs.Choosing.{held_by}
 use Rattle.ht_compose.proofs.Settings.{kept_all}
 use Rattle.ht_expr.specs.declared.kinds.Side.TheVariants.{Output}
-use Rattle.ht_expr.specs.Environment.{is_completed}
+use Rattle.ht_base.specs.State.{is_completed}
 use Rattle.ht_expr.specs.Kinds.{Declared, declared_kind}
 use Rattle.ht_expr.specs.KindTable.{same_kind}
 use Rattle.ht_models.specs.Finishes.{Setting}

@@ -21,7 +21,8 @@ use Rattle.ht_models.specs.Model.{FinishOf, ModelOf}
 use Rattle.ht_models.specs.SubEntries.{SubEntry}
 use Rattle.ht_tree.proofs.PublicLaws.{standing}
 use Rattle.ht_tree.specs.declared.row.Row.{Row}
-use Rattle.ht_tree.specs.Families.{is_final, is_made}
+use Rattle.ht_base.specs.State.{is_final}
+use Rattle.ht_tree.specs.Families.{is_made}
 use Rattle.ht_tree.specs.Soundness.{is_created}
 use Rattle.ht_tree.specs.Tables.{TablesOf, model_at, model_named, model_of, task_row, with_row, with_rows}
 

@@ -6,7 +6,8 @@ use Rattle.ht_compose.specs.Finding.{rows_of}
 use Rattle.ht_compose.specs.Items.{has_sub_ended}
 use Rattle.ht_compose.proofs.Entries.{any_among, of_entry_is_sub, subs_again}
 use Rattle.ht_tree.specs.declared.row.Row.{Row}
-use Rattle.ht_tree.specs.Families.{is_final, is_made, is_of_entry, is_sub_of, sub_tasks}
+use Rattle.ht_base.specs.State.{is_final}
+use Rattle.ht_tree.specs.Families.{is_made, is_of_entry, is_sub_of, sub_tasks}
 use Rattle.ht_tree.specs.Soundness.{IsSound}
 use Rattle.ht_tree.specs.Tables.{TablesOf}
 

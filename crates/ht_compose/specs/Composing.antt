@@ -3,7 +3,8 @@ use Rattle.std.specs.Prelude.{◌≡◌, ℕ, false, slice_get, Some}
 use Rattle.ht_models.specs.Model.{ModelOf}
 use Rattle.ht_models.specs.SubEntries.{SubEntry}
 use Rattle.ht_tree.specs.declared.row.Row.{Row}
-use Rattle.ht_tree.specs.Families.{is_final, is_made}
+use Rattle.ht_base.specs.State.{is_final}
+use Rattle.ht_tree.specs.Families.{is_made}
 use Rattle.ht_tree.specs.Tables.{TablesOf, model_of, task_row}
 
 -- an entry of the model of a task that hasn't ended, of which no sub task is made

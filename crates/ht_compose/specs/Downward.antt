@@ -11,7 +11,7 @@ use Rattle.ht_rules.specs.Changes.{changing}
 use Rattle.ht_rules.specs.States.{opened}
 use Rattle.ht_compose.specs.Families.{is_above}
 use Rattle.ht_tree.specs.declared.row.Row.{Row}
-use Rattle.ht_tree.specs.Families.{is_final}
+use Rattle.ht_base.specs.State.{is_final}
 use Rattle.ht_tree.specs.Soundness.{is_suspended}
 
 -- each row below the task becomes what is said, and the others stay

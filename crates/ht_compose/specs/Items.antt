@@ -10,7 +10,8 @@ use Rattle.ht_base.specs.declared.values.Values.{Values}
 use Rattle.ht_base.specs.Values.{updated, value_of}
 use Rattle.ht_compose.specs.Agenda.{Done}
 use Rattle.ht_compose.specs.Downward.{closing, skipping}
-use Rattle.ht_tree.specs.Families.{is_final, is_made, is_sub_of}
+use Rattle.ht_base.specs.State.{is_final}
+use Rattle.ht_tree.specs.Families.{is_made, is_sub_of}
 use Rattle.ht_compose.specs.Finishes.{HasResults, chosen}
 use Rattle.ht_models.specs.declared.choices.Composition.{Composition}
 use Rattle.ht_models.specs.declared.choices.Composition.TheVariants.{Parallel, Sequential}

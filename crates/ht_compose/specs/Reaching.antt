@@ -11,7 +11,7 @@ use Rattle.ht_compose.specs.declared.reaching.Reach.TheVariants as reach
 use Rattle.ht_compose.specs.Downward.{end_below, ended, freed, held}
 use Rattle.ht_compose.specs.Families.{is_above}
 use Rattle.ht_tree.specs.declared.row.Row.{Row}
-use Rattle.ht_tree.specs.Families.{is_final}
+use Rattle.ht_base.specs.State.{is_final}
 use Rattle.ht_tree.specs.Plans.{Goes, PlanOf, planned}
 use Rattle.ht_tree.specs.Soundness.{is_suspended}
 use Rattle.ht_tree.specs.Tables.{TablesOf, task_row, with_row, with_rows}

@@ -7,7 +7,8 @@ use Rattle.ht_compose.specs.Items.{Does, Item}
 use Rattle.ht_compose.specs.Items.Item.{Close}
 use Rattle.ht_models.specs.TreeSizes.{AreSized}
 use Rattle.ht_tree.specs.declared.row.Row.{Row}
-use Rattle.ht_tree.specs.Families.{is_final, to_come}
+use Rattle.ht_base.specs.State.{is_final}
+use Rattle.ht_tree.specs.Families.{to_come}
 use Rattle.ht_tree.specs.Rows.{row_at}
 use Rattle.ht_tree.specs.Tables.{TablesOf}
 

@@ -10,7 +10,7 @@ ghost use Rattle.ht_tree.specs.Soundness.{is_suspended};
 use crate::above::is_below;
 use crate::reaching::{Change, Reach};
 use ht_base::{Op, State, TaskId};
-use ht_rules::{After, Change as Moved, FINAL, OPEN, SUSPENDED, next};
+use ht_rules::{After, Change as Moved, OPEN, SUSPENDED, next};
 use ht_tree::{Plan, Row, Tables};
 
 /// What comes of a row, as it would be after the plan, of what reaches those below the task.
@@ -46,7 +46,7 @@ pub(crate) fn touches(change: Change, state: State) -> bool
 {
     match change {
         Change::Nothing => false,
-        Change::End(_) => !FINAL.contains(state),
+        Change::End(_) => !state.is_final(),
         Change::Hold => OPEN.contains(state),
         Change::Free => SUSPENDED.contains(state),
     }

@@ -6,13 +6,12 @@ ghost use Rattle.ht_tree.specs.Plans.{IsPlanOf, planned};
 ghost use Rattle.ht_tree.specs.Soundness.{IsSound};
 ghost use Rattle.ht_compose.specs.Items as spec;
 ghost use Rattle.ht_models.specs.Shown.{model_of};
-ghost use Rattle.ht_tree.specs.Families.{is_final};
+ghost use Rattle.ht_base.specs.State.{is_final};
 
 use crate::downward::close_family;
 use crate::item::{Item, alone, both};
 use ht_base::{Memory, State, TaskId};
 use ht_models::{Composition, Model, Trigger};
-use ht_rules::FINAL;
 use ht_tree::{Plan, Tables};
 use std::alloc::Global;
 
@@ -33,7 +32,7 @@ pub(crate) fn close(
     let Some(row) = plan.row(tables, task) else {
         return Ok(Vec::new(alloc));
     };
-    if FINAL.contains(row.state) {
+    if row.state.is_final() {
         return Ok(Vec::new(alloc));
     }
     let parent = row.parent;
@@ -65,7 +64,7 @@ pub(crate) fn up(
     let Some(row) = plan.row(tables, above) else {
         return Ok(Vec::new(alloc));
     };
-    if FINAL.contains(row.state) {
+    if row.state.is_final() {
         return Ok(Vec::new(alloc));
     }
     let model = tables.models().model(row.model);
@@ -108,7 +107,7 @@ pub(crate) fn next(
         return Ok(Vec::new(alloc));
     };
     let model = tables.models().model(row.model);
-    if FINAL.contains(row.state) || !comes_next(model, entry) {
+    if row.state.is_final() || !comes_next(model, entry) {
         return Ok(Vec::new(alloc));
     }
     alone(alloc, Item::Make(above, entry + 1))

@@ -3,7 +3,7 @@ ghost use Rattle.ht_base.specs.Moment.{last_moment};
 ghost use Rattle.ht_compose.specs.Composing.{IsSubTask, IsToMake};
 ghost use Rattle.ht_compose.specs.Items.Item.{Activate, Begin, Close, Make};
 ghost use Rattle.ht_compose.specs.Running.{Runs};
-ghost use Rattle.ht_tree.specs.Families.{is_final};
+ghost use Rattle.ht_base.specs.State.{is_final};
 ghost use Rattle.ht_tree.specs.Plans.{IsPlanOf, planned};
 ghost use Rattle.ht_tree.specs.Soundness.{IsSound};
 

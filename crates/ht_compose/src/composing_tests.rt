@@ -1,7 +1,7 @@
 ghost use Rattle.std.specs.Prelude.{◌≡◌, true, IfOk, IfSome, IsTrue, OnOk};
 ghost use Rattle.ht_base.specs.Events.{AreGiven};
 ghost use Rattle.ht_compose.specs.Composing.{IsToMake};
-ghost use Rattle.ht_tree.specs.Families.{is_final};
+ghost use Rattle.ht_base.specs.State.{is_final};
 ghost use Rattle.ht_tree.specs.Plans.{IsPlanOf, planned};
 ghost use Rattle.ht_tree.specs.Soundness.{IsSound, is_owned};
 
@@ -10,7 +10,6 @@ use crate::{activate, begin, close, entry_to_make, free, gather, hold, instantia
 use ht_base::{Moment, Name, Parts, Scalar, State, TaskId, Txt, Value, Values};
 use ht_models::Models;
 use ht_people::Directory;
-use ht_rules::FINAL;
 use ht_samples::{MODELS, PEOPLE};
 use ht_tree::{Plan, Row, Tables, values_given};
 use std::alloc::Global;
@@ -191,7 +190,7 @@ fn entry_of(
     let Some(row) = plan.row(tables, task) else {
         return Err(Fail::from("no such task"));
     };
-    if FINAL.contains(row.state) {
+    if row.state.is_final() {
         return Err(Fail::from("it has ended"));
     }
     let found = entry_to_make(alloc, tables, plan, task, name_of(name)?)?;

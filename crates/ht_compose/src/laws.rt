@@ -56,7 +56,7 @@ pub fn only_rows_change()
     ensures freeing { (at : Moment) (task : ℕ) (u v : TablesOf) → Frees at task u v → v ≡ with_rows u v.rows }
 {}
 
-/// What is done on composite tasks is the same whatever the moment of the last accepted command was.
+/// What is done on composite tasks is the same whatever the moment of the last record was.
 pub fn the_last_moment_is_not_looked_at()
     ensures agenda { (at : Moment) (u v : TablesOf) (items : List Item) → Ends (Does at) u items v → (last : ℕ) → Ends (Does at) (at_moment u last) items (at_moment v last) }
     ensures freeing { (at : Moment) (task : ℕ) (u v : TablesOf) → Frees at task u v → (last : ℕ) → Frees at task (at_moment u last) (at_moment v last) }

@@ -16,7 +16,6 @@ use crate::finishing::is_of_entry;
 use crate::item::{Item, alone};
 use ht_base::{Memory, Moment, TaskId, Values};
 use ht_models::{Model, Models, SubEntry};
-use ht_rules::FINAL;
 use ht_tree::{CreateRefusal, Plan, Tables, sub_tasks};
 use std::alloc::Global;
 
@@ -38,7 +37,7 @@ pub(crate) fn make(
     let Some(row) = plan.row(tables, task) else {
         return Ok(Vec::new(alloc));
     };
-    if FINAL.contains(row.state) || is_made(alloc, tables, plan, task, entry)? {
+    if row.state.is_final() || is_made(alloc, tables, plan, task, entry)? {
         return Ok(Vec::new(alloc));
     }
     let Some(sub) = entry_at(tables.models().model(row.model), entry) else {

@@ -4,12 +4,12 @@ ghost use Rattle.ht_tree.specs.Families.{MayCome};
 ghost use Rattle.ht_tree.specs.Plans.{IsPlanOf, planned};
 ghost use Rattle.ht_tree.specs.Soundness.{IsSound, is_owned};
 
+use crate::downward::{close_family, free_below, skip_below};
+use crate::hold;
 use crate::reaching::Reach;
-use crate::{close_family, free_below, hold, skip_below};
 use ht_base::{Person, State, TaskId, Values};
 use ht_models::Models;
 use ht_people::Directory;
-use ht_rules::FINAL;
 use ht_samples::PEOPLE;
 use ht_tree::{Plan, Row, Tables, create};
 use std::alloc::Global;
@@ -96,7 +96,7 @@ fn created_below(alloc: Global, tables: &Tables, plan: &mut Plan) -> Result<(), 
     let Some(row) = plan.row(tables, last) else {
         return Err(Fail::from("no task"));
     };
-    if FINAL.contains(row.state) {
+    if row.state.is_final() {
         return Err(Fail::from("it has ended"));
     }
     let Some(entry) = tables.models().model(row.model).subs.first() else {
@@ -138,7 +138,7 @@ pub(crate) fn given(
         return Err(Fail::from("no such task or person"));
     }
     let row = plan.take(alloc, tables, task)?;
-    if FINAL.contains(row.state) || row.excluded_owners.contains(owner) {
+    if row.state.is_final() || row.excluded_owners.contains(owner) {
         return Err(Fail::from("it has ended, or the person is excluded"));
     }
     if !tables.models().model(row.model).owner_required {

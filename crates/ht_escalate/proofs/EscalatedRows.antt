@@ -14,7 +14,7 @@ use Rattle.ht_models.specs.Reassigning.{ReassignsOwned}
 use Rattle.ht_tree.specs.declared.row.Row.{Row}
 use Rattle.ht_tree.specs.Assigning.{Sight, is_found}
 use Rattle.ht_tree.specs.Creating.{seen_in}
-use Rattle.ht_tree.specs.Families.{is_final}
+use Rattle.ht_base.specs.State.{is_final}
 use Rattle.ht_tree.specs.Soundness.{AreApart, IsHeld, IsHeldBy, IsSoundRow, is_created, is_owned, is_ownerless, is_suspended, needs_owner}
 use Rattle.ht_tree.specs.Tables.{TablesOf, directory, model_of}
 use Rattle.ht_tree.proofs.PublicLaws.{all_selected, has_selected, selected_ascends, taken_ascends, taken_below}

@@ -21,7 +21,7 @@ use Rattle.ht_tree.specs.declared.notice.Notice.{Notice}
 use Rattle.ht_tree.specs.declared.row.Row.{Row}
 use Rattle.ht_tree.specs.Assigning.{Sight}
 use Rattle.ht_tree.specs.Creating.{seen_in}
-use Rattle.ht_tree.specs.Families.{is_final}
+use Rattle.ht_base.specs.State.{is_final}
 use Rattle.ht_tree.specs.Plans.{Goes, IsNext, Lends, PlanOf, planned}
 use Rattle.ht_tree.specs.RowDues.{is_obsolete}
 use Rattle.ht_tree.specs.Rows.{row_at}

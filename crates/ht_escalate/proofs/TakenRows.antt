@@ -12,7 +12,7 @@ use Rattle.ht_people.specs.Directory.{DirectoryOf}
 use Rattle.ht_tree.specs.declared.row.Row.{Row}
 use Rattle.ht_tree.specs.Assigning.{Sight}
 use Rattle.ht_tree.specs.Creating.{seen_in}
-use Rattle.ht_tree.specs.Families.{is_final}
+use Rattle.ht_base.specs.State.{is_final}
 use Rattle.ht_tree.specs.Tables.{TablesOf, directory}
 
 itself : (row : Row) → IsKept row row

@@ -2,7 +2,7 @@
 use Rattle.std.specs.Prelude.{◌≡◌, ℕ, length, List, ◌++◌, Some}
 use Rattle.ht_tree.specs.declared.notice.Notice.{Notice}
 use Rattle.ht_tree.specs.declared.row.Row.{Row}
-use Rattle.ht_tree.specs.Families.{is_final}
+use Rattle.ht_base.specs.State.{is_final}
 use Rattle.ht_tree.specs.Passed.{taken_with}
 use Rattle.ht_tree.specs.Tables.{TablesOf, task_row}
 

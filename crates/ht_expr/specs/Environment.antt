@@ -3,10 +3,10 @@ use Rattle.std.specs.Prelude.{ℕ, Bool, true, false, ◌&&◌, List, [], ◌∷
 use Rattle.std.specs.List.{list_all}
 use Rattle.ht_base.specs.declared.kind.Kind.{Kind}
 use Rattle.ht_base.specs.declared.state.State.{State}
-use Rattle.ht_base.specs.declared.state.State.TheVariants as state
 use Rattle.ht_base.specs.declared.value.Value.{Value}
 use Rattle.ht_base.specs.declared.value.Value.TheVariants as values
 use Rattle.ht_base.specs.Kinds.{kind_of_value}
+use Rattle.ht_base.specs.State.{is_completed, is_final}
 use Rattle.ht_expr.specs.declared.environment.Env.{Env}
 use Rattle.ht_expr.specs.declared.kinds.Side.{Side}
 use Rattle.ht_expr.specs.declared.kinds.Side.TheVariants.{Input, Output}
@@ -42,19 +42,6 @@ has_parts kinds env = values_fit kinds Input env.input && values_fit kinds Outpu
 
 abbrev pub SubTask : Type 0
 SubTask = State × List (List ℕ × Value)
-
-abbrev pub is_completed : State → Bool
-is_completed state.Completed = true
-is_completed _ = false
-
--- the sub task has ended, in whichever way
-abbrev pub is_final : State → Bool
-is_final state.Completed = true
-is_final state.Failed = true
-is_final state.Error = true
-is_final state.Exited = true
-is_final state.Obsolete = true
-is_final _ = false
 
 abbrev pub counted : Count → List SubTask → ℕ
 counted Made subs = length subs

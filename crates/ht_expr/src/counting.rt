@@ -4,7 +4,7 @@ ghost use Rattle.ht_expr.specs.Environment as environment;
 
 use crate::environment::value_at;
 use crate::{Count, Subs};
-use ht_base::{State, Txt, Value};
+use ht_base::{Txt, Value};
 
 /// How many sub tasks there are, have ended, or are completed.
 pub(crate) fn counted(count: Count, subs: &Subs) -> i64
@@ -22,7 +22,7 @@ fn finished(subs: &Subs) -> i64
 {
     let mut number: usize = 0;
     for (state, _) in subs.as_slice() {
-        if is_final(*state) {
+        if state.is_final() {
             number += 1;
         }
     }
@@ -34,7 +34,7 @@ fn done(subs: &Subs) -> i64
 {
     let mut number: usize = 0;
     for (state, _) in subs.as_slice() {
-        if is_completed(*state) {
+        if state.is_completed() {
             number += 1;
         }
     }
@@ -47,7 +47,7 @@ pub(crate) fn text_count(part: &Txt, text: &Txt, subs: &Subs) -> i64
 {
     let mut number: usize = 0;
     for (state, output) in subs.as_slice() {
-        if is_completed(*state) && is_text(text, value_at(output, part.as_str().as_bytes())) {
+        if state.is_completed() && is_text(text, value_at(output, part.as_str().as_bytes())) {
             number += 1;
         }
     }
@@ -60,7 +60,7 @@ pub(crate) fn true_count(part: &Txt, subs: &Subs) -> i64
 {
     let mut number: usize = 0;
     for (state, output) in subs.as_slice() {
-        if is_completed(*state) && is_true(value_at(output, part.as_str().as_bytes())) {
+        if state.is_completed() && is_true(value_at(output, part.as_str().as_bytes())) {
             number += 1;
         }
     }
@@ -88,39 +88,5 @@ fn is_true(value: Option<&Value>) -> bool
             Value::Int(_) | Value::Text(_) | Value::Person(_) | Value::Instant(_) => false,
         },
         None => false,
-    }
-}
-
-fn is_completed(state: State) -> bool
-    ensures { result ≡ environment.is_completed state }
-{
-    match state {
-        State::Completed => true,
-        State::Created
-        | State::Ready
-        | State::Reserved
-        | State::InProgress
-        | State::SuspendedReady
-        | State::SuspendedReserved
-        | State::SuspendedInProgress
-        | State::Failed
-        | State::Error
-        | State::Exited
-        | State::Obsolete => false,
-    }
-}
-
-fn is_final(state: State) -> bool
-    ensures { result ≡ environment.is_final state }
-{
-    match state {
-        State::Completed | State::Failed | State::Error | State::Exited | State::Obsolete => true,
-        State::Created
-        | State::Ready
-        | State::Reserved
-        | State::InProgress
-        | State::SuspendedReady
-        | State::SuspendedReserved
-        | State::SuspendedInProgress => false,
     }
 }

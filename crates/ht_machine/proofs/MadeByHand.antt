@@ -17,7 +17,7 @@ use Rattle.ht_owner.specs.Acting.{IsAllowed}
 use Rattle.ht_rules.specs.declared.judging.Verdict.{Verdict}
 use Rattle.ht_rules.specs.declared.judging.Verdict.TheVariants.{NeedsRole, WrongState, Yes}
 use Rattle.ht_rules.specs.Judging.{verdict}
-use Rattle.ht_tree.specs.Families.{is_final}
+use Rattle.ht_base.specs.State.{is_final}
 use Rattle.ht_tree.specs.Plans.{PlanOf, planned}
 use Rattle.ht_tree.specs.Roles.{roles_in}
 use Rattle.ht_tree.specs.Tables.{TablesOf}

@@ -3,7 +3,7 @@ use Rattle.std.proofs.Common.{◌≡◌, ℕ, ◌<◌, ◌≤◌, Bool, true, fa
 use Rattle.std.specs.Prelude.{nat_lt, option_map}
 use Rattle.ht_base.specs.declared.moment.Moment.{Moment}
 use Rattle.ht_base.specs.declared.values.Values.{Values}
-use Rattle.ht_base.specs.Moment.{last_moment}
+use Rattle.ht_base.specs.Moment.{last_moment, later_by}
 use Rattle.ht_base.specs.Values.{value_of}
 use Rattle.ht_due.specs.declared.due.Due.{Due}
 use Rattle.ht_due.specs.Dues.{has}
@@ -12,7 +12,7 @@ use Rattle.ht_compose.proofs.PublicLaws.{was_due}
 use Rattle.ht_compose.specs.Aging.{AllAge}
 use Rattle.ht_tree.proofs.PublicLaws.{HasRow, IsOfRow, due_of_row, means_due, row_of_due, some_at, within}
 use Rattle.ht_tree.specs.declared.row.Row.{Row}
-use Rattle.ht_tree.specs.RowDues.{all_dues, after_period, later_moment, moment_by, moment_in, row_dues}
+use Rattle.ht_tree.specs.RowDues.{all_dues, later_moment, moment_by, moment_in, row_dues}
 use Rattle.ht_tree.specs.Rows.{row_at}
 use Rattle.ht_tree.specs.Soundness.{IsSound}
 use Rattle.ht_tree.specs.Tables.{TablesOf, task_row}
@@ -20,7 +20,7 @@ use Rattle.ht_tree.specs.Tables.{TablesOf, task_row}
 -- no deadline is due before the task was created
 not_before : (made : Moment) (input : Values) (period : Option ℕ) (at : Option Moment) (part : Option (List ℕ)) (m : Moment) → made.0 ≤ last_moment → moment_by made input period at part ≡ Some m → made.0 ≤ m.0
 not_before made input (Some period) at part m early is =
-    let same : after_period made period ≡ m = cc in
+    let same : later_by made period ≡ m = cc in
     subst (λ (x : Moment). made.0 ≤ x.0) same (omega (arith, early))
 not_before made input None (Some at) part m early is =
     let same : later_moment made at ≡ m = cc in

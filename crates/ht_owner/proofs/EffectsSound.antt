@@ -32,7 +32,8 @@ use Rattle.ht_owner.specs.declared.follow.Follow.TheVariants as follow
 use Rattle.ht_owner.specs.Acting.{Ends}
 use Rattle.ht_owner.specs.Effects.{Effect, does, effect, following, is_forwarder, leaves, moved_now, named_owner, prepared, prepared_leaves, refuses, unless, with_comment, with_output, with_role}
 use Rattle.ht_owner.specs.Faults.{fully_commented, excluded, fault, faults, first_fault, no_output, owned, ownerless, role_faults, told, unknown_person}
-use Rattle.ht_owner.specs.Moving.{end_of, ending, is_final, moved, only_if}
+use Rattle.ht_base.specs.State.{is_final}
+use Rattle.ht_owner.specs.Moving.{end_of, ending, moved, only_if}
 use Rattle.ht_owner.specs.Naming.{is_named, persons_named}
 use Rattle.ht_owner.specs.Suspending.{end_at}
 use Rattle.ht_owner.proofs.Moved.{MayOwn, moved_sound, no_end, serves_ownerless}

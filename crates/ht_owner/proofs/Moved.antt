@@ -5,7 +5,8 @@ use Rattle.ht_base.specs.declared.operation.Op.TheVariants.{Claim, Stop, Release
 use Rattle.ht_base.specs.declared.state.State.{State}
 use Rattle.ht_base.specs.declared.state.State.TheVariants.{Created, Ready, Reserved, InProgress, SuspendedReady, SuspendedReserved, SuspendedInProgress, Completed, Failed, Error, Exited, Obsolete}
 use Rattle.ht_base.specs.Persons.{has}
-use Rattle.ht_owner.specs.Moving.{changed, end_of, ending, is_final, moved, only_if, owner_after, state_after}
+use Rattle.ht_base.specs.State.{is_final}
+use Rattle.ht_owner.specs.Moving.{changed, end_of, ending, moved, only_if, owner_after, state_after}
 use Rattle.ht_rules.specs.declared.changes.After.{After}
 use Rattle.ht_rules.specs.declared.changes.After.TheVariants as after
 use Rattle.ht_rules.specs.declared.changes.Change.{Change}

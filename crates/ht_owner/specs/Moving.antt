@@ -11,7 +11,7 @@ use Rattle.ht_rules.specs.declared.changes.OwnerAfter.TheVariants as owner
 use Rattle.ht_rules.specs.Changes.{changing}
 use Rattle.ht_tree.specs.declared.row.Row.{Row}
 use Rattle.ht_tree.specs.Activation.{owner_by, state_by}
-pub use Rattle.ht_tree.specs.Families.{is_final}
+use Rattle.ht_base.specs.State.{is_final}
 use Rattle.ht_tree.specs.Soundness.{is_created, is_suspended}
 
 abbrev pub state_after : After → List ℕ → State → State

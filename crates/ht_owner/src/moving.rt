@@ -2,7 +2,7 @@ ghost use Rattle.std.specs.Prelude.{◌≡◌};
 ghost use Rattle.ht_owner.specs.Moving as spec;
 
 use ht_base::{Op, Person, Persons, State};
-use ht_rules::{After, Change, FINAL, OwnerAfter, SUSPENDED, next};
+use ht_rules::{After, Change, OwnerAfter, SUSPENDED, next};
 use ht_tree::{Row, owner_by, state_by};
 
 const UNCHANGED: Change = Change {
@@ -37,7 +37,7 @@ pub(crate) fn ending(state: State, op: Op) -> Option<State>
 {
     let change = next(state, op).unwrap_or(UNCHANGED);
     match change.after {
-        After::To(end) if FINAL.contains(end) => Some(end),
+        After::To(end) if end.is_final() => Some(end),
         _ => None,
     }
 }

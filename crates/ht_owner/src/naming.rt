@@ -20,7 +20,7 @@ pub(crate) fn persons_named(
     let mut persons = Persons::new(alloc);
     for name in names {
         if let Some(person) = people.find(*name) {
-            let named = alone(alloc, person)?;
+            let named = Persons::alone(alloc, person)?;
             persons = union(alloc, &persons, &named)?;
         }
     }
@@ -77,18 +77,10 @@ fn forwarder(alloc: Global, caller: Person, row: &Row) -> Result<Persons, Memory
     ensures { IfOk result (λ persons. (p : ℕ) → has p persons ≡ is_forwarder caller row.now.state row.now.owner p) }
 {
     if row.state == State::Ready {
-        return alone(alloc, caller);
+        return Persons::alone(alloc, caller);
     }
     match row.owner {
-        Some(owner) => alone(alloc, owner),
+        Some(owner) => Persons::alone(alloc, owner),
         None => Ok(Persons::new(alloc)),
     }
-}
-
-fn alone(alloc: Global, person: Person) -> Result<Persons, Memory>
-    ensures { IfOk result (λ persons. (p : ℕ) → has p persons ≡ (p == person)) }
-{
-    let mut persons = Persons::with_capacity(alloc, 1)?;
-    persons.push(person)?;
-    Ok(persons)
 }

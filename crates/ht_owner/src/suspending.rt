@@ -1,7 +1,7 @@
 ghost use Rattle.std.specs.Prelude.{◌≡◌};
 ghost use Rattle.ht_owner.specs.Suspending as spec;
 
-use ht_base::{End, LAST, Moment};
+use ht_base::{End, Moment};
 
 /// When a suspension ends that begins at a moment. No sum is later than the last moment there is.
 pub(crate) fn end_at(at: Moment, end: End) -> Moment
@@ -9,6 +9,6 @@ pub(crate) fn end_at(at: Moment, end: End) -> Moment
 {
     match end {
         End::At(moment) => moment,
-        End::After(period) => Moment(at.0.saturating_add(period).min(LAST)),
+        End::After(period) => at.later_by(period),
     }
 }

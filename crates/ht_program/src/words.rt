@@ -26,7 +26,7 @@ impl Run {
         ensures small { result.0 ≤ last_moment }
     {
         let later = number.saturating_mul(self.step);
-        Moment(self.from.saturating_add(later).min(LAST))
+        Moment(self.from).later_by(later)
     }
 }
 

@@ -1,14 +1,17 @@
 -- Worked examples of the two tables. A wrong reading of one fails the check.
-use Rattle.std.specs.Prelude.{◌≡◌, refl, [], ◌∷◌, Some, None}
+use Rattle.std.specs.Prelude.{◌≡◌, not, refl, [], ◌∷◌, Some, None}
 use Rattle.ht_base.specs.declared.operation.Op.TheVariants.{Claim, Start, Suspend, Resume, Skip, SetPriority, Exit, Get, Create}
 use Rattle.ht_base.specs.declared.role.Role.TheVariants.{Initiator, Stakeholder, PotentialOwner, ActualOwner, Administrator, Operator}
-use Rattle.ht_base.specs.declared.state.State.TheVariants.{Created, Ready, Reserved, InProgress, SuspendedReady, SuspendedReserved, SuspendedInProgress, Completed, Obsolete}
+use Rattle.ht_base.specs.declared.state.State.{State}
+use Rattle.ht_base.specs.declared.state.State.TheVariants.{Created, Ready, Reserved, InProgress, SuspendedReady, SuspendedReserved, SuspendedInProgress, Completed, Failed, Error, Exited, Obsolete}
+use Rattle.ht_base.specs.State.{contains_state, is_final}
 use Rattle.ht_rules.specs.declared.changes.After.TheVariants.{To, Same}
 use Rattle.ht_rules.specs.declared.changes.OwnerAfter.TheVariants.{Kept, Cleared, Caller}
 use Rattle.ht_rules.specs.declared.judging.Verdict.TheVariants.{Yes, NeedsRole, WrongState}
 use Rattle.ht_rules.specs.Changes.{next}
 use Rattle.ht_rules.specs.Judging.{verdict}
 use Rattle.ht_rules.specs.Sets.{roles_of, states_of}
+use Rattle.ht_rules.specs.States.{live}
 
 -- ---- who may
 
@@ -79,3 +82,20 @@ a_created_task_is_skipped = refl
 
 a_completed_task_is_shown : next Completed Get ≡ Some (record { after = Same; owner = Kept })
 a_completed_task_is_shown = refl
+
+-- ---- sets of states
+
+-- a task that hasn't ended is in a live state
+live_until_the_end : (state : State) → contains_state live state ≡ not (is_final state)
+live_until_the_end Created = refl
+live_until_the_end Ready = refl
+live_until_the_end Reserved = refl
+live_until_the_end InProgress = refl
+live_until_the_end SuspendedReady = refl
+live_until_the_end SuspendedReserved = refl
+live_until_the_end SuspendedInProgress = refl
+live_until_the_end Completed = refl
+live_until_the_end Failed = refl
+live_until_the_end Error = refl
+live_until_the_end Exited = refl
+live_until_the_end Obsolete = refl

@@ -1,6 +1,6 @@
 -- States of a task that are named together (WS-HumanTask 1.1, 4.10).
 use Rattle.std.specs.Prelude.{[], ◌∷◌}
-use Rattle.ht_base.specs.declared.state.State.TheVariants.{Created, Ready, Reserved, InProgress, SuspendedReady, SuspendedReserved, SuspendedInProgress, Completed, Failed, Error, Exited, Obsolete}
+use Rattle.ht_base.specs.declared.state.State.TheVariants.{Created, Ready, Reserved, InProgress, SuspendedReady, SuspendedReserved, SuspendedInProgress}
 use Rattle.ht_base.specs.declared.state.StateSet.{StateSet}
 use Rattle.ht_base.specs.State.{all_states}
 use Rattle.ht_rules.specs.Sets.{states_of}
@@ -48,10 +48,6 @@ owned = states_of (Reserved ∷ InProgress ∷ SuspendedReserved ∷ SuspendedIn
 -- every state that is not final
 abbrev pub live : StateSet
 live = states_of (Created ∷ Ready ∷ Reserved ∷ InProgress ∷ SuspendedReady ∷ SuspendedReserved ∷ SuspendedInProgress ∷ [])
-
--- the states of a task that has ended
-abbrev pub final : StateSet
-final = states_of (Completed ∷ Failed ∷ Error ∷ Exited ∷ Obsolete ∷ [])
 
 abbrev pub every_state : StateSet
 every_state = states_of all_states

@@ -13,4 +13,4 @@ mod tests;
 pub use changes::{After, Change, OwnerAfter, next};
 pub use judging::{Verdict, may};
 pub use laws::tables_agree;
-pub use sets::{FINAL, OPEN, SUSPENDED};
+pub use sets::{OPEN, SUSPENDED};

@@ -117,16 +117,6 @@ pub(crate) const LIVE: StateSet = StateSet {
     ..CREATED_OR_OPEN
 };
 
-/// The states of a task that has ended.
-pub const FINAL: StateSet = StateSet {
-    completed: true,
-    failed: true,
-    error: true,
-    exited: true,
-    obsolete: true,
-    ..StateSet::NONE
-};
-
 pub(crate) const EVERY_STATE: StateSet = StateSet {
     completed: true,
     failed: true,

@@ -26,7 +26,7 @@ returns-in-None-clause-acts c = λ at.
       does =
           ap (λ (n : ℕ). does (with_rows u (closing c.args.end n u.rows)) []) (sym number)
           ∙ ap (λ l. does (with_rows u (closing c.args.end row.task.0 u.rows)) l) (sym none)
-          ∙ ap (λ (b : Bool). if b then still u else does (with_rows u (closing c.args.end row.task.0 u.rows)) (ups row)) (sym (sym c.contains.ensures ∙ c.if-contains.false))
+          ∙ ap (λ (b : Bool). if b then still u else does (with_rows u (closing c.args.end row.task.0 u.rows)) (ups row)) (sym (sym c.is_final.ensures ∙ c.if-is_final.false))
           ∙ on_this_row u (closes u c.args.end) c.args.task.0 row (sym c.in-Some.ensures.value);
       goes = c.in_ok-close_family.ensures.goes;
       sound = subst S c.in_ok-close_family.ensures.goes.to c.in_ok-close_family.ensures.sound;

@@ -12,7 +12,7 @@ use Rattle.ht_compose.proofs.closing.up.Goals as goal
 use Rattle.ht_models.specs.Model.{ModelOf}
 use Rattle.ht_models.specs.Shown as shown
 use Rattle.ht_tree.specs.declared.row.Row.{Row}
-use Rattle.ht_tree.specs.Families.{is_final}
+use Rattle.ht_base.specs.State.{is_final}
 use Rattle.ht_tree.specs.Plans.{planned}
 use Rattle.ht_tree.specs.Tables.{TablesOf, model_of, task_row, with_row}
 
@@ -42,7 +42,7 @@ returns-clause-acts c =
     let is : IsTaken t c.args.plan.now c.take.new.self p row = record { sound = c.requires.sound; there = c.in_ok-row.ensures.row; lends = c.in_ok-row.ensures.lends } in
     let same : c.in-Some-row.row.now ≡ row = one (task_row u p) c.in-Some-row.row.now row (sym c.in-Some-row.ensures.value) is.there in
     let of_model : model_of u row ≡ Some m = ap (λ (r : Row). model_of u r) (sym same) ∙ model_there u c.in-Some-row.row.now c.models.result.now m c.models.ensures.value c.model-model.ensures.value in
-    let live : is_final row.state ≡ false = ap (λ (r : Row). is_final r.state) (sym same) ∙ sym c.contains.ensures ∙ c.if-contains.false in
+    let live : is_final row.state ≡ false = ap (λ (r : Row). is_final r.state) (sym same) ∙ sym c.is_final.ensures ∙ c.if-is_final.false in
     let failed : has_failed child.state ≡ true = sym c.has_failed-failed.ensures ∙ c.if-not-failed.false in
     let automatic : is_automatic m.instantiation ≡ true = search rules in
     IfOk-weaker c.alone.result _ _ (λ l e at.

@@ -3,7 +3,7 @@ use Rattle.ht_compose.specs.ByHand.{IsEntryOf}
 use Rattle.ht_compose.specs.Composing.{IsToMake}
 use Rattle.ht_compose.proofs.EntriesByHand.{is_to_make}
 use Rattle.ht_tree.specs.declared.row.Row.{Row}
-use Rattle.ht_tree.specs.Families.{is_final}
+use Rattle.ht_base.specs.State.{is_final}
 use Rattle.ht_tree.specs.Plans.{planned}
 use Rattle.ht_tree.specs.Tables.{TablesOf, task_row}
 use Rattle.ht_compose.proofs.composing_tests.entry_of.Goals as goal
@@ -15,4 +15,4 @@ if_found u task name row (Some entry) there live is = is_to_make u task name row
 pub returns : goal.returns
 returns c =
     let u = planned c.args.tables.now.tables c.args.plan.now in
-    if_found u c.args.task.0 c.in_ok-name_of.field-0 c.in-Some.row.now c.in_ok-found.found (sym c.in-Some.ensures.value) (sym c.contains.ensures ∙ c.if-contains.false) c.in_ok-found.ensures
+    if_found u c.args.task.0 c.in_ok-name_of.field-0 c.in-Some.row.now c.in_ok-found.found (sym c.in-Some.ensures.value) (sym c.is_final.ensures ∙ c.if-is_final.false) c.in_ok-found.ensures

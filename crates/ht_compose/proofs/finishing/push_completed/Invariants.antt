@@ -3,7 +3,7 @@ use Rattle.std.specs.Prelude.{filter}
 use Rattle.ht_base.specs.declared.task_id.TaskId.{TaskId}
 use Rattle.ht_compose.specs.Finding.{rows_of}
 use Rattle.ht_compose.proofs.finishing.push_completed.Given as goal
-use Rattle.ht_expr.specs.Environment.{is_completed}
+use Rattle.ht_base.specs.State.{is_completed}
 use Rattle.ht_tree.specs.Families.{is_of_entry}
 use Rattle.ht_tree.specs.Plans.{planned}
 

@@ -10,32 +10,33 @@ use Rattle.ht_compose.specs.Running.{item_of}
 use Rattle.ht_compose.proofs.Acted.{acts_as_before, model_there}
 use Rattle.ht_compose.proofs.NewSubs.{IsWanted, acts_new, input_fits, may_come, no_more_made, none_made, wanted}
 use Rattle.ht_compose.proofs.making.make.Goals as goal
-use Rattle.ht_compose.proofs.making.make.Goals.{then-contains-via-then-contains, then-contains-via-else-contains+in_ok-is_made+then-branch}
+use Rattle.ht_compose.proofs.making.make.Goals.{then-is_final-via-then-is_final, then-is_final-via-else-is_final+in_ok-is_made+then-branch}
 use Rattle.ht_models.specs.Model.{ModelOf, names}
 use Rattle.ht_models.specs.Shown as shown
 use Rattle.ht_models.specs.SubEntries.{SubEntry}
 use Rattle.ht_tree.proofs.PublicLaws.{within}
 use Rattle.ht_tree.specs.Creating.{IsInput, new_row}
-use Rattle.ht_tree.specs.Families.{is_final, is_made}
+use Rattle.ht_base.specs.State.{is_final}
+use Rattle.ht_tree.specs.Families.{is_made}
 use Rattle.ht_tree.specs.Plans.{Goes, planned}
 use Rattle.ht_tree.specs.Tables.{TablesOf, model_at, with_row}
 
-pub returns-then-contains-clause-acts : goal.returns-then-contains-clause-acts
-returns-then-contains-clause-acts c =
+pub returns-then-is_final-clause-acts : goal.returns-then-is_final-clause-acts
+returns-then-is_final-clause-acts c =
     let t = c.args.tables.now.tables in
     let u = planned t c.args.plan.now in
     let row = c.in-Some.row.now in
     let number : row.task.0 ≡ c.args.task.0 = c.requires.sound.numbered c.args.task.0 row (sym c.in-Some.ensures.value) in
     let done : (is_final row.state || is_made row.task.0 c.args.entry u.rows) ≡ true =
-    elim c.then-contains.branch [
-      | then-contains-via-then-contains w ↦ ap (λ (b : Bool). b || is_made row.task.0 c.args.entry u.rows) (sym c.contains.ensures ∙ w.if-contains.true)
-      | then-contains-via-else-contains+in_ok-is_made+then-branch w ↦
-          ap (λ (b : Bool). b || is_made row.task.0 c.args.entry u.rows) (sym c.contains.ensures ∙ w.if-contains.false)
+    elim c.then-is_final.branch [
+      | then-is_final-via-then-is_final w ↦ ap (λ (b : Bool). b || is_made row.task.0 c.args.entry u.rows) (sym c.is_final.ensures ∙ w.if-is_final.true)
+      | then-is_final-via-else-is_final+in_ok-is_made+then-branch w ↦
+          ap (λ (b : Bool). b || is_made row.task.0 c.args.entry u.rows) (sym c.is_final.ensures ∙ w.if-is_final.false)
           ∙ ap (λ (k : ℕ). is_made k c.args.entry u.rows) number ∙ sym w.in_ok-is_made.ensures ∙ w.if-branch.true
     ] in
-    acts_as_before t c.args.plan.now c.args.at (Make c.args.task.0 c.args.entry) c.new-then-contains.result.items [] c.requires.plan c.requires.sound
+    acts_as_before t c.args.plan.now c.args.at (Make c.args.task.0 c.args.entry) c.new-then-is_final.result.items [] c.requires.plan c.requires.sound
     (no_more_made u c.args.at c.args.task.0 c.args.entry row (sym c.in-Some.ensures.value) done)
-    (ap (λ (l : List Task). map item_of l) c.new-then-contains.ensures.items)
+    (ap (λ (l : List Task). map item_of l) c.new-then-is_final.ensures.items)
 
 pub returns-in_default-entry_at-clause-acts : goal.returns-in_default-entry_at-clause-acts
 returns-in_default-entry_at-clause-acts c =
@@ -74,7 +75,7 @@ create-requires-clause-input c =
     let named : Some c.in-Some-place_of.model ≡ place_in c.in-Some-entry_at.sub.now.model (names c.models.result.now) =
     c.in-Some-place_of.ensures.value ∙ ap (λ (ms : List ModelOf). place_in c.in-Some-entry_at.sub.now.model (names ms)) (c.models-2.ensures.value ∙ sym c.models.ensures.value) in
     let is : IsWanted u c.args.task.0 c.args.entry row m c.in-Some-entry_at.sub.now c.in-Some-place_of.model =
-    wanted u c.args.task.0 c.args.entry row c.models.result.now m c.in-Some-entry_at.sub.now c.in-Some-place_of.model c.requires.sound c.models.ensures.value c.model.ensures.inputs c.in-Some.ensures.value c.model.ensures.value (sym c.contains.ensures ∙ c.if-contains.false) (sym c.in_ok-is_made.ensures ∙ c.if-branch.false) (sym c.in-Some-entry_at.ensures) named in
+    wanted u c.args.task.0 c.args.entry row c.models.result.now m c.in-Some-entry_at.sub.now c.in-Some-place_of.model c.requires.sound c.models.ensures.value c.model.ensures.inputs c.in-Some.ensures.value c.model.ensures.value (sym c.is_final.ensures ∙ c.if-is_final.false) (sym c.in_ok-is_made.ensures ∙ c.if-branch.false) (sym c.in-Some-entry_at.ensures) named in
     let P : Values → Type 0 = λ vs. IsInput (length u.people.persons) (model_at u c.in-Some-place_of.model) vs in
     subst P (sym c.in_ok-input.ensures) (input_fits is)
 
@@ -89,7 +90,7 @@ returns-in-Ok-clause-acts c =
     let named : Some place ≡ place_in sub.model (names c.models.result.now) =
     c.in-Some-place_of.ensures.value ∙ ap (λ (ms : List ModelOf). place_in sub.model (names ms)) (c.models-2.ensures.value ∙ sym c.models.ensures.value) in
     let is : IsWanted u c.args.task.0 c.args.entry row m sub place =
-    wanted u c.args.task.0 c.args.entry row c.models.result.now m sub place c.requires.sound c.models.ensures.value c.model.ensures.inputs c.in-Some.ensures.value c.model.ensures.value (sym c.contains.ensures ∙ c.if-contains.false) (sym c.in_ok-is_made.ensures ∙ c.if-branch.false) (sym c.in-Some-entry_at.ensures) named in
+    wanted u c.args.task.0 c.args.entry row c.models.result.now m sub place c.requires.sound c.models.ensures.value c.model.ensures.inputs c.in-Some.ensures.value c.model.ensures.value (sym c.is_final.ensures ∙ c.if-is_final.false) (sym c.in_ok-is_made.ensures ∙ c.if-branch.false) (sym c.in-Some-entry_at.ensures) named in
     let goes = c.in-Ok.ensures.goes in
     let n : ModelOf = goes.0 in
     let R : ℕ → Values → TablesOf = λ first input. with_row u (new_row u n place (Some (c.args.task, c.args.entry)) first input None c.args.at) in

@@ -8,7 +8,7 @@ use Rattle.ht_models.specs.Model.{ModelOf}
 use Rattle.ht_models.specs.Shown as shown
 use Rattle.ht_people.specs.Directory.{DirectoryOf}
 use Rattle.ht_tree.specs.declared.row.Row.{Row}
-use Rattle.ht_tree.specs.Families.{is_final}
+use Rattle.ht_base.specs.State.{is_final}
 use Rattle.ht_tree.specs.Plans.{Goes, IsNext, Lends, planned}
 use Rattle.ht_tree.specs.Soundness.{IsSound, IsSoundRow, is_owned, is_ownerless, needs_owner}
 use Rattle.ht_tree.specs.Tables.{TablesOf, task_row, with_row}
@@ -67,9 +67,9 @@ put-requires-clause-next c =
       model = shown.model_of c.model.result.now;
       of_model = ap (λ (ms : List ModelOf). slice_get ms row.model) (sym c.models.ensures.value) ∙ c.model.ensures.value;
       needs = c.if-not-model.false;
-      live = sym c.contains.ensures ∙ c.if-contains.false;
+      live = sym c.is_final.ensures ∙ c.if-is_final.false;
       known = below_all u c.people.result.now c.persons.result c.owner.inside.0 c.args.owner c.people.ensures c.persons.ensures.value c.owner.view_is c.if-owner-persons.false;
-      allowed = sym c.contains-else-contains.ensures ∙ c.if-contains-2.false;
+      allowed = sym c.contains.ensures ∙ c.if-contains.false;
     } in
     let a = given_again u c.args.task.0 c.args.state c.args.owner row c.requires.sound c.in_ok-row.ensures.row c.requires.owned may in
     let P : Row → Type 0 = λ r. IsNext (planned t c.take.new.self).rows r in
@@ -87,9 +87,9 @@ returns-clause-sound c =
       model = shown.model_of c.model.result.now;
       of_model = ap (λ (ms : List ModelOf). slice_get ms row.model) (sym c.models.ensures.value) ∙ c.model.ensures.value;
       needs = c.if-not-model.false;
-      live = sym c.contains.ensures ∙ c.if-contains.false;
+      live = sym c.is_final.ensures ∙ c.if-is_final.false;
       known = below_all u c.people.result.now c.persons.result c.owner.inside.0 c.args.owner c.people.ensures c.persons.ensures.value c.owner.view_is c.if-owner-persons.false;
-      allowed = sym c.contains-else-contains.ensures ∙ c.if-contains-2.false;
+      allowed = sym c.contains.ensures ∙ c.if-contains.false;
     } in
     let a = given_again u c.args.task.0 c.args.state c.args.owner row c.requires.sound c.in_ok-row.ensures.row c.requires.owned may in
     let G : Row → Type 0 = λ r. Goes t taken new (planned t taken) (with_row (planned t taken) r) in

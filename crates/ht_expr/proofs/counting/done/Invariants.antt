@@ -1,6 +1,6 @@
 use Rattle.std.proofs.Common.{◌≡◌, ◌≤◌, take}
 use Rattle.std.specs.Prelude.{count_by}
-use Rattle.ht_expr.specs.Environment.{is_completed}
+use Rattle.ht_base.specs.State.{is_completed}
 use Rattle.ht_expr.proofs.counting.done.Given as goal
 
 abbrev pub invariant-loop-state : goal.invariant-loop-state

@@ -1,6 +1,6 @@
 use Rattle.std.proofs.Common.{◌≡◌, ◌≤◌, take}
 use Rattle.std.specs.Prelude.{count_by}
-use Rattle.ht_expr.specs.Environment.{is_final}
+use Rattle.ht_base.specs.State.{is_final}
 use Rattle.ht_expr.proofs.counting.finished.Given as goal
 
 abbrev pub invariant-loop-state : goal.invariant-loop-state

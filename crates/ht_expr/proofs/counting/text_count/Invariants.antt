@@ -1,6 +1,7 @@
 use Rattle.std.proofs.Common.{◌≡◌, ◌≤◌, take}
 use Rattle.std.specs.Prelude.{◌&&◌, count_by}
-use Rattle.ht_expr.specs.Environment.{is_completed, is_text, value_at}
+use Rattle.ht_base.specs.State.{is_completed}
+use Rattle.ht_expr.specs.Environment.{is_text, value_at}
 use Rattle.ht_expr.proofs.counting.text_count.Given as goal
 
 abbrev pub invariant-loop-state : goal.invariant-loop-state
