@@ -10,7 +10,8 @@ use Rattle.ht_models.specs.Model.{ModelOf, names}
 use Rattle.ht_models.specs.SubEntries.{SubEntry}
 use Rattle.ht_models.specs.TreeSizes.{entries_size, entry_size}
 use Rattle.ht_tree.specs.declared.row.Row.{Row}
-use Rattle.ht_tree.specs.Families.{AreFamilies, HaveEndedBelow, IsNewSub, IsOfEntry, is_final, is_made, is_of_entry, model_of_entry, parent_at, to_come, to_come_from, to_come_in, to_come_of}
+use Rattle.ht_base.specs.State.{is_final}
+use Rattle.ht_tree.specs.Families.{AreFamilies, HaveEndedBelow, IsNewSub, IsOfEntry, is_made, is_of_entry, model_of_entry, parent_at, to_come, to_come_from, to_come_in, to_come_of}
 use Rattle.ht_tree.specs.Plans.{IsNext, Replaces}
 use Rattle.ht_tree.specs.Rows.{put_in, row_at}
 use Rattle.ht_tree.specs.Sizes.{size_of, size_under, top_size, total_size}

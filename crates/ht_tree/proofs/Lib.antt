@@ -12,6 +12,7 @@ mod Indexing
 mod LeastDues
 mod Mapped
 mod OneByOne
+mod OnlyOne
 mod PartsGiven
 mod Passed
 mod Places

@@ -12,7 +12,7 @@ use Rattle.std.specs.declared.cmp.Ordering.{Ordering}
 use Rattle.std.specs.declared.cmp.Ordering.TheVariants.{Less, Equal, Greater}
 use Rattle.ht_due.specs.declared.due.Due.{Due}
 use Rattle.ht_due.specs.Dues.{AreNew, Ascends, compare_dues, has, merged, put_due, without}
-use Rattle.ht_due.proofs.PublicLaws.{ascends_merged, exact, has_all_without, has_merged, has_put, itself, same_dues}
+use Rattle.ht_due.proofs.PublicLaws.{ascends_merged, exact, has_all_without, has_merged, has_put, same_dues}
 
 absent : (d : Due) (ds : List Due) → AllByRecursion (λ x. compare_dues d x ≡ Less) ds → has d ds ≡ false
 absent d [] b = refl

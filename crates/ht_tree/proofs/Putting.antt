@@ -1,7 +1,7 @@
 -- Rows that are put into others, one after another.
 use Rattle.std.proofs.Common.{◌≡◌, ℕ, ◌+◌, ◌-◌, ◌<◌, ◌≤◌, ◌==◌, zero, suc, Bool, true, false, if◌then◌else◌, max, nat_le, List, [], ◌∷◌, ◌++◌, length, fold, Option, Some, None, refl, sym, ap, ◌∙◌, inl, inr, arith}
 use Rattle.std.specs.Prelude.{slice_get, slice_set}
-use Rattle.std.proofs.Common.{length-append, le-leb, subst}
+use Rattle.std.proofs.Common.{length-append, le-leb}
 use Rattle.ht_tree.specs.Soundness.{Fits}
 use Rattle.ht_tree.specs.Tables.{TablesOf}
 use Rattle.std.proofs.Common.{eq-eqb}
@@ -10,7 +10,7 @@ use Rattle.std.proofs.lemmas.Bool.Decides.{nat_tests}
 use Rattle.ht_tree.specs.declared.row.Row.{Row}
 use Rattle.ht_tree.specs.Plans.{Follow, IsNext}
 use Rattle.ht_tree.specs.Places.{last_of, later_or}
-use Rattle.ht_tree.specs.Puts.{CanPut, HaveModels}
+use Rattle.ht_tree.specs.Puts.{CanPut}
 use Rattle.ht_tree.specs.Rows.{put_in, row_at}
 
 -- ---- one row put
@@ -96,26 +96,19 @@ row_at-fold t rows (p ∷ puts) task f =
 
 -- ---- rows that can be put
 
-pub few_fold : (count : ℕ) (rows puts : List Row) → CanPut count rows puts → length rows ≤ length (fold put_in rows puts)
-few_fold count rows [] f = omega arith
-few_fold count rows (p ∷ puts) f =
-    let more = few_fold count (put_in rows p) puts f.2 in
+pub few_fold : (rows puts : List Row) → CanPut rows puts → length rows ≤ length (fold put_in rows puts)
+few_fold rows [] f = omega arith
+few_fold rows (p ∷ puts) f =
+    let more = few_fold (put_in rows p) puts f.1 in
     let long = length-put_in rows p f.0 in
     omega arith
 
-pub can_put : (t : TablesOf) (rows puts : List Row) → Follow t rows puts → CanPut (length t.models) rows puts
+pub can_put : (t : TablesOf) (rows puts : List Row) → Follow t rows puts → CanPut rows puts
 can_put t rows [] f = tt
-can_put t rows (p ∷ puts) f = (f.0, ((f.1).filed).model, can_put t (put_in rows p) puts f.2)
+can_put t rows (p ∷ puts) f = (f.0, can_put t (put_in rows p) puts f.2)
 
 pub few_put : (t : TablesOf) (rows puts : List Row) → Follow t rows puts → length rows ≤ length (fold put_in rows puts)
-few_put t rows puts f = few_fold (length t.models) rows puts (can_put t rows puts f)
-
-pub models_put : (count : ℕ) (rows : List Row) (row : Row) → IsNext rows row → row.model < count → HaveModels count rows → HaveModels count (put_in rows row)
-models_put count rows row next h have i r at = here (row.task.0 == suc i) (sym (row_at-put_in rows row (suc i) next) ∙ at)
-  where
-    here : (b : Bool) → (if b then Some row else slice_get rows i) ≡ Some r → r.model < count
-    here true e = let same : row ≡ r = cc in let P : Row → Type 0 = λ x. x.model < count in subst P same h
-    here false e = have i r e
+few_put t rows puts f = few_fold rows puts (can_put t rows puts f)
 
 -- ---- a row that is put again
 

@@ -12,10 +12,10 @@ use Rattle.ht_people.specs.Directory.{DirectoryOf}
 use Rattle.ht_tree.specs.declared.notice.Notice.{Notice}
 use Rattle.ht_tree.specs.declared.row.Row.{Row}
 use Rattle.ht_tree.specs.Plans.{IsNext, Replaces}
-use Rattle.ht_tree.specs.Puts.{HaveModels}
 use Rattle.ht_tree.specs.Rows.{put_in, row_at}
 use Rattle.ht_tree.specs.Sizes.{most_tasks, size_of, size_under, top_size, total_size}
-use Rattle.ht_tree.specs.Families.{AreFamilies, IsNewSub, is_final, parent_at, to_come_of}
+use Rattle.ht_base.specs.State.{is_final}
+use Rattle.ht_tree.specs.Families.{AreFamilies, IsNewSub, parent_at, to_come_of}
 use Rattle.ht_tree.specs.Soundness.{IsSound, IsSoundNotice, IsSoundRow, has_escalation}
 use Rattle.ht_tree.specs.declared.slot.Slot.{Slot}
 use Rattle.ht_tree.specs.Slots.{IsSoundSlot}
@@ -45,9 +45,6 @@ empty_sound models people = record {
   last_within = omega arith;
   tasks_within = omega arith;
 }
-
-pub have_models : (t : TablesOf) → IsSound t → HaveModels (length t.models) t.rows
-have_models t sound i row at = ((sound.rows_sound (suc i) row at).filed).model
 
 -- ---- notifications
 

@@ -3,20 +3,14 @@ use Rattle.std.specs.Prelude.{◌≡◌, ℕ, ◌+◌, ◌≤◌, ◌==◌, suc,
 use Rattle.std.specs.List.{list_any}
 use Rattle.std.specs.Option.{option_and_then, option_map_or}
 use Rattle.ht_base.specs.Places.{place_in}
-use Rattle.ht_base.specs.State.{contains_state}
-use Rattle.ht_base.specs.declared.state.State.{State}
+use Rattle.ht_base.specs.State.{is_final}
 use Rattle.ht_base.specs.declared.task_id.TaskId.{TaskId}
 use Rattle.ht_models.specs.Model.{ModelOf, names}
 use Rattle.ht_models.specs.SubEntries.{SubEntry}
 use Rattle.ht_models.specs.TreeSizes.{entry_size}
-use Rattle.ht_rules.specs.States.{final}
 use Rattle.ht_tree.specs.declared.row.Row.{Row}
 use Rattle.ht_tree.specs.Rows.{row_at}
 use Rattle.ht_tree.specs.Sizes.{total_size}
-
--- a task that has ended
-abbrev pub is_final : State → Bool
-is_final state = contains_state final state
 
 -- ---- sub tasks
 

@@ -1,5 +1,5 @@
 -- The last places of tasks, among rows that are put one after another.
-use Rattle.std.specs.Prelude.{◌≡◌, ℕ, ◌==◌, ◌≤◌, nat_le, suc, List, [], ◌∷◌, ◌++◌, map, slice_get, slice_set, Option, Some, None, option_map, if◌then◌else◌}
+use Rattle.std.specs.Prelude.{◌≡◌, ℕ, ◌==◌, ◌≤◌, nat_le, suc, List, [], ◌∷◌, ◌++◌, length, map, slice_get, slice_set, Option, Some, None, option_map, if◌then◌else◌}
 use Rattle.ht_tree.specs.declared.row.Row.{Row}
 use Rattle.ht_tree.specs.Creating.{bare_row}
 
@@ -34,6 +34,12 @@ put_past mark rows row = set_past mark rows row (last_place row.task.0 (tasks_of
 -- a row of the same task, as it was before any of its roles was set
 abbrev pub emptied : Row → Row
 emptied row = bare_row row.task row.model row.parent row.initiator [] None row.created
+
+-- the only row behind the mark, one of this task, was taken
+pub record IsOnly (mark : ℕ) (old new : List Row) (task : ℕ) (row : Row) : Type 0 where
+  pub rest : old ≡ new ++ row ∷ []
+  pub front : length new ≡ mark
+  pub own : row.task.0 ≡ task
 
 -- the last row of a task was taken, and an emptied one is left in its place
 pub record IsLent (mark : ℕ) (old new : List Row) (task : ℕ) (row : Row) : Type 0 where

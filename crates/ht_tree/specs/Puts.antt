@@ -1,5 +1,5 @@
 -- What the putting of rows one after another takes.
-use Rattle.std.specs.Prelude.{◌≡◌, ℕ, ◌+◌, ◌<◌, List, [], ◌∷◌, Option, Some, None, slice_get}
+use Rattle.std.specs.Prelude.{◌≡◌, ℕ, ◌+◌, List, [], ◌∷◌, Option, Some, None}
 use Rattle.ht_models.specs.Model.{ModelOf}
 use Rattle.ht_tree.specs.declared.row.Row.{Row}
 use Rattle.ht_tree.specs.Plans.{IsNext}
@@ -11,11 +11,7 @@ abbrev pub IsResized : List ModelOf → ℕ → Row → Option Row → ℕ → T
 IsResized models total row None new = new ≡ total + top_size models row
 IsResized models total row (Some old) new = new + top_size models old ≡ total + top_size models row
 
--- the model of each row is one of as many
-abbrev pub HaveModels : ℕ → List Row → Type 0
-HaveModels count rows = (i : ℕ) (row : Row) → slice_get rows i ≡ Some row → row.model < count
-
 -- each row is of a task that is there, or of the next
-abbrev pub CanPut : ℕ → List Row → List Row → Type 0
-CanPut count rows [] = Unit {0}
-CanPut count rows (row ∷ puts) = IsNext rows row × (row.model < count) × CanPut count (put_in rows row) puts
+abbrev pub CanPut : List Row → List Row → Type 0
+CanPut rows [] = Unit {0}
+CanPut rows (row ∷ puts) = IsNext rows row × CanPut (put_in rows row) puts

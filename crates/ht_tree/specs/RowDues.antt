@@ -1,6 +1,6 @@
 -- What is due of the tasks, and when (WS-HumanTask 1.1, 4.9): deferred activations, the ends of
 -- suspensions, and the deadlines that are neither taken nor obsolete.
-use Rattle.std.specs.Prelude.{ℕ, zero, suc, ◌+◌, ◌==◌, max, min, Bool, ◌||◌, List, [], ◌∷◌, ◌++◌, filter, fold, nat_le, slice_get, Option, Some, None, option_map, if◌then◌else◌}
+use Rattle.std.specs.Prelude.{ℕ, zero, suc, ◌+◌, ◌==◌, max, Bool, ◌||◌, List, [], ◌∷◌, ◌++◌, filter, fold, nat_le, slice_get, Option, Some, None, option_map, if◌then◌else◌}
 use Rattle.std.specs.List.{flat_map}
 use Rattle.std.specs.Option.{option_map_or}
 use Rattle.std.specs.Ordering.{match_ordering}
@@ -8,7 +8,7 @@ use Rattle.ht_base.specs.declared.moment.Moment.{Moment}
 use Rattle.ht_base.specs.declared.value.Value.{Value}
 use Rattle.ht_base.specs.declared.value.Value.TheVariants as values
 use Rattle.ht_base.specs.declared.values.Values.{Values}
-use Rattle.ht_base.specs.Moment.{last_moment}
+use Rattle.ht_base.specs.Moment.{later_by}
 use Rattle.ht_base.specs.Persons.{has}
 use Rattle.ht_base.specs.Values.{value_of}
 use Rattle.ht_due.specs.declared.due.Due.{Due}
@@ -17,15 +17,11 @@ use Rattle.ht_models.specs.declared.deadlines.DeadlineKind.{DeadlineKind}
 use Rattle.ht_models.specs.declared.deadlines.DeadlineKind.TheVariants.{Start, Completion}
 use Rattle.ht_models.specs.Model.{DeadlineOf, ModelOf}
 use Rattle.ht_tree.specs.declared.row.Row.{Row}
-use Rattle.ht_tree.specs.Families.{is_final}
+use Rattle.ht_base.specs.State.{is_final}
 use Rattle.ht_tree.specs.Rows.{row_at}
 use Rattle.ht_tree.specs.Tables.{TablesOf}
 
 -- ---- the moment of a deadline
-
--- so long after this one, and at most the last moment
-abbrev pub after_period : Moment → ℕ → Moment
-after_period made period = record { 0 = min (made.0 + period) last_moment }
 
 abbrev pub later_moment : Moment → Moment → Moment
 later_moment a b = record { 0 = max a.0 b.0 }
@@ -38,7 +34,7 @@ moment_in _ = None
 -- so long after the creation, or at a point in time, or at that of an input part, where it is set: but
 -- not before the creation
 abbrev pub moment_by : Moment → Values → Option ℕ → Option Moment → Option (List ℕ) → Option Moment
-moment_by made input (Some period) at part = Some (after_period made period)
+moment_by made input (Some period) at part = Some (later_by made period)
 moment_by made input None (Some at) part = Some (later_moment made at)
 moment_by made input None None (Some name) = option_map (λ at. later_moment made at) (moment_in (value_of name input))
 moment_by made input None None None = None

@@ -1,5 +1,5 @@
 -- What the tables hold: models and people, the row of each task, the notifications, the replies that
--- are kept for repeated commands, and the moment of the last accepted command.
+-- are kept for repeated commands, and the moment of the last record.
 use Rattle.std.specs.Prelude.{ℕ, zero, suc, List, [], ◌∷◌, ◌++◌, Option, None, slice_get}
 use Rattle.ht_base.specs.Places.{place_in}
 use Rattle.ht_due.specs.declared.due.Due.{Due}

@@ -1,4 +1,4 @@
-ghost use Rattle.std.specs.Prelude.{◌≡◌, ◌<◌, [], ◌∷◌, IfOk, IfSome, IsTrue, length, map, option_map};
+ghost use Rattle.std.specs.Prelude.{◌≡◌, ◌<◌, [], IfOk, IfSome, IsTrue, length, map, option_map};
 ghost use Rattle.ht_expr.specs.Assignments.{group, part, user};
 ghost use Rattle.ht_expr.specs.Environment.{has_parts};
 ghost use Rattle.ht_expr.specs.Kinds.{Declared};
@@ -28,23 +28,48 @@ pub fn env(alloc: Global, tables: &Tables, plan: &Plan, row: &Row) -> Result<Env
     requires row { Fits tables.now.tables row.now }
     ensures { IfOk result (λ e. e ≡ sees (planned tables.now.tables plan.now).rows row.now) }
 {
+    let subs = sub_tasks(alloc, tables, plan, row.task)?;
+    env_with(alloc, tables, plan, row, &subs)
+}
+
+/// The same, where the numbers of the sub tasks of the row's task are known.
+pub fn env_with(
+    alloc: Global,
+    tables: &Tables,
+    plan: &Plan,
+    row: &Row,
+    subs: &[TaskId],
+) -> Result<Env, Memory>
+    requires plan { IsPlanOf tables.now.tables plan.now }
+    requires sound { IsSound (planned tables.now.tables plan.now) }
+    requires row { Fits tables.now.tables row.now }
+    requires subs { subs.now ≡ map (λ r. r.task) (families.sub_tasks row.now.task.0 (planned tables.now.tables plan.now).rows) }
+    ensures { IfOk result (λ e. e ≡ sees (planned tables.now.tables plan.now).rows row.now) }
+{
     Ok(Env {
         input: row.input.copy(alloc)?,
         output: row.output.copy(alloc)?,
         priority: i64::from(row.priority),
         initiator: row.initiator,
-        subs: subs_of(alloc, tables, plan, row.task)?,
+        subs: subs_of(alloc, tables, plan, row.task, subs)?,
     })
 }
 
-// The sub tasks of a task, as expressions see them.
-fn subs_of(alloc: Global, tables: &Tables, plan: &Plan, task: TaskId) -> Result<Subs, Memory>
+// The sub tasks of a task, which have these numbers, as expressions see them.
+fn subs_of(
+    alloc: Global,
+    tables: &Tables,
+    plan: &Plan,
+    task: TaskId,
+    ids: &[TaskId],
+) -> Result<Subs, Memory>
     requires plan { IsPlanOf tables.now.tables plan.now }
     requires sound { IsSound (planned tables.now.tables plan.now) }
+    requires ids { ids.now ≡ map (λ r. r.task) (families.sub_tasks task.0 (planned tables.now.tables plan.now).rows) }
     ensures { IfOk result (λ subs. subs ≡ map (λ s. (s.state, s.output)) (families.sub_tasks task.0 (planned tables.now.tables plan.now).rows)) }
 {
     let mut subs = Subs::new(alloc);
-    for id in &sub_tasks(alloc, tables, plan, task)? {
+    for id in ids {
         let Some(row) = plan.row(tables, *id) else {
             unreachable!()
         };
@@ -110,7 +135,7 @@ pub(crate) fn found(
     match assign {
         Assign::Nobody => Ok(Persons::new(alloc)),
         Assign::Everybody => everybody(alloc, people),
-        Assign::Initiator => alone(alloc, env.initiator),
+        Assign::Initiator => Persons::alone(alloc, env.initiator),
         Assign::In(name) => person_given(alloc, people, env, name.as_str()),
         Assign::User(text) => persons_named(alloc, people, text.as_str()),
         Assign::Group(text) => members_of(alloc, people, text.as_str()),
@@ -147,7 +172,7 @@ fn person_given(alloc: Global, people: &Directory, env: &Env, name: &str) -> Res
         return Ok(Persons::new(alloc));
     };
     if person.0 < people.persons() {
-        alone(alloc, person)
+        Persons::alone(alloc, person)
     } else {
         Ok(Persons::new(alloc))
     }
@@ -174,14 +199,6 @@ fn everybody(alloc: Global, people: &Directory) -> Result<Persons, Memory>
     Ok(persons)
 }
 
-fn alone(alloc: Global, person: Person) -> Result<Persons, Memory>
-    ensures { IfOk result (λ persons. persons ≡ person ∷ []) }
-{
-    let mut persons = Persons::with_capacity(alloc, 1)?;
-    persons.push(person)?;
-    Ok(persons)
-}
-
 // The person with this name, where the text is a name.
 fn persons_named(alloc: Global, people: &Directory, text: &str) -> Result<Persons, Memory>
     ensures { IfOk result (λ persons. (s : Sight) → persons ≡ resolved people.now s (user text.now)) }
@@ -190,7 +207,7 @@ fn persons_named(alloc: Global, people: &Directory, text: &str) -> Result<Person
         return Ok(Persons::new(alloc));
     };
     match people.find(name) {
-        Some(person) => alone(alloc, person),
+        Some(person) => Persons::alone(alloc, person),
         None => Ok(Persons::new(alloc)),
     }
 }

@@ -25,7 +25,7 @@ pub(crate) fn dues_before(alloc: Global, tables: &Tables, plan: &Plan) -> Result
     Ok(dues)
 }
 
-/// As they would be after the plan.
+/// The dues of the tasks that a plan changes, as they would be after it, in ascending order.
 pub fn dues_after(alloc: Global, tables: &Tables, plan: &Plan) -> Result<Vec<Due>, Memory>
     requires { IsPlanOf tables.now.tables plan.now }
     ensures { IfOk result (λ dues. dues.items ≡ spec.changed_dues tables.now.tables.models (planned tables.now.tables plan.now).rows plan.now.changes.rows) }

@@ -8,7 +8,6 @@ use ht_base::{Person, State, TaskId, Values};
 use ht_expr::Env;
 use ht_models::Models;
 use ht_people::Directory;
-use ht_rules::FINAL;
 use ht_samples::PEOPLE;
 use std::alloc::Global;
 use std::process::Abort;
@@ -67,7 +66,7 @@ fn model_below(alloc: Global, tables: &Tables, plan: &Plan, above: TaskId) -> Re
     let Some(row) = plan.row(tables, above) else {
         return Err(Fail::from("no such task"));
     };
-    if !subs.is_empty() || FINAL.contains(row.state) {
+    if !subs.is_empty() || row.state.is_final() {
         return Err(Fail::from("no sub task may come"));
     }
     let Some(entry) = tables.models().model(row.model).subs.first() else {

@@ -31,7 +31,7 @@ mod taken;
 mod tests;
 
 pub use activating::{owner_by, state_by};
-pub use assigning::{env, resolve};
+pub use assigning::{env, env_with, resolve};
 pub use changed_dues::{dues_after, dues_behind, is_due};
 pub use comments::{Comment, Comments};
 pub use creating::{CreateRefusal, create};

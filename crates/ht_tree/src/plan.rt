@@ -55,7 +55,7 @@ impl Model for Plan {
 }
 
 impl Plan {
-    /// Changes nothing. It has room for one row, which is what most commands put.
+    /// Changes nothing.
     pub fn begin(alloc: Global) -> Result<Plan, Memory>
         ensures { IfOk result (λ plan. plan ≡ no_plan) }
     {
@@ -63,13 +63,14 @@ impl Plan {
             totals: None,
             slot: None,
         };
+        let marked = nothing;
         Ok(Plan {
-            puts: Puts::new(alloc)?,
+            puts: Puts::new(alloc),
             mark: 0,
             notices: Vec::new(alloc),
             notice_mark: 0,
             noted: nothing,
-            marked: nothing,
+            marked,
         })
     }
 
@@ -125,6 +126,11 @@ impl Plan {
         ensures lends { OnOk result (Lends tables.now.tables self.old self.new id.0) }
         ensures err { OnErr result (self.new ≡ self.old) }
     {
+        // Most commands put one row, and change it again.
+        if let Some(row) = self.puts.take_only(self.mark, id) {
+            self.noted.totals = self.marked.totals;
+            return Ok(row);
+        }
         if let Some(row) = self.puts.lend(alloc, self.mark, id) {
             return Ok(row);
         }

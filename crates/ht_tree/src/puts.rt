@@ -1,5 +1,5 @@
-ghost use Rattle.std.specs.Prelude.{◌≡◌, ◌++◌, ◌∷◌, ◌≤◌, [], IfOk, length, MatchOption, OnOk, OnErr, Some, option_map, slice_get, slice_set, take};
-ghost use Rattle.ht_tree.specs.Places.{IsLent, last_of, last_place, put_past, tasks_of};
+ghost use Rattle.std.specs.Prelude.{◌≡◌, ◌++◌, ◌∷◌, ◌≤◌, ◌<◌, [], length, MatchOption, OnOk, OnErr, Some, option_map, slice_get, slice_set, take, vec_capacity, vec_len};
+ghost use Rattle.ht_tree.specs.Places.{IsLent, IsOnly, last_of, last_place, put_past, tasks_of};
 
 use crate::Row;
 use crate::index::Index;
@@ -32,14 +32,13 @@ impl Model for Puts {
 }
 
 impl Puts {
-    /// It has room for one row.
-    pub(crate) fn new(alloc: Global) -> Result<Puts, Memory>
-        ensures { IfOk result (λ p. p ≡ []) }
+    pub(crate) fn new(alloc: Global) -> Puts
+        ensures { result ≡ [] }
     {
-        Ok(Puts {
-            rows: Vec::with_capacity(alloc, 1)?,
+        Puts {
+            rows: Vec::new(alloc),
             others: Index::new(alloc),
-        })
+        }
     }
 
     pub(crate) fn len(&self) -> usize
@@ -75,6 +74,9 @@ impl Puts {
     fn place(&self, task: TaskId) -> Option<usize>
         ensures { result ≡ last_place task.0 (tasks_of self.now) }
     {
+        if self.rows.len() <= FEW {
+            return place_in(&self.rows, task);
+        }
         match self.others.place(task) {
             Some(place) => Some(FEW + place),
             None => place_in(self.first(), task),
@@ -107,12 +109,24 @@ impl Puts {
         ensures ok { OnOk result (self.new ≡ self.old ++ row ∷ []) }
         ensures err { OnErr result (self.new ≡ self.old) }
     {
-        self.rows.reserve(1)?;
+        make_room(&mut self.rows)?;
         if self.rows.len() >= FEW {
             self.others.push(row.task)?;
         }
         self.rows.push_reserved(row);
         Ok(())
+    }
+
+    /// Takes the row of a task, where it is the only one behind the mark.
+    pub(crate) fn take_only(&mut self, mark: usize, task: TaskId) -> Option<Row>
+        ensures { MatchOption result (self.new ≡ self.old) (λ row. IsOnly mark self.old self.new task.0 row) }
+    {
+        let last = self.rows.len().checked_sub(1)?;
+        if last == mark && self.rows[last].task == task {
+            self.pop()
+        } else {
+            None
+        }
     }
 
     /// Takes the last row of a task, where it is not before the mark. A bare one is left in its place.
@@ -161,6 +175,19 @@ impl Puts {
     {
         self.rows
     }
+}
+
+// Makes room for one more row. Most plans put one, and many none.
+fn make_room(rows: &mut Vec<Row>) -> Result<(), Memory>
+    ensures same { rows.new.items ≡ rows.old.items }
+    ensures room { OnOk result (vec_len rows.new < vec_capacity rows.new) }
+{
+    if rows.is_empty() {
+        rows.reserve_exact(1)?;
+    } else {
+        rows.reserve(1)?;
+    }
+    Ok(())
 }
 
 // The place of the last row of a task.

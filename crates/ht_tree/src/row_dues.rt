@@ -4,10 +4,9 @@ ghost use Rattle.ht_models.specs.Shown as shown;
 ghost use Rattle.ht_tree.specs.RowDues as spec;
 
 use crate::Row;
-use ht_base::{LAST, Memory, Moment, Value};
+use ht_base::{Memory, Moment, Value};
 use ht_due::Due;
 use ht_models::{Deadline, DeadlineKind, Models};
-use ht_rules::FINAL;
 
 /// Puts the dues of a row behind others: its deferred activation, the end of its suspension, and its
 /// deadlines that are neither taken nor obsolete (WS-HumanTask 1.1, 4.9).
@@ -119,8 +118,8 @@ fn is_obsolete(kind: DeadlineKind, row: &Row) -> bool
     ensures { result ≡ spec.is_obsolete kind row.now }
 {
     match kind {
-        DeadlineKind::Start => row.started || FINAL.contains(row.state),
-        DeadlineKind::Completion => FINAL.contains(row.state),
+        DeadlineKind::Start => row.started || row.state.is_final(),
+        DeadlineKind::Completion => row.state.is_final(),
     }
 }
 
@@ -137,7 +136,7 @@ fn moment_of(row: &Row, deadline: &Deadline) -> Option<Moment>
     ensures { result ≡ spec.deadline_moment row.now (shown.deadline_of deadline.now) }
 {
     if let Some(period) = deadline.period {
-        return Some(after_period(row.created, period));
+        return Some(row.created.later_by(period));
     }
     if let Some(at) = deadline.at {
         return Some(row.created.max(at));
@@ -145,12 +144,6 @@ fn moment_of(row: &Row, deadline: &Deadline) -> Option<Moment>
     let name = deadline.part.as_ref()?;
     let at = moment_in(row.input.value_of(name))?;
     Some(row.created.max(at))
-}
-
-fn after_period(made: Moment, period: u64) -> Moment
-    ensures { result ≡ spec.after_period made period }
-{
-    Moment(made.0.saturating_add(period).min(LAST))
 }
 
 fn moment_in(value: Option<&Value>) -> Option<Moment>

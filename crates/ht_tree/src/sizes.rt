@@ -1,4 +1,4 @@
-ghost use Rattle.std.specs.Prelude.{◌≡◌, ◌<◌, ◌≤◌, ◌+◌, ◌-◌, ◌^◌, length, IfNone, IfSome, option_map};
+ghost use Rattle.std.specs.Prelude.{◌≡◌, ◌<◌, ◌≤◌, ◌+◌, ◌-◌, ◌^◌, length, IfSome, option_map};
 ghost use Rattle.ht_tree.specs.Puts.{IsResized};
 ghost use Rattle.ht_tree.specs.Sizes as spec;
 
@@ -23,10 +23,7 @@ pub(crate) fn resized(models: &Models, total: u128, before: Option<&Row>, row: &
     requires row { row.now.model < length models.now }
     requires before { IfSome before (λ r. (r.now.model < length models.now) × (spec.top_size models.now r.now ≤ total)) }
     requires total { total < 2 ^ 100 }
-    ensures new { IfNone before.entry (result ≡ total + spec.top_size models.now row.now) }
     ensures resized { IsResized models.now total row.now (option_map (λ r. r.now) before.entry) result }
-    ensures changed { IfSome before.entry (λ r. result + spec.top_size models.now r.now ≡ total + spec.top_size models.now row.now) }
-    ensures grown { result ≤ total + 2 ^ 32 }
     ensures small { spec.top_size models.now row.now < 2 ^ 32 }
 {
     let rest = match before {

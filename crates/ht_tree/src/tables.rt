@@ -1,6 +1,6 @@
-ghost use Rattle.std.specs.Prelude.{◌≡◌, ◌≤◌, ◌<◌, ◌+◌, ◌++◌, ◌^◌, ℕ, IfOk, IfSome, fold, OnOk, Some, length, max, option_map, slice_get, vec_capacity, vec_len};
+ghost use Rattle.std.specs.Prelude.{◌≡◌, ◌≤◌, ◌<◌, ◌+◌, ◌++◌, IfOk, IfSome, fold, OnOk, Some, length, option_map, vec_capacity, vec_len};
 ghost use Rattle.ht_tree.specs.declared.row.Row.{Row};
-ghost use Rattle.ht_tree.specs.Puts.{CanPut, HaveModels};
+ghost use Rattle.ht_tree.specs.Puts.{CanPut};
 ghost use Rattle.ht_tree.specs.Plans.{AreDuesPrepared, IsNext, IsPlanOf, IsPrepared, committed};
 ghost use Rattle.ht_tree.specs.RowDues.{all_dues};
 ghost use Rattle.ht_tree.specs.Rows.{put_in, row_at};
@@ -10,7 +10,6 @@ ghost use Rattle.ht_tree.specs.Tables.{device_slot, directory, empty_tables, not
 
 use crate::changed_dues::{dues_after, dues_before};
 use crate::exchanging::exchange;
-use crate::sizes::resized;
 use crate::slot::{put_slot, slot_of};
 use crate::{Notice, Plan, Row, Slot};
 use ht_base::{Memory, Moment, Person, TaskId};
@@ -117,7 +116,7 @@ impl Tables {
         slot_of(&self.slots, person, device)
     }
 
-    /// The moment of the last accepted command.
+    /// The moment of the last record.
     pub fn last(&self) -> Moment
         ensures value { result.0 ≡ self.now.tables.last }
         ensures sound { IsSound self.now.tables }
@@ -199,13 +198,12 @@ impl Tables {
         requires later { self.old.tables.last ≤ at.0 }
         ensures { self.new.tables ≡ committed self.old.tables plan at.0 }
     {
+        self.size = plan.size(self) as u64;
         self.last = at;
         exchange(&mut self.queue, &self.gone, &self.news);
         let (rows, notices, slot) = plan.into_changes();
         tell(&mut self.notices, notices);
-        let size = u128::from(self.size);
-        let size = put_all(&self.models, &mut self.rows, size, rows);
-        self.size = size as u64;
+        put_all(&mut self.rows, rows);
         if let Some(slot) = slot {
             put_slot(&mut self.slots, slot);
         }
@@ -240,45 +238,28 @@ fn tell(notices: &mut Vec<Notice>, more: Vec<Notice>)
     }
 }
 
-// Puts rows one after another. It gives the tasks of all trees, of which there were so many before.
-fn put_all(models: &Models, rows: &mut Vec<Row>, size: u128, puts: Vec<Row>) -> u128
-    requires puts { CanPut (length models.now) rows.old.items puts.items }
-    requires models { HaveModels (length models.now) rows.old.items }
-    requires counted { size ≡ total_size models.now rows.old.items }
-    requires small { size < 2 ^ 64 }
+// Puts rows one after another. It takes no memory.
+fn put_all(rows: &mut Vec<Row>, puts: Vec<Row>)
+    requires puts { CanPut rows.old.items puts.items }
     requires room { length (fold put_in rows.old.items puts.items) ≤ vec_capacity rows.old }
-    ensures rows { rows.new.items ≡ fold put_in rows.old.items puts.items }
-    ensures counted { result ≡ total_size models.now rows.new.items }
+    ensures { rows.new.items ≡ fold put_in rows.old.items puts.items }
 {
-    let mut size = size;
     for row in puts {
-        size = put_row(models, rows, size, row);
+        put_row(rows, row);
     }
-    size
 }
 
 // Puts a row in its task's place, or behind the others.
-fn put_row(models: &Models, rows: &mut Vec<Row>, size: u128, row: Row) -> u128
+fn put_row(rows: &mut Vec<Row>, row: Row)
     requires next { IsNext rows.old.items row }
-    requires model { row.model < length models.now }
-    requires models { HaveModels (length models.now) rows.old.items }
-    requires counted { size ≡ total_size models.now rows.old.items }
-    requires small { size < 2 ^ 100 }
     requires room { length rows.old.items < row.task.0 → vec_len rows.old < vec_capacity rows.old }
     ensures rows { rows.new.items ≡ put_in rows.old.items row }
-    ensures counted { result ≡ total_size models.now rows.new.items }
-    ensures grown { result ≤ size + 2 ^ 32 }
     ensures capacity { vec_capacity rows.new ≡ vec_capacity rows.old }
-    ensures len { vec_len rows.new ≡ max (vec_len rows.old) row.task.0 }
 {
     let place = row.task.0 as usize - 1;
     if place < rows.len() {
-        let size = resized(models, size, Some(&rows[place]), &row);
         rows[place] = row;
-        size
     } else {
-        let size = resized(models, size, None, &row);
         rows.push_reserved(row);
-        size
     }
 }

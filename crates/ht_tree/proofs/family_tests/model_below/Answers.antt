@@ -39,7 +39,7 @@ returns-in-Some-find c =
     record {
       above = row;
       there = sym c.in-Some.ensures.value;
-      going_on = sym c.contains.ensures ∙ c.if-contains.false;
+      going_on = sym c.is_final.ensures ∙ c.if-is_final.false;
       of_model = m;
       known = ap (λ (ms : List ModelOf). slice_get ms row.model) (sym c.models.ensures.value) ∙ c.model.ensures.value;
       entry = c.in-Some-first.entry.now;

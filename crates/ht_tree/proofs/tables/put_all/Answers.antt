@@ -1,20 +1,19 @@
 use Rattle.std.proofs.Common.{◌≡◌, List, length, fold, ap, sym, ◌∙◌, arith, rules, subst, vec_len}
 use Rattle.std.specs.Vec.Iter.{into_iter_items}
 use Rattle.ht_tree.specs.declared.row.Row.{Row}
-use Rattle.ht_tree.specs.Puts.{CanPut, HaveModels}
+use Rattle.ht_tree.specs.Puts.{CanPut}
 use Rattle.ht_tree.specs.Rows.{put_in}
-use Rattle.ht_tree.proofs.Putting.{few_fold, models_put, length-put_in}
+use Rattle.ht_tree.proofs.Putting.{few_fold, length-put_in}
 use Rattle.ht_tree.proofs.tables.put_all.Goals as goal
 
-pub put_row-size-requires-clause-room : goal.put_row-size-requires-clause-room
-put_row-size-requires-clause-room c =
+pub put_row-requires-clause-room : goal.put_row-requires-clause-room
+put_row-requires-clause-room c =
     let rows = c.loop-row.rows.items in
     let row = c.in-Some.row in
     let rest = into_iter_items c.next.new.self in
-    let count = length c.args.models.now in
-    let P : List Row → Type 0 = λ l. CanPut count rows l in
+    let P : List Row → Type 0 = λ l. CanPut rows l in
     let can = subst P c.in-Some.ensures.steps.0 c.loop-row.invariant.puts in
-    let long = few_fold count (put_in rows row) rest can.2 in
+    let long = few_fold (put_in rows row) rest can.1 in
     let one = length-put_in rows row can.0 in
     let same = ap (λ (l : List Row). length l) (sym (ap (λ (l : List Row). fold put_in rows l) c.in-Some.ensures.steps.0) ∙ c.loop-row.invariant.rows) in
     let room = c.requires.room in
@@ -27,21 +26,16 @@ loop-row-preserved c =
     let rows = c.loop-row.rows.items in
     let row = c.in-Some.row in
     let rest = into_iter_items c.next.new.self in
-    let count = length c.args.models.now in
-    let P : List Row → Type 0 = λ l. CanPut count rows l in
+    let P : List Row → Type 0 = λ l. CanPut rows l in
     let can = subst P c.in-Some.ensures.steps.0 c.loop-row.invariant.puts in
-    let Q : List Row → Type 0 = λ l. CanPut count l rest in
-    let R : List Row → Type 0 = λ l. HaveModels count l in
+    let Q : List Row → Type 0 = λ l. CanPut l rest in
     record {
       next = tt;
       ends = tt;
-      puts = subst Q (sym c.put_row-size.ensures.rows) can.2;
-      models = subst R (sym c.put_row-size.ensures.rows) (models_put count rows row can.0 can.1 c.loop-row.invariant.models);
-      counted = c.put_row-size.ensures.counted;
-      small = let grown = c.put_row-size.ensures.grown in let small = c.loop-row.invariant.small in let fewer = ap (λ (l : List Row). length l) c.in-Some.ensures.steps.0 in omega arith;
+      puts = subst Q (sym c.put_row.ensures.rows) can.1;
       rows =
-          ap (λ (l : List Row). fold put_in l rest) c.put_row-size.ensures.rows
+          ap (λ (l : List Row). fold put_in l rest) c.put_row.ensures.rows
           ∙ sym (ap (λ (l : List Row). fold put_in rows l) c.in-Some.ensures.steps.0)
           ∙ c.loop-row.invariant.rows;
-      capacity = c.put_row-size.ensures.capacity ∙ c.loop-row.invariant.capacity;
+      capacity = c.put_row.ensures.capacity ∙ c.loop-row.invariant.capacity;
     }

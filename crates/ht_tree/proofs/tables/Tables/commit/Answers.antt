@@ -14,18 +14,14 @@ use Rattle.ht_tree.specs.Soundness.{IsSound}
 use Rattle.ht_tree.specs.Tables.{RoomyTables}
 use Rattle.ht_tree.proofs.DuesInStep.{ChangesDues, changes_dues}
 use Rattle.ht_tree.proofs.Putting.{can_put}
-use Rattle.ht_tree.proofs.Sounding.{have_models}
 use Rattle.ht_tree.proofs.tables.Tables.commit.Goals as goal
 
-pub put_all-size-requires-clause-puts : goal.put_all-size-requires-clause-puts
-put_all-size-requires-clause-puts c =
+pub put_all-requires-clause-puts : goal.put_all-requires-clause-puts
+put_all-requires-clause-puts c =
     let puts : List Row = (c.args.plan.changes).rows in
     let P : RoomyTables → Type 0 = λ t. Follow t.tables (t.tables).rows puts in
-    let Q : List Row → Type 0 = λ l. CanPut (length c.self.inside.models) c.self.inside.rows.items l in
+    let Q : List Row → Type 0 = λ l. CanPut c.self.inside.rows.items l in
     subst Q (sym c.into_changes-rows.ensures.rows) (can_put (tables_in c.self.inside) c.self.inside.rows.items puts (subst P (sym c.self.view_is) c.requires.fits.changes_fit))
-
-pub put_all-size-requires-clause-models : goal.put_all-size-requires-clause-models
-put_all-size-requires-clause-models c = have_models (tables_in c.self.inside) c.self.invariant.sound
 
 -- how the dues change, by what holds of the tables as they are kept
 changes : (t : Inside) (now : RoomyTables) (plan : PlanOf) (at : ℕ) → roomy t ≡ now → IsKept t → IsPlanOf now.tables plan → IsSound (committed now.tables plan at) → AreDuesPrepared now plan → ChangesDues (roomy t) plan (t.queue).dues
@@ -69,7 +65,7 @@ pub invariant_of-self : goal.invariant_of-self
 invariant_of-self c =
     let change = changes c.self.inside c.args.self.now c.args.plan c.args.at.0 c.self.view_is c.self.invariant c.requires.fits c.requires.sound c.requires.prepared.2 in
     let dues = c.self.inside.queue.dues in
-    let rows : c.put_all-size.new.rows.items ≡ fold put_in c.self.inside.rows.items (c.args.plan.changes).rows = c.put_all-size.ensures.rows ∙ ap (λ (l : List Row). fold put_in c.self.inside.rows.items l) c.into_changes-rows.ensures.rows in
+    let rows : c.put_all.new.rows.items ≡ fold put_in c.self.inside.rows.items (c.args.plan.changes).rows = c.put_all.ensures ∙ ap (λ (l : List Row). fold put_in c.self.inside.rows.items l) c.into_changes-rows.ensures.rows in
     record {
       sound = search rules;
       counted = search rules;
@@ -88,7 +84,7 @@ pub invariant_of-self-in_default : goal.invariant_of-self-in_default
 invariant_of-self-in_default c =
     let change = changes c.self.inside c.args.self.now c.args.plan c.args.at.0 c.self.view_is c.self.invariant c.requires.fits c.requires.sound c.requires.prepared.2 in
     let dues = c.self.inside.queue.dues in
-    let rows : c.put_all-size.new.rows.items ≡ fold put_in c.self.inside.rows.items (c.args.plan.changes).rows = c.put_all-size.ensures.rows ∙ ap (λ (l : List Row). fold put_in c.self.inside.rows.items l) c.into_changes-rows.ensures.rows in
+    let rows : c.put_all.new.rows.items ≡ fold put_in c.self.inside.rows.items (c.args.plan.changes).rows = c.put_all.ensures ∙ ap (λ (l : List Row). fold put_in c.self.inside.rows.items l) c.into_changes-rows.ensures.rows in
     record {
       sound = search rules;
       counted = search rules;
