@@ -5,7 +5,7 @@ ghost use Rattle.ht_compose.specs.Finding.{rows_of};
 ghost use Rattle.ht_compose.specs.Items.Item.{Check};
 ghost use Rattle.ht_compose.specs.Running.{Acts};
 ghost use Rattle.ht_models.specs.Shown.{model_of};
-ghost use Rattle.ht_tree.specs.Families.{is_final};
+ghost use Rattle.ht_base.specs.State.{is_final};
 ghost use Rattle.ht_tree.specs.Plans.{IsPlanOf, planned};
 ghost use Rattle.ht_tree.specs.Soundness.{IsSound};
 ghost use Rattle.ht_compose.specs.Items as spec;
@@ -15,7 +15,6 @@ use crate::finishing::finish;
 use crate::item::{Item, alone};
 use ht_base::{Memory, State, TaskId};
 use ht_models::{Model, Trigger};
-use ht_rules::FINAL;
 use ht_tree::{Plan, Row, Tables, sub_tasks};
 use std::alloc::Global;
 
@@ -39,11 +38,11 @@ pub(crate) fn check(
     if !may_finish(row, model) {
         return Ok(Vec::new(alloc));
     }
-    let ended = has_ended(alloc, tables, plan, task)?;
-    if !ended {
+    let subs = sub_tasks(alloc, tables, plan, task)?;
+    if !has_final(tables, plan, &subs) {
         return Ok(Vec::new(alloc));
     }
-    let found = finish(alloc, tables, plan, row, model)?;
+    let found = finish(alloc, tables, plan, row, model, &subs)?;
     let Some(output) = found else {
         return Ok(Vec::new(alloc));
     };
@@ -61,16 +60,6 @@ fn may_finish(row: &Row, model: &Model) -> bool
     row.state == State::InProgress && model.completion == Trigger::Automatic
 }
 
-// Whether a sub task of it has ended.
-fn has_ended(alloc: Global, tables: &Tables, plan: &Plan, task: TaskId) -> Result<bool, Memory>
-    requires plan { IsPlanOf tables.now.tables plan.now }
-    requires sound { IsSound (planned tables.now.tables plan.now) }
-    ensures { IfOk result (λ b. b ≡ spec.has_sub_ended (planned tables.now.tables plan.now).rows task.0) }
-{
-    let subs = sub_tasks(alloc, tables, plan, task)?;
-    Ok(has_final(tables, plan, &subs))
-}
-
 // Whether one of these tasks has ended.
 fn has_final(tables: &Tables, plan: &Plan, subs: &[TaskId]) -> bool
     requires { IsPlanOf tables.now.tables plan.now }
@@ -78,7 +67,7 @@ fn has_final(tables: &Tables, plan: &Plan, subs: &[TaskId]) -> bool
 {
     for id in subs {
         if let Some(row) = plan.row(tables, *id) {
-            if FINAL.contains(row.state) {
+            if row.state.is_final() {
                 return true;
             }
         }

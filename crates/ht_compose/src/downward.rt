@@ -1,7 +1,7 @@
 ghost use Rattle.std.specs.Prelude.{◌≡◌, OnOk, IsTrue, OnErr};
 ghost use Rattle.ht_compose.specs.Downward.{closing, freeing, holding, skipping};
 ghost use Rattle.ht_compose.specs.Reaching.{IsTask};
-ghost use Rattle.ht_tree.specs.Families.{is_final};
+ghost use Rattle.ht_base.specs.State.{is_final};
 ghost use Rattle.ht_tree.specs.Plans.{Goes, IsPlanOf, planned};
 ghost use Rattle.ht_tree.specs.Soundness.{IsSound};
 ghost use Rattle.ht_tree.specs.Tables.{with_rows};
@@ -27,7 +27,7 @@ pub fn hold(alloc: Global, tables: &Tables, plan: &mut Plan, task: TaskId) -> Re
 
 /// Plans that every suspended task below this one returns to its state before, with no end of its
 /// suspension. After want of memory the plan holds some of it.
-pub fn free_below(
+pub(crate) fn free_below(
     alloc: Global,
     tables: &Tables,
     plan: &mut Plan,
@@ -45,7 +45,7 @@ pub fn free_below(
 
 /// Plans that every task below this one that hasn't ended is obsolete. After want of memory the plan holds
 /// some of it.
-pub fn skip_below(
+pub(crate) fn skip_below(
     alloc: Global,
     tables: &Tables,
     plan: &mut Plan,
@@ -63,7 +63,7 @@ pub fn skip_below(
 
 /// Plans that a task that hasn't ended does so in this final state, and every other below it with it:
 /// obsolete where the task is, and else exited. After want of memory the plan holds some of it.
-pub fn close_family(
+pub(crate) fn close_family(
     alloc: Global,
     tables: &Tables,
     plan: &mut Plan,

@@ -1,52 +1,51 @@
 ghost use Rattle.std.specs.Prelude.{◌≡◌, ◌++◌, IfOk, IsTrue, None, OnOk, Some, ◌&&◌, filter, find, if◌then◌else◌, length, map, option_map};
 ghost use Rattle.std.specs.List.{list_any};
 ghost use Rattle.ht_base.specs.Kinds.{kind_of_how, kind_of_value};
+ghost use Rattle.ht_base.specs.State.{is_completed, is_final};
 ghost use Rattle.ht_base.specs.Values.{value_of};
 ghost use Rattle.ht_compose.specs.Finding.{Finds, rows_of};
 ghost use Rattle.ht_compose.specs.Finishes as spec;
 ghost use Rattle.ht_compose.specs.Finishes.{Sets, default, of_kind, or_default, with_result};
-ghost use Rattle.ht_expr.specs.Environment as environment;
 ghost use Rattle.ht_expr.specs.Environment.{has_parts};
 ghost use Rattle.ht_expr.specs.Kinds.{Declared};
 ghost use Rattle.ht_expr.specs.KindTable.{same_kind};
 ghost use Rattle.ht_models.specs.Kinded.{HasTruth, IsKinded, parts_of};
 ghost use Rattle.ht_models.specs.Shown as shown;
 ghost use Rattle.ht_tree.specs.Families as families;
-ghost use Rattle.ht_tree.specs.Families.{is_final};
 ghost use Rattle.ht_tree.specs.Plans.{IsPlanOf, planned};
 ghost use Rattle.ht_tree.specs.Soundness.{IsSound};
 ghost use Rattle.ht_tree.specs.Tables.{model_of, task_row};
 
 use ht_aggregate::aggregate;
-use ht_base::{How, Memory, Name, State, TaskId, Value, ValueList, Values};
+use ht_base::{How, Memory, Name, TaskId, Value, ValueList, Values};
 use ht_expr::Env;
 use ht_models::{Finish, Model, Setting};
-use ht_rules::FINAL;
-use ht_tree::{Plan, Row, Tables, env, sub_tasks};
+use ht_tree::{Plan, Row, Tables, env_with};
 use std::alloc::Global;
 
-/// The output that a composite task has when it finishes, as it would be after the plan (WS-HumanTask
-/// 1.1, 4.8). None where it doesn't finish yet.
+/// The output that a composite task with these sub tasks has when it finishes, as it would be after the
+/// plan (WS-HumanTask 1.1, 4.8). None where it doesn't finish yet.
 pub(crate) fn finish(
     alloc: Global,
     tables: &Tables,
     plan: &Plan,
     row: &Row,
     model: &Model,
+    subs: &[TaskId],
 ) -> Result<Option<Values>, Memory>
     requires plan { IsPlanOf tables.now.tables plan.now }
     requires sound { IsSound (planned tables.now.tables plan.now) }
     requires row { task_row (planned tables.now.tables plan.now) row.now.task.0 ≡ Some row.now }
     requires model { model_of (planned tables.now.tables plan.now) row.now ≡ Some (shown.model_of model.now) }
     requires kinds { IsKinded model.now }
+    requires subs { subs.now ≡ map (λ s. s.task) (families.sub_tasks row.now.task.0 (planned tables.now.tables plan.now).rows) }
     ensures { IfOk result (Finds (planned tables.now.tables plan.now) row.now (shown.model_of model.now)) }
 {
-    let subs = sub_tasks(alloc, tables, plan, row.task)?;
-    let env = env(alloc, tables, plan, row)?;
-    let Some(finish) = chosen(tables, plan, &subs, row.task, model, &env) else {
+    let env = env_with(alloc, tables, plan, row, subs)?;
+    let Some(finish) = chosen(tables, plan, subs, row.task, model, &env) else {
         return Ok(None);
     };
-    let completed = completed(alloc, tables, plan, &subs, row.task, model.subs.len())?;
+    let completed = completed(alloc, tables, plan, subs, row.task, model.subs.len())?;
     let output = row.output.copy(alloc)?;
     let output = results(alloc, tables, plan, &completed, &finish.settings, output)?;
     Ok(Some(output))
@@ -142,7 +141,7 @@ fn entry_ended(tables: &Tables, plan: &Plan, subs: &[TaskId], task: TaskId, entr
 {
     for id in subs {
         if let Some(row) = plan.row(tables, *id) {
-            if is_of_entry(row, task, entry) && FINAL.contains(row.state) {
+            if is_of_entry(row, task, entry) && row.state.is_final() {
                 return true;
             }
         }
@@ -189,22 +188,16 @@ fn push_completed(
     found: &mut Vec<TaskId>,
 ) -> Result<(), Memory>
     requires { IsPlanOf tables.now.tables plan.now }
-    ensures { OnOk result (found.new.items ≡ found.old.items ++ map (λ s. s.task) (filter (λ s. families.is_of_entry task.0 entry s && environment.is_completed s.state) (rows_of (planned tables.now.tables plan.now) subs.now))) }
+    ensures { OnOk result (found.new.items ≡ found.old.items ++ map (λ s. s.task) (filter (λ s. families.is_of_entry task.0 entry s && is_completed s.state) (rows_of (planned tables.now.tables plan.now) subs.now))) }
 {
     for id in subs {
         if let Some(row) = plan.row(tables, *id) {
-            if is_of_entry(row, task, entry) && is_completed(row.state) {
+            if is_of_entry(row, task, entry) && row.state.is_completed() {
                 found.push(row.task)?;
             }
         }
     }
     Ok(())
-}
-
-fn is_completed(state: State) -> bool
-    ensures { result ≡ environment.is_completed state }
-{
-    matches!(state, State::Completed)
 }
 
 // The output of a task, when all of these are set one after another.

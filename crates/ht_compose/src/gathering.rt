@@ -1,6 +1,5 @@
 ghost use Rattle.std.specs.Prelude.{◌≡◌, OnErr, OnOk};
 ghost use Rattle.ht_compose.specs.Gathering.{IsGathered};
-ghost use Rattle.ht_compose.specs.Items as spec;
 ghost use Rattle.ht_compose.specs.Reaching.{IsTask};
 ghost use Rattle.ht_tree.specs.Plans.{IsPlanOf, planned};
 ghost use Rattle.ht_tree.specs.Soundness.{IsSound};
@@ -8,7 +7,7 @@ ghost use Rattle.ht_tree.specs.Soundness.{IsSound};
 use crate::finishing::finish;
 use ht_base::{Memory, TaskId};
 use ht_models::Trigger;
-use ht_tree::{Plan, Tables};
+use ht_tree::{Plan, Tables, sub_tasks};
 use std::alloc::Global;
 
 /// Plans what a task has of its sub tasks that its owner is about to complete: the results of the
@@ -25,10 +24,11 @@ pub fn gather(alloc: Global, tables: &Tables, plan: &mut Plan, task: TaskId) -> 
         unreachable!()
     };
     let model = tables.models().model(row.model);
-    if is_automatic(model.completion) {
+    if model.completion == Trigger::Automatic {
         return Ok(());
     }
-    let found = finish(alloc, tables, plan, row, model)?;
+    let subs = sub_tasks(alloc, tables, plan, task)?;
+    let found = finish(alloc, tables, plan, row, model, &subs)?;
     let Some(output) = found else {
         return Ok(());
     };
@@ -36,10 +36,4 @@ pub fn gather(alloc: Global, tables: &Tables, plan: &mut Plan, task: TaskId) -> 
     row.output = output;
     plan.put(tables, row)?;
     Ok(())
-}
-
-fn is_automatic(trigger: Trigger) -> bool
-    ensures { result ≡ spec.is_automatic trigger }
-{
-    matches!(trigger, Trigger::Automatic)
 }

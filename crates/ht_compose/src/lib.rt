@@ -28,7 +28,7 @@ mod tests;
 
 pub use by_hand::entry_to_make;
 pub use composing::{activate, begin, close, instantiate};
-pub use downward::{close_family, free_below, hold, skip_below};
+pub use downward::hold;
 pub use freeing::free;
 pub use gathering::gather;
 pub use laws::{

@@ -9,9 +9,11 @@ use Rattle.ht_compose.specs.Items.Item.{Check}
 use Rattle.ht_compose.specs.Running.{item_of}
 use Rattle.ht_compose.proofs.Acted.{IsTaken, acts_as_before, model_there}
 use Rattle.ht_compose.proofs.CheckedRows.{IsFound, acts_finished, checks, found, may_not, no_task, not_ended, not_finished, output_fits, output_next, sound_between, still_task}
+use Rattle.ht_compose.proofs.SubRows.{ended_among_them}
 use Rattle.ht_compose.proofs.checking.check.Goals as goal
 use Rattle.ht_models.specs.Model.{ModelOf}
 use Rattle.ht_models.specs.Shown as shown
+use Rattle.ht_tree.specs.Families.{sub_tasks}
 use Rattle.ht_tree.specs.Plans.{planned}
 use Rattle.ht_tree.specs.Rows.{row_at}
 
@@ -33,16 +35,17 @@ returns-then-not-may_finish-clause-acts c = λ at.
     (may_not u c.args.task.0 row m (sym c.in-Some.ensures.value) (model_there u row c.models.result.now m c.models.ensures.value c.model-model.ensures.value) (sym c.may_finish.ensures ∙ c.if-not-may_finish.true))
     (ap (λ (l : List Task). map item_of l) c.new-then-not-may_finish.ensures.items)
 
-pub returns-then-not-ended-clause-acts : goal.returns-then-not-ended-clause-acts
-returns-then-not-ended-clause-acts c = λ at.
+pub returns-then-not-has_final-clause-acts : goal.returns-then-not-has_final-clause-acts
+returns-then-not-has_final-clause-acts c = λ at.
     let t = c.args.tables.now.tables in
     let u = planned t c.args.plan.now in
     let row = c.in-Some.row.now in
     let m : ModelOf = shown.model_of c.model-model.result.now in
     let number = c.requires.sound.numbered c.args.task.0 row (sym c.in-Some.ensures.value) in
-    acts_as_before t c.args.plan.now at (Check c.args.task.0) c.new-then-not-ended.result.items [] c.requires.plan c.requires.sound
-    (not_ended u c.args.task.0 row m (sym c.in-Some.ensures.value) (model_there u row c.models.result.now m c.models.ensures.value c.model-model.ensures.value) (ap (λ (k : ℕ). has_sub_ended u.rows k) number ∙ sym c.in_ok-ended.ensures ∙ c.if-not-ended.true))
-    (ap (λ (l : List Task). map item_of l) c.new-then-not-ended.ensures.items)
+    let ended = c.has_final.ensures ∙ ended_among_them u c.requires.sound c.args.task.0 c.deref.result.now (c.deref.ensures.value ∙ c.in_ok-subs.ensures) in
+    acts_as_before t c.args.plan.now at (Check c.args.task.0) c.new-then-not-has_final.result.items [] c.requires.plan c.requires.sound
+    (not_ended u c.args.task.0 row m (sym c.in-Some.ensures.value) (model_there u row c.models.result.now m c.models.ensures.value c.model-model.ensures.value) (ap (λ (k : ℕ). has_sub_ended u.rows k) number ∙ sym ended ∙ c.if-not-has_final.true))
+    (ap (λ (l : List Task). map item_of l) c.new-then-not-has_final.ensures.items)
 
 pub finish-requires-clause-row : goal.finish-requires-clause-row
 finish-requires-clause-row c =
@@ -54,6 +57,12 @@ pub finish-requires-clause-model : goal.finish-requires-clause-model
 finish-requires-clause-model c =
     let u = planned c.args.tables.now.tables c.args.plan.now in
     model_there u c.in-Some.row.now c.models.result.now (shown.model_of c.model-model.result.now) c.models.ensures.value c.model-model.ensures.value
+
+pub finish-requires-clause-subs : goal.finish-requires-clause-subs
+finish-requires-clause-subs c =
+    let u = planned c.args.tables.now.tables c.args.plan.now in
+    let number = c.requires.sound.numbered c.args.task.0 c.in-Some.row.now (sym c.in-Some.ensures.value) in
+    c.deref-2.ensures.value ∙ c.in_ok-subs.ensures ∙ ap (λ (k : ℕ). map (λ s. s.task) (sub_tasks k u.rows)) (sym number)
 
 pub returns-in_default-found-clause-acts : goal.returns-in_default-found-clause-acts
 returns-in_default-found-clause-acts c = λ at.
@@ -120,7 +129,8 @@ returns-clause-acts c =
     let is : IsTaken t c.args.plan.now c.take.new.self c.args.task.0 c.in_ok-row.row = record { sound = c.requires.sound; there = c.in_ok-row.ensures.row; lends = c.in_ok-row.ensures.lends } in
     let so : IsFound u c.args.task.0 row m c.in-Some-found.output =
     found u c.args.task.0 row m c.in_ok-found.found c.in-Some-found.output c.in-Some.ensures.value (model_there u row c.models.result.now m c.models.ensures.value c.model-model.ensures.value) c.in_ok-found.ensures (c.model-model.ensures.outputs row.model m c.model-model.ensures.value) c.in-Some-found.is in
-    let checked = checks u c.args.task.0 row m c.requires.sound c.in-Some.ensures.value (sym c.may_finish.ensures ∙ c.if-not-may_finish.false) (sym c.in_ok-ended.ensures ∙ c.if-not-ended.false) in
+    let ended = c.has_final.ensures ∙ ended_among_them u c.requires.sound c.args.task.0 c.deref.result.now (c.deref.ensures.value ∙ c.in_ok-subs.ensures) in
+    let checked = checks u c.args.task.0 row m c.requires.sound c.in-Some.ensures.value (sym c.may_finish.ensures ∙ c.if-not-may_finish.false) (sym ended ∙ c.if-not-has_final.false) in
     IfOk-weaker c.alone.result _ _ (λ l e at.
     acts_finished is so c.put.new.self c.in_ok-put.ensures.goes checked c.skip_below.new.plan at l.items c.in_ok-skip_below.ensures.goes c.in_ok-skip_below.ensures.sound
     (ap (λ (l : List Task). map item_of l) e)) c.alone.ensures

@@ -3,7 +3,7 @@ use Rattle.std.specs.List.{list_any}
 use Rattle.ht_base.specs.declared.task_id.TaskId.{TaskId}
 use Rattle.ht_compose.specs.Finding.{rows_of}
 use Rattle.ht_compose.proofs.checking.has_final.Given as goal
-use Rattle.ht_tree.specs.Families.{is_final}
+use Rattle.ht_base.specs.State.{is_final}
 use Rattle.ht_tree.specs.Plans.{planned}
 
 abbrev pub invariant-loop-id : goal.invariant-loop-id

@@ -14,8 +14,8 @@ use Rattle.ht_tree.specs.declared.row.Row.{Row}
 use Rattle.ht_tree.specs.Plans.{planned}
 use Rattle.ht_tree.proofs.PublicLaws.{sound_row_fits}
 
-pub env-requires-clause-row : goal.env-requires-clause-row
-env-requires-clause-row c =
+pub env_with-requires-clause-row : goal.env_with-requires-clause-row
+env_with-requires-clause-row c =
     let t = c.args.tables.now.tables in
     let row = c.args.row.now in
     sound_row_fits t.models (length t.people.persons) row (c.requires.sound.rows_sound row.task.0 row c.requires.row)
@@ -32,7 +32,7 @@ pub returns-in_default : goal.returns-in_default
 returns-in_default c =
     let u = planned c.args.tables.now.tables c.args.plan.now in
     let m : ModelOf = shown.model_of c.args.model.now in
-    sym (chosen_is u c.requires.sound c.args.row.now m c.in_ok-env.env c.deref.result.now None c.in_ok-env.ensures (c.deref.ensures.value ∙ c.in_ok-subs.ensures) c.in_default.ensures)
+    sym (chosen_is u c.requires.sound c.args.row.now m c.in_ok-env.env c.args.subs.now None c.in_ok-env.ensures c.requires.subs c.in_default.ensures)
 
 pub returns : goal.returns
 returns c =
@@ -40,11 +40,11 @@ returns c =
     let m : ModelOf = shown.model_of c.args.model.now in
     let row = c.args.row.now in
     let f : FinishOf = shown.finish_of c.in-Some.finish.now in
-    let is = chosen_is u c.requires.sound row m c.in_ok-env.env c.deref.result.now (Some f) c.in_ok-env.ensures (c.deref.ensures.value ∙ c.in_ok-subs.ensures) c.in-Some.ensures in
-    let rows = completed_is u c.requires.sound row c.len.result c.deref-2.result.now c.deref-3.result.now (c.deref-2.ensures.value ∙ c.in_ok-subs.ensures) (c.deref-3.ensures.value ∙ c.in_ok-completed.ensures) in
+    let is = chosen_is u c.requires.sound row m c.in_ok-env.env c.args.subs.now (Some f) c.in_ok-env.ensures c.requires.subs c.in-Some.ensures in
+    let rows = completed_is u c.requires.sound row c.len.result c.args.subs.now c.deref.result.now c.requires.subs (c.deref.ensures.value ∙ c.in_ok-completed.ensures) in
     let count : c.len.result ≡ length m.subs = search rules in
     let all = rows ∙ ap (λ (n : ℕ). completed row.task.0 n u.rows) count in
-    let P : List Row → Type 0 = λ l. Sets l c.deref-4.result.now c.in_ok-output.output c.in_ok-output-2.output in
+    let P : List Row → Type 0 = λ l. Sets l c.deref-2.result.now c.in_ok-output.output c.in_ok-output-2.output in
     let Q : List Setting → Type 0 = λ ss. Sets (completed row.task.0 (length m.subs) u.rows) ss c.in_ok-output.output c.in_ok-output-2.output in
     let R : Values → Type 0 = λ vs. Sets (completed row.task.0 (length m.subs) u.rows) f.settings vs c.in_ok-output-2.output in
-    (f, sym is, subst R c.in_ok-output.ensures (subst Q c.deref-4.ensures.value (subst P all c.in_ok-output-2.ensures)))
+    (f, sym is, subst R c.in_ok-output.ensures (subst Q c.deref-2.ensures.value (subst P all c.in_ok-output-2.ensures)))
