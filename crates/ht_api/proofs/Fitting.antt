@@ -1,12 +1,17 @@
 -- What fits is in its limits.
 use Rattle.std.proofs.Common.{◌≡◌, ◌∙◌, sym, ap, refl, subst, ℕ, ℤ, zero, suc, ◌<◌, ◌≤◌, ◌&&◌, ◌||◌, Bool, true, false, not, List, [], ◌∷◌, ◌++◌, length, append_assoc, Option, Some, None, option_map, option_and_then, if◌then◌else◌, nat_eq, nat_le, nat_lt, arith}
-use Rattle.std.specs.Prelude.{IfSome, slice_get}
+use Rattle.std.specs.Prelude.{IfSome, String, slice_get}
 use Rattle.std.specs.Cmp.Lexicographic.{pointwise}
 use Rattle.std.specs.List.{list_all}
-use Rattle.std.proofs.lemmas.Bool.{and_parts, leb-true, ltb-true, lt-ltb}
+use Rattle.std.proofs.lemmas.Bool.{and_parts, le-leb, leb-true, ltb-true, lt-leb, lt-ltb}
 use Rattle.std.proofs.lemmas.Cmp.{nat_list_eq_equiv}
-use Rattle.serde_json.specs.Data.{Data, null, boolean, number, string, array, object, Members, no_members, member}
+use Rattle.std.specs.declared.alloc.Global.{Global}
+use Rattle.serde_json.specs.Data.{Data, null, boolean, number, string, array, object, Items, no_items, item, Members, no_members, member}
+use Rattle.serde_json.specs.Events.{items_len, members_len}
 use Rattle.serde_json.specs.Find.{as_array, as_i64, as_number, as_object, as_str, as_u64}
+use Rattle.serde_json.specs.View.{items_view, members_view}
+use Rattle.serde_json.specs.declared.value.Value.{Value}
+use Rattle.serde_json.proofs.Views.{items_len-items_view, members_len-members_view}
 use Rattle.ht_base.specs.declared.scalar.Scalar.{Scalar}
 use Rattle.ht_base.specs.declared.scalar.Scalar.TheVariants.{Text, Int, Truth}
 use Rattle.ht_base.specs.Events.{AreGiven, AreNames, is_short}
@@ -16,7 +21,7 @@ use Rattle.ht_base.specs.Moment.{last_moment}
 use Rattle.ht_base.specs.Name.{name_of}
 use Rattle.ht_base.specs.Periods.{IsPeriod, PeriodText, longest_period, millis, period_of}
 use Rattle.ht_base.specs.Places.{IsRepeated}
-use Rattle.ht_api.specs.Fits.{are_distinct, holds_name, if_any, moment_in, names_of, owners_in, part_in, parts_if, parts_in, parts_of, period_in, persons_if, persons_in, scalar_in, some_parts_in, text_if, text_in, whole_if, whole_in}
+use Rattle.ht_api.specs.Fits.{are_distinct, holds_name, if_any, moment_in, name_in, names_of, owners_in, part_in, parts_if, parts_in, parts_of, period_in, persons_if, persons_in, scalar_in, some_parts_in, text_if, text_in, whole_if, whole_in}
 
 -- ---- what an option that is there came from
 
@@ -56,6 +61,54 @@ one_more read x (Some more) = ap (λ l. Some l) (sym (append_assoc read (x ∷ [
 pub all_read : {A : Type 0} (rest : Option (List A)) → before [] rest ≡ rest
 all_read None = refl
 all_read (Some more) = refl
+
+-- ---- the count is known before anything is read
+
+names_counted : (ds : Items) (names : List (List ℕ)) → names_of ds ≡ Some names → length names ≡ items_len ds
+names_counted no_items names e = let same : [] ≡ names = cc in rw (← same) refl
+names_counted (item d ds) names e =
+    let q = from_some (name_in d) (λ name. option_map (λ more. name ∷ more) (names_of ds)) names e in
+    let m = from_mapped (λ more. q.0 ∷ more) (names_of ds) names q.2 in
+    rw (← m.2) (ap suc (names_counted ds m.0 m.1))
+
+parts_counted : (ms : Members) (parts : List (List ℕ × Scalar)) → parts_of ms ≡ Some parts → length parts ≡ members_len ms
+parts_counted no_members parts e = let same : [] ≡ parts = cc in rw (← same) refl
+parts_counted (member k d ms) parts e =
+    let q = from_some (part_in k d) (λ part. option_map (λ more. part ∷ more) (parts_of ms)) parts e in
+    let m = from_mapped (λ more. q.0 ∷ more) (parts_of ms) parts q.2 in
+    rw (← m.2) (ap suc (parts_counted ms m.0 m.1))
+
+none_of : {A : Type 0} (o : Option (List A)) (f : List A → Option (List A)) → ((xs : List A) → o ≡ Some xs → f xs ≡ None) → option_and_then f o ≡ None
+none_of None f none = refl
+none_of (Some xs) f none = none xs refl
+
+pub too_many_persons : (vs : List Value) → 1024 < length vs → option_and_then persons_if (names_of (items_view vs)) ≡ None
+too_many_persons vs more = none_of (names_of (items_view vs)) persons_if (λ names e.
+    let count = names_counted (items_view vs) names e ∙ items_len-items_view vs in
+    let over : nat_le (length names) 1024 ≡ false = lt-leb (length names) 1024 (omega arith) in
+    rw over refl)
+
+pub few_persons : (vs : List Value) (names : List (List ℕ)) → length vs ≤ 1024 → names_of (items_view vs) ≡ Some names → persons_if names ≡ (if are_distinct names then Some names else None)
+few_persons vs names few e =
+    let count = names_counted (items_view vs) names e ∙ items_len-items_view vs in
+    let within : nat_le (length names) 1024 ≡ true = le-leb (length names) 1024 (omega arith) in
+    rw within refl
+
+pub too_many_parts : (es : List (String Global × Value)) → 8 < length es → option_and_then parts_if (parts_of (members_view es)) ≡ None
+too_many_parts es more = none_of (parts_of (members_view es)) parts_if (λ parts e.
+    let count = parts_counted (members_view es) parts e ∙ members_len-members_view es in
+    let over : nat_le (length parts) 8 ≡ false = lt-leb (length parts) 8 (omega arith) in
+    rw over refl)
+
+pub few_parts : (es : List (String Global × Value)) → length es ≤ 8 → option_and_then parts_if (parts_of (members_view es)) ≡ parts_of (members_view es)
+few_parts es few = go (parts_of (members_view es)) refl
+  where
+    go : (o : Option (List (List ℕ × Scalar))) → parts_of (members_view es) ≡ o → option_and_then parts_if o ≡ o
+    go None e = refl
+    go (Some parts) e =
+        let count = parts_counted (members_view es) parts e ∙ members_len-members_view es in
+        let within : nat_le (length parts) 8 ≡ true = le-leb (length parts) 8 (omega arith) in
+        rw within refl
 
 -- ---- parts
 

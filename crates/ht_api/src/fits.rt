@@ -121,10 +121,13 @@ pub(crate) fn persons_in(alloc: Global, value: &Value) -> Result<Option<Names>, 
     let Some(items) = value.as_array() else {
         return Ok(None);
     };
+    if items.len() > MOST_PERSONS {
+        return Ok(None);
+    }
     let Some(names) = names_of(alloc, items)? else {
         return Ok(None);
     };
-    if names.as_slice().len() > MOST_PERSONS || !are_distinct(names.as_slice()) {
+    if !are_distinct(names.as_slice()) {
         return Ok(None);
     }
     Ok(Some(names))
@@ -179,13 +182,10 @@ pub(crate) fn parts_in(alloc: Global, value: &Value) -> Result<Option<Parts>, Me
     let Some(members) = value.as_object() else {
         return Ok(None);
     };
-    let Some(parts) = parts_of(alloc, members)? else {
-        return Ok(None);
-    };
-    if parts.as_slice().len() > MOST_PARTS {
+    if members.len() > MOST_PARTS {
         return Ok(None);
     }
-    Ok(Some(parts))
+    parts_of(alloc, members)
 }
 
 #[tactic(auto, using(crate::proofs::Fitting::one_more, crate::proofs::Fitting::all_read))]

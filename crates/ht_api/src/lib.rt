@@ -25,6 +25,6 @@ mod tests_of_moments;
 mod tests_of_replies;
 
 pub use events::event_of;
-pub use refusal::{ApiRefusal, wire_refusal};
+pub use refusal::ApiRefusal;
 pub use replies::text_of;
 pub use routes::Routes;

@@ -1,6 +1,5 @@
 ghost use Rattle.std.specs.Prelude.{◌≡◌, codes};
 ghost use Rattle.ht_base.specs.Name.{IsName};
-ghost use Rattle.ht_api.specs.Refusals as spec;
 
 use ht_base::{Memory, Name, Refusal};
 use thiserror::Error;
@@ -68,17 +67,5 @@ impl From<ApiRefusal> for Refusal {
             ApiRefusal::Person => Refusal::Person,
             ApiRefusal::Memory => Refusal::Memory,
         }
-    }
-}
-
-/// What the reply to a connection tells that is refused with this status.
-pub fn wire_refusal(code: u16) -> Refusal
-    ensures { result ≡ spec.wire_refusal code }
-{
-    match code {
-        431 => Refusal::Fields,
-        501 => Refusal::Coding,
-        413 => Refusal::Body,
-        _ => Refusal::Head,
     }
 }

@@ -1,4 +1,4 @@
-use crate::{ApiRefusal, Routes, event_of, wire_refusal};
+use crate::{ApiRefusal, Routes, event_of};
 use ht_base::{
     Bytes, Command, End, Event, LAST, Moment, Name, Names, Parts, Query, Refusal, Retry, RoleList,
     Scalar, TaskId,
@@ -466,9 +466,5 @@ fn refusals_are_told_in_replies(rt: HostRuntime) -> Result<(), Fail> {
     assert_eq!(rt; Refusal::from(ApiRefusal::Field(key)), Refusal::Field(key));
     assert_eq!(rt; Refusal::from(ApiRefusal::Person), Refusal::Person);
     assert_eq!(rt; Refusal::from(ApiRefusal::Memory), Refusal::Memory);
-    assert_eq!(rt; wire_refusal(431), Refusal::Fields);
-    assert_eq!(rt; wire_refusal(501), Refusal::Coding);
-    assert_eq!(rt; wire_refusal(413), Refusal::Body);
-    assert_eq!(rt; wire_refusal(400), Refusal::Head);
     Ok(())
 }

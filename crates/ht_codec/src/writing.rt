@@ -12,12 +12,16 @@ use crate::writing_fields::{
 use ht_base::{Bytes, Command, Memory, Moment, Name, Op, Parts, Record};
 use std::alloc::Global;
 
+/// The bytes for which there is room at once: most records take no more.
+const FIRST_ROOM: u32 = 64;
+
 /// The one spelling of the record.
 pub fn write(alloc: Global, entry: &Record) -> Result<Bytes, Memory>
     requires { IsRecord (record_of entry.now) }
     ensures { IfOk result (λ b. Spells (record_of entry.now) b.items) }
 {
     let mut out = Bytes::new(alloc);
+    out.reserve(FIRST_ROOM)?;
     write_record(&mut out, entry)?;
     Ok(out)
 }
