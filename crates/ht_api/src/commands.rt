@@ -5,7 +5,7 @@ ghost use Rattle.ht_api.specs.Keys.{keys_of};
 ghost use Rattle.ht_api.specs.Refusals.{Gives};
 
 use crate::asked::Asked;
-use crate::fields::{Fields, fields_of};
+use crate::fields::{Fields, fill};
 use crate::keys::Key;
 use crate::refusal::ApiRefusal;
 use ht_base::{Command, End, Moment, Parts, Retry};
@@ -19,7 +19,8 @@ pub(crate) fn command_in(
 ) -> Result<(Option<Retry>, Command), ApiRefusal>
     ensures { Gives (spec.command_in asked body.now) result }
 {
-    let fields = fields_of(alloc, asked, body)?;
+    let mut fields = Fields::new();
+    fill(alloc, asked, body, &mut fields)?;
     let retry = retry_of(fields.device, fields.number);
     let command = command_of(alloc, asked, fields)?;
     Ok((retry, command))

@@ -5,7 +5,7 @@ ghost use Rattle.serde_json.specs.View.{view, members_view};
 ghost use Rattle.ht_api.specs.Bodies.{HasNoValue, json_in};
 ghost use Rattle.ht_api.specs.Fields as spec;
 ghost use Rattle.ht_api.specs.Fields.{all_known, are_known, fields_from, fields_in, no_fields, taken, with_key};
-ghost use Rattle.ht_api.specs.Refusals.{Fills, Gives};
+ghost use Rattle.ht_api.specs.Refusals.{Fills};
 
 use crate::asked::Asked;
 use crate::fits::{
@@ -51,7 +51,8 @@ pub(crate) struct Fields {
 }
 
 impl Fields {
-    fn new() -> Fields
+    /// None of them.
+    pub(crate) fn new() -> Fields
         ensures { result ≡ no_fields }
     {
         Fields {
@@ -103,15 +104,21 @@ impl Fields {
     }
 }
 
-/// The values that a body gives to what is asked.
-pub(crate) fn fields_of(alloc: Global, asked: Asked, body: &[u8]) -> Result<Fields, ApiRefusal>
-    ensures { Gives (fields_from asked (json_in body.now)) result }
+/// Puts the values that a body gives to what is asked into fields, of which none has one.
+pub(crate) fn fill(
+    alloc: Global,
+    asked: Asked,
+    body: &[u8],
+    fields: &mut Fields,
+) -> Result<(), ApiRefusal>
+    requires { fields.old ≡ no_fields }
+    ensures { Fills (fields_from asked (json_in body.now)) fields.new result }
 {
     if is_bare(body) {
-        return fields_of_none(rows_of_none(asked));
+        return fill_from_none(rows_of_none(asked));
     }
     let value = value_of(alloc, body)?;
-    fields_of_value(alloc, asked, &value)
+    fill_from(alloc, asked, &value, fields)
 }
 
 // The keys that are looked at in a body that has none.
@@ -124,16 +131,16 @@ fn rows_of_none(asked: Asked) -> &'static [(Key, bool)]
     }
 }
 
-// What a body without keys gives, in which a required one is missing.
-fn fields_of_none(rows: &[(Key, bool)]) -> Result<Fields, ApiRefusal>
-    ensures { Gives (taken rows.now (object no_members) no_fields) result }
+// A body without keys gives no value, and lacks a required one.
+fn fill_from_none(rows: &[(Key, bool)]) -> Result<(), ApiRefusal>
+    ensures { Fills (taken rows.now (object no_members) no_fields) no_fields result }
 {
     for (key, required) in rows {
         if *required {
             return Err(ApiRefusal::of_key(key.name()));
         }
     }
-    Ok(Fields::new())
+    Ok(())
 }
 
 fn value_of(alloc: Global, body: &[u8]) -> Result<Value, ApiRefusal>
@@ -161,17 +168,21 @@ fn is_bare(body: &[u8]) -> bool
     body.is_empty() || body == b"{}".as_slice()
 }
 
-fn fields_of_value(alloc: Global, asked: Asked, body: &Value) -> Result<Fields, ApiRefusal>
-    ensures { Gives (fields_in asked (view body.now)) result }
+fn fill_from(
+    alloc: Global,
+    asked: Asked,
+    body: &Value,
+    fields: &mut Fields,
+) -> Result<(), ApiRefusal>
+    requires { fields.old ≡ no_fields }
+    ensures { Fills (fields_in asked (view body.now)) fields.new result }
 {
     let rows = keys_of(asked);
     if !are_keys(rows, body) {
         return Err(ApiRefusal::of_key("body"));
     }
-    let mut fields = Fields::new();
-    take(alloc, &number_keys(body), body, &mut fields)?;
-    take(alloc, rows_in(asked, body), body, &mut fields)?;
-    Ok(fields)
+    take(alloc, &number_keys(body), body, fields)?;
+    take(alloc, rows_in(asked, body), body, fields)
 }
 
 // The keys of a command's number, which stand together.

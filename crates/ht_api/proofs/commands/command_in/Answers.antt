@@ -4,4 +4,4 @@ use Rattle.ht_api.proofs.Required.{has_required}
 use Rattle.ht_api.proofs.commands.command_in.Goals as goal
 
 pub command_of-requires : goal.command_of-requires
-command_of-requires c = has_required c.args.asked (json_in c.args.body.now) c.in_ok-fields.fields (sym c.in_ok-fields.ensures)
+command_of-requires c = has_required c.args.asked (json_in c.args.body.now) c.fill.new.fields (sym c.in_ok-fill.ensures)
