@@ -364,15 +364,13 @@ of_device t s last number (Turn at) p d of = absurd of
 of_device t s last number (Read caller what) p d of = absurd of
 
 repeated : (s : Slot) (t : TablesOf) (e : Event) (reply : Reply) (after : TablesOf) → IsSince s t → IsStep t e reply after → IsOf t s s.number e → IsSame s e → IsRepeat s t e after reply.answer
-repeated s t e reply after h (inr none) of same =
-    let answer = ap (λ (r : Reply). r.answer) none.0 in
-    record { same = inr (none.1, answer); told = inr (inr answer) }
+repeated s t e reply after h (inr none) of same = inr (inr (none.1, ap (λ (r : Reply). r.answer) none.0))
 repeated s t e reply after h (inl d) of same = at h.later
   where
     at : (h.last ≡ s) ⊎ (s.number < (h.last).number) → IsRepeat s t e after reply.answer
     at (inl is) =
         let told = (acts_once t e d.0 reply after d.1).again s (h.there ∙ ap Some is) of same in
-        record { same = inl (d.0, told.0); told = inl told.1 }
+        inl ((d.0, told.0), told.1)
     at (inr low) =
         let last = h.last in
         let is = slot_is s.person s.device t.slots last h.there in
@@ -380,7 +378,7 @@ repeated s t e reply after h (inl d) of same = at h.later
         let P : ℕ → Type 0 = λ x. device_slot t x last.device ≡ Some last in
         let there : IsLast t last = subst P (sym is.0) (subst D (sym is.1) h.there) in
         let told = (acts_once t e d.0 reply after d.1).stale last s.number there low (of_device t s last s.number e is.0 is.1 of) in
-        record { same = inl (d.0, told.0); told = inr (inl (last.number, low, told.1)) }
+        inr (inl ((d.0, told.0), record { last = last; there = h.there; later = low; told = told.1 }))
 
 pub remembers : (s : Slot) (t : TablesOf) (history : History) → IsSince s t → IsHistory t history → Remembers s t history
 remembers s t [] h legal = tt

@@ -73,11 +73,24 @@ pub record IsSince (s : Slot) (t : TablesOf) : Type 0 where
   -- as in all tables that are sound
   pub ordered : AscendBy slot_cmp t.slots
 
--- Wherever the slot's command is sent again, it does nothing, behind the turn before it: it gets its first
--- answer, or is refused since a later one was accepted. For want of memory nothing changes at all.
-pub record IsRepeat (s : Slot) (t : TablesOf) (e : Event) (after : TablesOf) (answer : Answer) : Type 0 where
-  pub same : ((left : Option Record) × IsTurnAlone t e left after) ⊎ ((after ≡ t) × (answer ≡ memory_reply.answer))
-  pub told : (answer ≡ answer_of s.kept) ⊎ (((last : ℕ) × (s.number < last) × (answer ≡ Refused (refusal.NumberStale last))) ⊎ (answer ≡ memory_reply.answer))
+-- the event does nothing, after the turn before it
+abbrev pub DoesNothing : TablesOf → Event → TablesOf → Type 0
+DoesNothing t e after = (left : Option Record) × IsTurnAlone t e left after
+
+-- the last command of the slot's device is a later one, and the answer tells its number
+pub record IsOvertaken (s : Slot) (t : TablesOf) (answer : Answer) : Type 0 where
+  pub last : Slot
+  pub there : device_slot t s.person s.device ≡ Some last
+  pub later : s.number < last.number
+  pub told : answer ≡ Refused (refusal.NumberStale last.number)
+
+-- Wherever the slot's command is sent again, it does nothing, and gets its first answer, or is refused since
+-- a later one was accepted. For want of memory nothing changes at all.
+abbrev pub IsRepeat : Slot → TablesOf → Event → TablesOf → Answer → Type 0
+IsRepeat s t e after answer =
+    (DoesNothing t e after × (answer ≡ answer_of s.kept))
+    ⊎ (DoesNothing t e after × IsOvertaken s t answer)
+    ⊎ ((after ≡ t) × (answer ≡ memory_reply.answer))
 
 abbrev pub Remembers : Slot → TablesOf → History → Type 0
 Remembers s t [] = Unit {0}

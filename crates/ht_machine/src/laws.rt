@@ -15,13 +15,13 @@ ghost use Rattle.ht_machine.specs.Deciding.{Decides};
 ghost use Rattle.ht_machine.specs.History.{History, IsHistory};
 ghost use Rattle.ht_machine.specs.Once.{IsAccepted, IsSince, Remembers};
 ghost use Rattle.ht_machine.specs.TakenOnce.{AreNumbered, WasTaken, is_among};
-ghost use Rattle.ht_machine.specs.Timer.{AreAlike, AddsTurns, IsTimely, answers_of, events_of, last_after};
+ghost use Rattle.ht_machine.specs.Timer.{AreAlike, AddsTurns, IsTimely, answers_of, events_of, moment_of_last};
 ghost use Rattle.ht_machine.specs.Turning.{IsTurn};
 ghost use Rattle.ht_tree.specs.declared.slot.Slot.{Slot};
 ghost use Rattle.ht_tree.specs.Slots.{slot_cmp};
 ghost use Rattle.ht_tree.specs.Tables.{TablesOf};
 
-/// Whatever memory there is, an event has one outcome on given tables: one record that it leaves, one
+/// Apart from want of memory an event has one outcome on given tables: one record that it leaves, one
 /// reply, and one state of the tables after it.
 pub fn one_outcome()
     ensures left { (t : TablesOf) (e : Event) (k l : Option Record) (r s : Reply) (u v : TablesOf) → Decides t e k r u → Decides t e l s v → k ≡ l }
@@ -30,8 +30,9 @@ pub fn one_outcome()
 {}
 
 /// A numbered command that was accepted acts once: whenever it is sent again in a history, by the same
-/// person's device and for the same operation and task, it does nothing, behind what was due before it. It
-/// gets its first answer, or is refused since the device has sent a later one, or for want of memory.
+/// person's device and for the same operation and task, it does nothing, after what was due before it. It
+/// gets its first answer, or is refused with the number of a later one that was accepted of the device. For
+/// want of memory nothing changes at all, and that is the answer.
 pub fn a_command_acts_once()
     ensures kept { (t : TablesOf) (at moment : Moment) (caller : List ℕ) (r : Retry) (task : TaskId) (command : Command) (reply : Reply) (after : TablesOf)
         → AscendBy slot_cmp t.slots → Decides t (Ask at caller (Some r) task command) (Some (Asked moment caller (Some r) task command)) reply after
@@ -54,15 +55,15 @@ pub fn the_timer_changes_no_answer()
     ensures { (t : TablesOf) (few more : History) → IsTimely t few → IsTimely t more → AddsTurns (events_of few) (events_of more) → answers_of few ≡ answers_of more }
 {}
 
-/// One more Turn event, at the last moment of the history that has more of them or behind it, leaves
+/// One more Turn event, at the last moment of the history that has more of them or later, leaves
 /// tables that are equal but for the moment of the last record.
 pub fn a_last_turn_leaves_the_same()
-    ensures { (t : TablesOf) (few more : History) → IsTimely t few → IsTimely t more → AddsTurns (events_of few) (events_of more) → (at : Moment) → last_after t.last (events_of more) ≤ at.0 → (k l : Option Record) (r s : Reply) (u v : TablesOf) → Decides (end_of t few) (Turn at) k r u → Decides (end_of t more) (Turn at) l s v → AreAlike u v }
+    ensures { (t : TablesOf) (few more : History) → IsTimely t few → IsTimely t more → AddsTurns (events_of few) (events_of more) → (at : Moment) → moment_of_last t.last (events_of more) ≤ at.0 → (k l : Option Record) (r s : Reply) (u v : TablesOf) → Decides (end_of t few) (Turn at) k r u → Decides (end_of t more) (Turn at) l s v → AreAlike u v }
 {}
 
 /// A deadline that was taken is never taken again: it stays so whatever event comes, and no turn takes it.
-/// One that a turn takes is taken behind it. The rows stand at their numbers, as in all tables that are
-/// sound.
+/// One that a turn takes counts as taken after it. The rows stand at their numbers, as in all tables that
+/// are sound.
 pub fn a_deadline_is_taken_once()
     ensures stays { (t : TablesOf) (e : Event) (k : Option Record) (r : Reply) (after : TablesOf) (task place : ℕ) → AreNumbered t.rows → Decides t e k r after → WasTaken t task place → WasTaken after task place }
     ensures never_again { (by : ℕ) (t after : TablesOf) (dues : List Due) (task place : ℕ) → AreNumbered t.rows → IsTurn by t dues after → WasTaken t task place → is_among task place dues ≡ false }

@@ -10,7 +10,7 @@ use Rattle.ht_owner.specs.declared.follow.Follow.TheVariants as follow
 use Rattle.ht_owner.specs.declared.refusal.ActRefusal.{ActRefusal}
 use Rattle.ht_owner.specs.declared.refusal.ActRefusal.TheVariants as why
 use Rattle.ht_owner.specs.Effects.{does, effect, refuses}
-use Rattle.ht_owner.specs.Moving.{is_final}
+use Rattle.ht_base.specs.State.{is_final}
 use Rattle.ht_rules.specs.declared.judging.Verdict.TheVariants.{Yes}
 use Rattle.ht_rules.specs.Judging.{verdict}
 use Rattle.ht_tree.specs.declared.row.Row.{Row}
@@ -52,7 +52,8 @@ pub record Refuses (t : TablesOf) (old new : PlanOf) (task caller : ℕ) (at : M
   pub effect_is : effect (directory t) (planned t old).rows model caller at command before ≡ refuses refusal
   pub same : new ≡ old
 
+-- what a command makes of the plan, by its result; want of memory leaves the plan
 abbrev pub Acts : TablesOf → PlanOf → PlanOf → ℕ → ℕ → Moment → Command → Result Follow ActRefusal → Type 0
 Acts t old new task caller at command (Ok follow) = Makes t old new task caller at command follow
 Acts t old new task caller at command (Err (why.Refused refusal)) = Refuses t old new task caller at command refusal
-Acts t old new task caller at command (Err why.Memory) = Unit {0}
+Acts t old new task caller at command (Err why.Memory) = new ≡ old

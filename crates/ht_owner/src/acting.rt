@@ -15,8 +15,8 @@ use std::alloc::Global;
 /// follows (WS-HumanTask 1.1, 7.1.1 "Participant operations"). The end of a task follows, and its
 /// activation: until then its row has its state and its owner.
 ///
-/// `at` is the moment at which it acts, at most the last there is. A refusal leaves the plan as it
-/// was; after want of memory it may hold less or more, and the caller goes back to its mark.
+/// `at` is the moment at which it acts, at most the last there is. A refusal and want of memory leave the
+/// plan as it was.
 pub fn act(
     alloc: Global,
     tables: &Tables,
