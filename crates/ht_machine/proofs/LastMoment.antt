@@ -1,5 +1,4 @@
--- What is taken, and what comes of a command, is the same whatever the moment of the last accepted command
--- was.
+-- What is taken, and what comes of a command, is the same whatever the moment of the last record was.
 use Rattle.std.proofs.Common.{◌≡◌, ℕ, zero, suc, List, [], ◌∷◌, Option, None, Some, if◌then◌else◌, refl, ap, ◌∙◌}
 use Rattle.ht_base.specs.declared.event.Command.{Command}
 use Rattle.ht_base.specs.declared.event.Command.TheVariants as command

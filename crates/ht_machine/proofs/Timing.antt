@@ -20,7 +20,7 @@ use Rattle.ht_machine.specs.declared.sending.Sending.TheVariants.{New, Answered}
 use Rattle.ht_machine.specs.Commands.{Outcome, accepted, refused}
 use Rattle.ht_machine.specs.Deciding.{AsksAs, Decides, DecidesAt, Leads, Settles, after_with, effective}
 use Rattle.ht_machine.specs.History.{History, IsHistory, IsStep}
-use Rattle.ht_machine.specs.Timer.{AreAlike, AddsTurns, HadMemory, IsTimely, NeverFall, answers_of, events_of, is_command, last_after, moment_after}
+use Rattle.ht_machine.specs.Timer.{AreAlike, AddsTurns, HadMemory, IsTimely, NeverFall, answers_of, events_of, is_command, moment_of_last, moment_after}
 use Rattle.ht_machine.specs.Timer.AddsTurns.{both, none as alone, turn as added}
 use Rattle.ht_machine.specs.Turning.{IsTurn}
 use Rattle.ht_machine.proofs.LastMoment.{leads_with_last, turn_with_last}
@@ -133,7 +133,7 @@ data Timed : ℕ → TablesOf → List Event → List Answer → ℕ → TablesO
   ask : {f g : ℕ} {s t u : TablesOf} {es : List Event} {xs : List Answer} {at : Moment} {caller : List ℕ} {retry : Option Retry} {task : TaskId} {c : Command} {left : Option Record} {r : Reply} → f ≤ at.0 → Decides s (Ask at caller retry task c) left r t → Timed at.0 t es xs g u → Timed f s (Ask at caller retry task c ∷ es) (r.answer ∷ xs) g u
   read : {f g : ℕ} {s u : TablesOf} {es : List Event} {xs : List Answer} {caller : List ℕ} {what : Query} → Timed f s es xs g u → Timed f s (Read caller what ∷ es) xs g u
 
-timed : (f : ℕ) (s : TablesOf) (h : History) → IsHistory s h → HadMemory h → NeverFall f (events_of h) → Timed f s (without_turns (events_of h)) (answers_of h) (last_after f (events_of h)) (end_of s h)
+timed : (f : ℕ) (s : TablesOf) (h : History) → IsHistory s h → HadMemory h → NeverFall f (events_of h) → Timed f s (without_turns (events_of h)) (answers_of h) (moment_of_last f (events_of h)) (end_of s h)
 timed f s [] legal memory moments = stop
 timed f s (e ∷ es) (step, legal) (plenty, memory) (up, moments) = at e.event step up (timed (moment_after f e.event) e.after es legal memory moments)
   where
@@ -274,7 +274,7 @@ same_others (e ∷ few) (x ∷ more) (both rest) = at e (same_others few more re
 same_others few (Turn at ∷ more) (added rest) = same_others few more rest
 
 -- the last moment is no lower with them
-no_lower : (f g : ℕ) (few more : List Event) → f ≤ g → AddsTurns few more → NeverFall g more → last_after f few ≤ last_after g more
+no_lower : (f g : ℕ) (few more : List Event) → f ≤ g → AddsTurns few more → NeverFall g more → moment_of_last f few ≤ moment_of_last g more
 no_lower f g [] [] low alone up = low
 no_lower f g (e ∷ few) [] low adds up = elim adds [ ]
 no_lower f g (e ∷ few) (x ∷ more) low (both rest) (up, later) = no_lower (moment_after f e) (moment_after g e) few more (at e) rest later
@@ -288,15 +288,15 @@ no_lower f g few (Turn at ∷ more) low (added rest) (up, later) = no_lower f at
 -- ---- two histories of the same events, to one of which Turn events are added
 
 module _ (t : TablesOf) (few more : History) (a : IsTimely t few) (b : IsTimely t more) (adds : AddsTurns (events_of few) (events_of more)) where
-  compared : Together (answers_of few) (answers_of more) (last_after t.last (events_of few)) (last_after t.last (events_of more)) (end_of t few) (end_of t more)
+  compared : Together (answers_of few) (answers_of more) (moment_of_last t.last (events_of few)) (moment_of_last t.last (events_of more)) (end_of t few) (end_of t more)
   compared =
-      let T : List Event → Type 0 = λ es. Timed t.last t es (answers_of few) (last_after t.last (events_of few)) (end_of t few) in
-      together (without_turns (events_of more)) t.last t.last t t (answers_of few) (answers_of more) (last_after t.last (events_of few)) (last_after t.last (events_of more)) (end_of t few) (end_of t more) (omega arith) (omega arith) (same_meet t.last t.last t t refl) (subst T (same_others (events_of few) (events_of more) adds) (timed t.last t few a.legal a.memory a.moments)) (timed t.last t more b.legal b.memory b.moments)
+      let T : List Event → Type 0 = λ es. Timed t.last t es (answers_of few) (moment_of_last t.last (events_of few)) (end_of t few) in
+      together (without_turns (events_of more)) t.last t.last t t (answers_of few) (answers_of more) (moment_of_last t.last (events_of few)) (moment_of_last t.last (events_of more)) (end_of t few) (end_of t more) (omega arith) (omega arith) (same_meet t.last t.last t t refl) (subst T (same_others (events_of few) (events_of more) adds) (timed t.last t few a.legal a.memory a.moments)) (timed t.last t more b.legal b.memory b.moments)
 
   pub same_answers : answers_of few ≡ answers_of more
   same_answers = compared.answers
 
-  pub same_ends : (at : Moment) (k l : Option Record) (r q : Reply) (u v : TablesOf) → last_after t.last (events_of more) ≤ at.0 → Decides (end_of t few) (Turn at) k r u → Decides (end_of t more) (Turn at) l q v → AreAlike u v
+  pub same_ends : (at : Moment) (k l : Option Record) (r q : Reply) (u v : TablesOf) → moment_of_last t.last (events_of more) ≤ at.0 → Decides (end_of t few) (Turn at) k r u → Decides (end_of t more) (Turn at) l q v → AreAlike u v
   same_ends at k l r q u v late here there =
       let s = end_of t few in
       let w = end_of t more in

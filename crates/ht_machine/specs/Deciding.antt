@@ -33,7 +33,7 @@ use Rattle.ht_machine.specs.Sending.{IsSent, answer_of, with_reply}
 use Rattle.ht_machine.specs.Sheets.{sheet_of}
 use Rattle.ht_machine.specs.Turning.{IsTurn}
 
--- the moment at which an event acts: its own, and never before the last accepted command
+-- the moment at which an event acts: its own, and never before the last record
 abbrev pub effective : TablesOf → ℕ → ℕ
 effective t at = max at t.last
 

@@ -188,7 +188,7 @@ annas = reply.Done (record { 0 = 1 }) Reserved (Some (codes "anna"))
 a_claim : Decides one_task (asks (codes "anna") 2000 1 Claim) (kept (codes "anna") 2000 1 Claim) (reply_of (Done (record { 0 = 1 }) Reserved (Some (codes "anna")))) (claimed_at 2000)
 a_claim = at_once refl (record { sending = New 0; sent = refl; asks = (accepted (claimed_at 1000) 1, (one_task, refl, (ready, unit, refl, refl, (refl, refl))), (annas, (claimed, refl, refl), refl, refl, refl)) })
 
--- an event acts never before the last accepted command, and is kept as of then
+-- an event acts never before the last record, and is kept as of then
 an_earlier_moment : Decides one_task (asks (codes "anna") 10 1 Claim) (kept (codes "anna") 1000 1 Claim) (reply_of (Done (record { 0 = 1 }) Reserved (Some (codes "anna")))) (claimed_at 1000)
 an_earlier_moment = at_once refl (record { sending = New 0; sent = refl; asks = (accepted (claimed_at 1000) 1, (one_task, refl, (ready, unit, refl, refl, (refl, refl))), (annas, (claimed, refl, refl), refl, refl, refl)) })
 
@@ -248,7 +248,7 @@ another_person = refl
 
 -- ---- a comment
 
--- which acts as of the last accepted command, and has that moment
+-- which acts as of the last record, and has that moment
 abbrev commented : Row
 commented = record claimed { comments = record { moment = record { 0 = 2000 }; person = 3; text = codes "why" } ∷ [] }
 

@@ -31,9 +31,9 @@ NeverFall before [] = Unit {0}
 NeverFall before (e ∷ es) = (before ≤ moment_after before e) × NeverFall (moment_after before e) es
 
 -- the moment of the last one
-abbrev pub last_after : ℕ → List Event → ℕ
-last_after before [] = before
-last_after before (e ∷ es) = last_after (moment_after before e) es
+abbrev pub moment_of_last : ℕ → List Event → ℕ
+moment_of_last before [] = before
+moment_of_last before (e ∷ es) = moment_of_last (moment_after before e) es
 
 -- ---- histories
 

@@ -1,5 +1,5 @@
 -- Rows of the definitions on the timer, and of what is taken once.
-use Rattle.std.specs.Prelude.{◌≡◌, ◌≤◌, ℕ, Bool, true, false, List, [], ◌∷◌, None, refl}
+use Rattle.std.specs.Prelude.{◌≡◌, ℕ, true, false, [], ◌∷◌, None, refl}
 use Rattle.ht_base.specs.declared.event.Command.TheVariants as command
 use Rattle.ht_base.specs.declared.event.Event.{Event}
 use Rattle.ht_base.specs.declared.event.Event.TheVariants.{Ask, Read, Turn}
@@ -11,7 +11,7 @@ use Rattle.ht_base.specs.declared.reply.Reply.{Reply}
 use Rattle.ht_base.specs.History.{Entry}
 use Rattle.ht_due.specs.declared.due.Due.{Due}
 use Rattle.ht_machine.specs.TakenOnce.{is_among, is_of_deadline}
-use Rattle.ht_machine.specs.Timer.{AddsTurns, AreAlike, answers_of, last_after}
+use Rattle.ht_machine.specs.Timer.{AddsTurns, AreAlike, answers_of, moment_of_last}
 use Rattle.ht_machine.specs.Timer.AddsTurns.{both, none, turn}
 use Rattle.ht_tree.specs.Tables.{TablesOf, at_moment}
 
@@ -26,13 +26,13 @@ look = Read [] (query.Sheet (record { 0 = 1 }))
 
 -- ---- moments
 
-of_none : last_after 7 [] ≡ 7
+of_none : moment_of_last 7 [] ≡ 7
 of_none = refl
 
-of_a_read : last_after 7 (ask_at 9 ∷ look ∷ []) ≡ 9
+of_a_read : moment_of_last 7 (ask_at 9 ∷ look ∷ []) ≡ 9
 of_a_read = refl
 
-of_a_turn : last_after 7 (look ∷ ask_at 8 ∷ turn_at 12 ∷ []) ≡ 12
+of_a_turn : moment_of_last 7 (look ∷ ask_at 8 ∷ turn_at 12 ∷ []) ≡ 12
 of_a_turn = refl
 
 -- ---- Turn events that are added: before, between and behind

@@ -44,7 +44,9 @@ pub fn run_one(alloc: Global, tables: &mut Tables, event: &Event) -> Result<Repl
     ensures step { MatchResult result (λ reply. IsStep tables.old.tables event.now reply tables.new.tables) (λ _. IsStep tables.old.tables event.now memory_reply tables.new.tables) }
     ensures err { OnErr result (tables.new.tables ≡ tables.old.tables) }
 {
-    let Decision { plan, left, reply } = decide(alloc, tables, event)?;
+    let mut plan = Plan::begin(alloc)?;
+    let (left, reply) = plan_event(alloc, tables, &mut plan, event)?;
+    tables.prepare(&plan)?;
     let at = last_after(tables, &left);
     tables.commit(plan, at);
     Ok(reply)
@@ -102,7 +104,7 @@ fn plan_event(
     }
 }
 
-// The moment at which an event acts: its own, and never before the last accepted command.
+// The moment at which an event acts: its own, and never before the last record.
 fn effective(last: Moment, at: Moment) -> Moment
     ensures { result.0 ≡ max at.0 last.0 }
 {

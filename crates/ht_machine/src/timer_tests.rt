@@ -88,6 +88,7 @@ fn numbered(event: Event, number: u32) -> Event
     }
 }
 
+// The turns since the moment of the command before, up to that of the next.
 fn run_turns(
     alloc: Global,
     tables: &mut Tables,
@@ -109,7 +110,7 @@ fn run_turns(
     Ok(())
 }
 
-// Whether the command is answered so, behind the turns since the moment of the one before it.
+// Whether the command is answered so.
 fn is_answered_so(
     alloc: Global,
     tables: &mut Tables,
@@ -175,8 +176,12 @@ fn has_same_owner(a: &Row, b: &Row) -> bool {
     a.owner == b.owner && a.last_owner == b.last_owner && a.initiator == b.initiator
 }
 
+fn has_same_place(a: &Row, b: &Row) -> bool {
+    a.model == b.model && a.parent == b.parent && a.priority == b.priority && a.fault == b.fault
+}
+
 fn is_same_row(a: &Row, b: &Row) -> bool {
-    a.model == b.model
+    has_same_place(a, b)
         && a.state == b.state
         && a.started == b.started
         && has_same_owner(a, b)
