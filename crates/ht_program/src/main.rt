@@ -22,21 +22,25 @@ mod texts;
 mod top_call;
 mod words;
 
+use ending::Ending;
 use ht_outside::{FileTexts, StdSink, StdSource};
 pub use laws::one_output;
 pub use status::Status;
-use status::exit_code;
+use status::{exit_code, line_of};
 use std::env;
 use std::io::{self, ErrorKind};
 use std::process::ExitCode;
 use std::rt::Env;
+use top_call::complain;
 pub use top_call::office;
 
 fn main(rt: HostRuntime) -> ExitCode {
+    let mut complaints = StdSink::new(rt.stderr());
     let words = match words_of(&rt) {
         Ok(words) => words,
         Err(error) => {
             if error.kind() == ErrorKind::OutOfMemory {
+                complain(&mut complaints, &line_of(Ending::Memory));
                 return exit_code(Status::MEMORY);
             }
             // Words that are no text are not in the grammar, as none are.
@@ -45,7 +49,6 @@ fn main(rt: HostRuntime) -> ExitCode {
     };
     let mut input = StdSource::new(rt.stdin());
     let mut output = StdSink::new(rt.stdout());
-    let mut complaints = StdSink::new(rt.stderr());
     let mut texts = FileTexts::new(rt.alloc(), &rt);
     let status = office(
         rt.alloc(),

@@ -101,8 +101,8 @@ fn complain_unread<Q: Sink>(complaints: &mut Q, name: &str)
     complain(complaints, b"\n");
 }
 
-// Writes a line, if there is one. That it can't be written changes no status.
-fn complain<Q: Sink>(complaints: &mut Q, line: &[u8])
+/// Writes a line, if there is one. That it can't be written changes no status.
+pub(crate) fn complain<Q: Sink>(complaints: &mut Q, line: &[u8])
     ensures { Complains (Q.sink_state complaints.old) (Q.sink_state complaints.new) line.now }
 {
     if line.is_empty() {
