@@ -29,7 +29,7 @@ impl Model for DueQueue {
 }
 
 impl DueQueue {
-    /// Nothing is due, and no room is kept.
+    /// Nothing is due.
     pub fn new(alloc: Global) -> DueQueue
         ensures { result.dues ≡ [] }
     {

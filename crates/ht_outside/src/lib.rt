@@ -1,6 +1,6 @@
-//! The outside of the server as traits: where bytes come from, where they go, and where texts are
-//! read by name. Each object counts its faults, and an object that can tell its bytes tells them.
-//! Beside each trait stand a form in memory for tests and an adapter to the real thing.
+//! The outside of the server as traits: where bytes come from and go, where texts are read by name,
+//! and the disks on which a file is kept. Each object counts its faults, and an object that can tell
+//! its bytes tells them. Of each there are forms in memory and an adapter to the real thing.
 #![tactic(auto)]
 
 mod asked;
