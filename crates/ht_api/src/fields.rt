@@ -131,7 +131,7 @@ fn rows_of_none(asked: Asked) -> &'static [(Key, bool)]
     }
 }
 
-// A body without keys gives no value, and lacks a required one.
+// A body without keys gives no value, and is refused where one is required.
 fn fill_from_none(rows: &[(Key, bool)]) -> Result<(), ApiRefusal>
     ensures { Fills (taken rows.now (object no_members) no_fields) no_fields result }
 {

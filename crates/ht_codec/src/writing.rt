@@ -12,7 +12,7 @@ use crate::writing_fields::{
 use ht_base::{Bytes, Command, Memory, Moment, Name, Op, Parts, Record};
 use std::alloc::Global;
 
-/// The bytes for which there is room at once: most records take no more.
+/// The bytes for which there is room at once.
 const FIRST_ROOM: u32 = 64;
 
 /// The one spelling of the record.

@@ -4,7 +4,7 @@ use Rattle.ht_base.specs.declared.moment.Moment.{Moment}
 use Rattle.ht_base.specs.declared.operation.Op.TheVariants.{Resume, Suspend}
 use Rattle.ht_base.specs.declared.state.State.{State}
 use Rattle.ht_base.specs.declared.state.State.TheVariants.{Ready, Reserved, InProgress, SuspendedReady, SuspendedReserved, SuspendedInProgress, Completed, Failed, Error, Exited, Obsolete}
-use Rattle.ht_base.specs.State.{contains_state}
+use Rattle.ht_base.specs.State.{contains_state, is_final}
 use Rattle.ht_compose.specs.declared.reaching.Change.{Change}
 use Rattle.ht_compose.specs.declared.reaching.Change.TheVariants as change
 use Rattle.ht_compose.specs.Downward.{closed, ended, freed, held, moved_by}
@@ -12,7 +12,6 @@ use Rattle.ht_compose.specs.Reaching.{changed, touches}
 use Rattle.ht_models.specs.Model.{ModelOf}
 use Rattle.ht_rules.specs.States.{opened}
 use Rattle.ht_tree.specs.declared.row.Row.{Row}
-use Rattle.ht_base.specs.State.{is_final}
 use Rattle.ht_tree.specs.Soundness.{FitsIn, IsSoundIn, IsTimed, IsWhose, is_created, is_owned, is_ownerless, is_suspended, needs_owner}
 use Rattle.ht_tree.proofs.PublicLaws.{standing}
 

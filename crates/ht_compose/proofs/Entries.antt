@@ -7,9 +7,8 @@ use Rattle.std.specs.Prelude.{slice_get}
 use Rattle.ht_base.specs.declared.task_id.TaskId.{TaskId}
 use Rattle.ht_compose.specs.Finding.{rows_of}
 use Rattle.ht_compose.specs.Finishes.{all_ended, completed}
-use Rattle.ht_base.specs.State.{is_completed}
+use Rattle.ht_base.specs.State.{is_completed, is_final}
 use Rattle.ht_tree.specs.declared.row.Row.{Row}
-use Rattle.ht_base.specs.State.{is_final}
 use Rattle.ht_tree.specs.Families.{is_of_entry, is_sub_of, sub_tasks}
 use Rattle.ht_tree.specs.Rows.{row_at}
 use Rattle.ht_tree.specs.Soundness.{IsSound}

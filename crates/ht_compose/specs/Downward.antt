@@ -4,14 +4,13 @@ use Rattle.ht_base.specs.declared.operation.Op.{Op}
 use Rattle.ht_base.specs.declared.operation.Op.TheVariants.{Resume, Suspend}
 use Rattle.ht_base.specs.declared.state.State.{State}
 use Rattle.ht_base.specs.declared.state.State.TheVariants.{Exited, Obsolete}
-use Rattle.ht_base.specs.State.{contains_state}
+use Rattle.ht_base.specs.State.{contains_state, is_final}
 use Rattle.ht_rules.specs.declared.changes.After.{After}
 use Rattle.ht_rules.specs.declared.changes.After.TheVariants as after
 use Rattle.ht_rules.specs.Changes.{changing}
 use Rattle.ht_rules.specs.States.{opened}
 use Rattle.ht_compose.specs.Families.{is_above}
 use Rattle.ht_tree.specs.declared.row.Row.{Row}
-use Rattle.ht_base.specs.State.{is_final}
 use Rattle.ht_tree.specs.Soundness.{is_suspended}
 
 -- each row below the task becomes what is said, and the others stay

@@ -9,10 +9,9 @@ use Rattle.ht_base.specs.declared.value.Value.{Value}
 use Rattle.ht_base.specs.declared.values.Values.{Values}
 use Rattle.ht_base.specs.Kinds.{kind_of_how, kind_of_value}
 use Rattle.ht_base.specs.Values.{put, value_of}
-use Rattle.ht_base.specs.State.{is_final}
+use Rattle.ht_base.specs.State.{is_completed, is_final}
 use Rattle.ht_tree.specs.Families.{is_of_entry}
 use Rattle.ht_expr.specs.declared.environment.Env.{Env}
-use Rattle.ht_base.specs.State.{is_completed}
 use Rattle.ht_expr.specs.Kinds.{Declared}
 use Rattle.ht_expr.specs.KindTable.{same_kind}
 use Rattle.ht_expr.specs.Trees.{Tree}

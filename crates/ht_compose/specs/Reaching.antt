@@ -2,7 +2,7 @@
 use Rattle.std.specs.Prelude.{◌≡◌, ℕ, ◌==◌, ◌≤◌, ◌<◌, nat_lt, Bool, false, not, List, length, map, Some, IsTrue, if◌then◌else◌}
 use Rattle.ht_base.specs.declared.state.State.{State}
 use Rattle.ht_base.specs.declared.state.State.TheVariants.{Obsolete}
-use Rattle.ht_base.specs.State.{contains_state}
+use Rattle.ht_base.specs.State.{contains_state, is_final}
 use Rattle.ht_rules.specs.States.{opened}
 use Rattle.ht_compose.specs.declared.reaching.Change.{Change}
 use Rattle.ht_compose.specs.declared.reaching.Change.TheVariants as change
@@ -11,7 +11,6 @@ use Rattle.ht_compose.specs.declared.reaching.Reach.TheVariants as reach
 use Rattle.ht_compose.specs.Downward.{end_below, ended, freed, held}
 use Rattle.ht_compose.specs.Families.{is_above}
 use Rattle.ht_tree.specs.declared.row.Row.{Row}
-use Rattle.ht_base.specs.State.{is_final}
 use Rattle.ht_tree.specs.Plans.{Goes, PlanOf, planned}
 use Rattle.ht_tree.specs.Soundness.{is_suspended}
 use Rattle.ht_tree.specs.Tables.{TablesOf, task_row, with_row, with_rows}
