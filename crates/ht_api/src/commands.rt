@@ -1,11 +1,13 @@
-ghost use Rattle.std.specs.Prelude.{◌≡◌, [], Ok, unwrap_or};
+ghost use Rattle.std.specs.Prelude.{◌≡◌, ◌==◌, [], Ok, false, length, unwrap_or};
+ghost use Rattle.serde_json.specs.Data.{object, no_members};
 ghost use Rattle.ht_api.specs.Commands as spec;
-ghost use Rattle.ht_api.specs.Commands.{HasAll};
+ghost use Rattle.ht_api.specs.Commands.{HasAll, command_from};
+ghost use Rattle.ht_api.specs.Fields.{fields_in};
 ghost use Rattle.ht_api.specs.Keys.{keys_of};
 ghost use Rattle.ht_api.specs.Refusals.{Gives};
 
 use crate::asked::Asked;
-use crate::fields::{Fields, fill};
+use crate::fields::{Fields, fill, is_bare, take_none};
 use crate::keys::Key;
 use crate::refusal::ApiRefusal;
 use ht_base::{Command, End, Moment, Parts, Retry};
@@ -17,6 +19,32 @@ pub(crate) fn command_in(
     asked: Asked,
     body: &[u8],
 ) -> Result<(Option<Retry>, Command), ApiRefusal>
+    ensures { Gives (spec.command_in asked body.now) result }
+{
+    if is_bare(body) {
+        return bare_command(alloc, asked);
+    }
+    full_command(alloc, asked, body)
+}
+
+// The command of a body without keys, as most bodies are. No field is filled for it.
+fn bare_command(alloc: Global, asked: Asked) -> Result<(Option<Retry>, Command), ApiRefusal>
+    ensures { Gives (command_from asked (fields_in asked (object no_members))) result }
+{
+    take_none(asked)?;
+    let command = command_of(alloc, asked, Fields::new())?;
+    Ok((None, command))
+}
+
+// The same of any other body.
+// Apart, since its fields would be cleared also for a body without keys.
+#[inline(never)]
+fn full_command(
+    alloc: Global,
+    asked: Asked,
+    body: &[u8],
+) -> Result<(Option<Retry>, Command), ApiRefusal>
+    requires { (length body.now == 0) ≡ false }
     ensures { Gives (spec.command_in asked body.now) result }
 {
     let mut fields = Fields::new();
@@ -35,6 +63,8 @@ fn retry_of(device: Option<u8>, number: Option<u32>) -> Option<Retry>
     })
 }
 
+// Where the fields are known to have no values, nothing is moved.
+#[inline(always)]
 fn command_of(alloc: Global, asked: Asked, fields: Fields) -> Result<Command, ApiRefusal>
     requires { HasAll (keys_of asked) fields }
     ensures { result ≡ spec.command_of asked fields }

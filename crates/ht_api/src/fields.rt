@@ -111,14 +111,19 @@ pub(crate) fn fill(
     body: &[u8],
     fields: &mut Fields,
 ) -> Result<(), ApiRefusal>
-    requires { fields.old ≡ no_fields }
+    requires body { (length body.now == 0) ≡ false }
+    requires fields { fields.old ≡ no_fields }
     ensures { Fills (fields_from asked (json_in body.now)) fields.new result }
 {
-    if is_bare(body) {
-        return fill_from_none(rows_of_none(asked));
-    }
     let value = value_of(alloc, body)?;
     fill_from(alloc, asked, &value, fields)
+}
+
+/// Takes the values of a body without keys, which is refused where a value is required.
+pub(crate) fn take_none(asked: Asked) -> Result<(), ApiRefusal>
+    ensures { Fills (fields_in asked (object no_members)) no_fields result }
+{
+    fill_from_none(rows_of_none(asked))
 }
 
 // The keys that are looked at in a body that has none.
@@ -159,9 +164,9 @@ fn value_of(alloc: Global, body: &[u8]) -> Result<Value, ApiRefusal>
     }
 }
 
-// Whether the body has no keys, which most operations ask for. The reader, which first clears an
-// index of 16 KiB, isn't needed for it.
-fn is_bare(body: &[u8]) -> bool
+/// Whether the body has no keys, which most operations ask for. The reader, which first clears an
+/// index of 16 KiB, isn't needed for it.
+pub(crate) fn is_bare(body: &[u8]) -> bool
     ensures bare { IsTrue result → json_in body.now ≡ Some (object no_members) }
     ensures empty { result ≡ false → (length body.now == 0) ≡ false }
 {

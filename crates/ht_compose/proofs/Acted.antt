@@ -44,15 +44,31 @@ pub record MayReplace (u : TablesOf) (row after : Row) : Type 0 where
   pub ends : is_final row.state ≡ is_final after.state
   pub sound : IsSoundRow u row → IsSoundRow u after
 
+module _ (t : TablesOf) (old : PlanOf) (task : ℕ) (row after : Row) (sound : IsSound (planned t old)) (there : task_row (planned t old) task ≡ Some row) (may : MayReplace (planned t old) row after) where
+  put_for : IsPutAgain (planned t old) task row after
+  put_for = put_again_of (planned t old) task row after there (sound.numbered task row there) may.filed may.ends may.sound
+
+  pub fits_for : Fits t after
+  fits_for = sound_row_fits t.models (length t.people.persons) after (may.sound (sound.rows_sound task row there))
+
+  pub acts_for : (new : PlanOf) (at : Moment) (item : Item) (puts : List Task) (todo : List Item) → Goes t old new (planned t old) (with_row (planned t old) after) → Does at (planned t old) item (does (with_row (planned t old) after) todo) → map item_of puts ≡ todo → Acts t old new at item puts
+  acts_for new at item puts todo goes doing are = record {
+    done = does (with_row (planned t old) after) todo;
+    does = doing;
+    goes = goes;
+    sound = put_for.keeps sound;
+    puts_are = are;
+  }
+
 module _ {t : TablesOf} {old taken : PlanOf} {task : ℕ} {row after : Row} (is : IsTaken t old taken task row) (may : MayReplace (planned t old) row after) where
   pub again : IsPutAgain (planned t old) task row after
-  again = put_again_of (planned t old) task row after is.there ((is.sound).numbered task row is.there) may.filed may.ends may.sound
+  again = put_for t old task row after is.sound is.there may
 
   pub again_next : IsNext (planned t taken).rows after
   again_next = (is.lends).next after again.number again.next
 
   pub again_fits : Fits t after
-  again_fits = sound_row_fits t.models (length t.people.persons) after (may.sound ((is.sound).rows_sound task row is.there))
+  again_fits = fits_for t old task row after is.sound is.there may
 
   pub goes_again : (new : PlanOf) → Goes t taken new (planned t taken) (with_row (planned t taken) after) → Goes t old new (planned t old) (with_row (planned t old) after)
   goes_again new goes =
@@ -60,10 +76,4 @@ module _ {t : TablesOf} {old taken : PlanOf} {task : ℕ} {row after : Row} (is 
       put_again t old taken new after (subst L (sym again.number) is.lends) again.next goes
 
   pub acts_again : (new : PlanOf) (at : Moment) (item : Item) (puts : List Task) (todo : List Item) → Goes t taken new (planned t taken) (with_row (planned t taken) after) → Does at (planned t old) item (does (with_row (planned t old) after) todo) → map item_of puts ≡ todo → Acts t old new at item puts
-  acts_again new at item puts todo goes doing are = record {
-    done = does (with_row (planned t old) after) todo;
-    does = doing;
-    goes = goes_again new goes;
-    sound = again.keeps is.sound;
-    puts_are = are;
-  }
+  acts_again new at item puts todo goes doing are = acts_for t old task row after is.sound is.there may new at item puts todo (goes_again new goes) doing are

@@ -5,7 +5,6 @@ use Rattle.ht_base.specs.declared.moment.Moment.{Moment}
 use Rattle.ht_base.specs.declared.state.State.{State}
 use Rattle.ht_base.specs.declared.state.State.TheVariants.{Created, InProgress}
 use Rattle.ht_compose.proofs.Acted.{MayReplace, on_this_task}
-use Rattle.ht_compose.proofs.OneRow.{one}
 use Rattle.ht_compose.specs.Items.{Does, activated, activated_as, activates, does, still}
 use Rattle.ht_compose.specs.Items.Item.{Activate, Begin}
 use Rattle.ht_models.specs.Model.{ModelOf}
@@ -74,11 +73,6 @@ pub record IsActivated (u : TablesOf) (row after : Row) (m : ModelOf) : Type 0 w
   pub created : row.state ≡ Created
   pub of_model : model_of u row ≡ Some m
   pub is : after ≡ activated_as m.owner_required row
-
-pub is_activated : (u : TablesOf) (task : ℕ) (found row after : Row) (m : ModelOf) → Some found ≡ task_row u task → found.state ≡ Created → task_row u task ≡ Some row → model_of u row ≡ Some m → after ≡ activated_as m.owner_required row → IsActivated u row after m
-is_activated u task found row after m sight created there of_model is =
-    let same : found ≡ row = one (task_row u task) found row (sym sight) there in
-    record { created = ap (λ (r : Row). r.state) (sym same) ∙ created; of_model = of_model; is = is }
 
 module _ {u : TablesOf} {row after : Row} {m : ModelOf} (a : IsActivated u row after m) where
   its_need : needs_owner u.models row.model ≡ m.owner_required

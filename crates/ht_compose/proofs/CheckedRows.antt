@@ -17,9 +17,9 @@ use Rattle.ht_compose.specs.Reaching.{IsTask}
 use Rattle.ht_compose.specs.Running.{Acts, item_of}
 use Rattle.ht_models.specs.Model.{FinishOf, ModelOf}
 use Rattle.ht_models.specs.SetOutputs.{SetsOutputs}
-use Rattle.ht_tree.proofs.PublicLaws.{goes_then, stays}
+use Rattle.ht_tree.proofs.PublicLaws.{goes_then}
 use Rattle.ht_tree.specs.declared.row.Row.{Row}
-use Rattle.ht_tree.specs.Plans.{Goes, IsNext, IsPlanOf, PlanOf, planned}
+use Rattle.ht_tree.specs.Plans.{Goes, IsNext, PlanOf, planned}
 use Rattle.ht_tree.specs.Rows.{put_in, row_at}
 use Rattle.ht_tree.specs.Soundness.{Fits, IsSound}
 use Rattle.ht_tree.specs.Tables.{TablesOf, model_of, task_row, with_row, with_rows}
@@ -155,15 +155,3 @@ module _ {t : TablesOf} {old taken : PlanOf} {task : ℕ} {seen row : Row} {m : 
         let F : Option FinishOf → Type 0 = λ o. GathersBy u row m o after in
         let by = subst B (sym manual) (subst F (sym (its.finds).1) (output, (its.finds).2, refl)) in
         record { after = after; gathers = (row, m, its.there, its.of_model, by); goes = first; sound = (again is may).keeps is.sound }
-
--- ---- nothing is gathered
-
-pub gathers_nothing : (t : TablesOf) (p : PlanOf) (task : ℕ) (row : Row) (m : ModelOf) → IsPlanOf t p → IsSound (planned t p) → Some row ≡ task_row (planned t p) task → model_of (planned t p) row ≡ Some m → (if is_automatic m.completion then None else chosen (planned t p).rows m row) ≡ None → IsGathered t p p task
-gathers_nothing t p task row m fit sound there of_model none =
-    let u = planned t p in
-    let F : Option FinishOf → Type 0 = λ o. GathersBy u row m o u in
-    record { after = u; gathers = (row, m, sym there, of_model, subst F (sym none) refl); goes = stays t p fit; sound = sound }
-
-pub none_chosen : (b : Bool) (o : Option FinishOf) → o ≡ None → (if b then None else o) ≡ None
-none_chosen true o none = refl
-none_chosen false o none = none

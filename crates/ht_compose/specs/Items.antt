@@ -20,7 +20,7 @@ use Rattle.ht_models.specs.declared.choices.Trigger.TheVariants.{Automatic, Manu
 use Rattle.ht_models.specs.Model.{FinishOf, ModelOf}
 use Rattle.ht_models.specs.SubEntries.{SubEntry}
 use Rattle.ht_tree.specs.declared.row.Row.{Row}
-use Rattle.ht_tree.specs.Activation.{owner_by, state_by}
+use Rattle.ht_tree.specs.Activation.{activated_to, owner_by, state_by}
 use Rattle.ht_tree.specs.Creating.{new_row}
 use Rattle.ht_tree.specs.Rows.{put_in}
 use Rattle.ht_tree.specs.Soundness.{is_created}
@@ -66,8 +66,8 @@ is_sequential Parallel = false
 abbrev pub activated_as : Bool → Row → Row
 activated_as needs_owner row =
     if needs_owner
-    then record row { state = state_by row.potential_owners row.state; owner = owner_by row.potential_owners; waits = None }
-    else record row { state = state.InProgress; waits = None }
+    then activated_to (state_by row.potential_owners row.state) (owner_by row.potential_owners) row
+    else activated_to state.InProgress row.owner row
 
 abbrev pub activated : ModelOf → Row → Row
 activated m row = activated_as m.owner_required row

@@ -2,12 +2,13 @@ ghost use Rattle.std.specs.Prelude.{◌≡◌, IfOk, OnErr};
 ghost use Rattle.ht_base.specs.declared.moment.Moment.{Moment};
 ghost use Rattle.ht_compose.specs.Items.Item.{Activate};
 ghost use Rattle.ht_compose.specs.Running.{Acts};
+ghost use Rattle.ht_tree.specs.Activation.{activated_to};
 ghost use Rattle.ht_tree.specs.Plans.{IsPlanOf, planned};
 ghost use Rattle.ht_tree.specs.Soundness.{IsSound};
 ghost use Rattle.ht_compose.specs.Items as spec;
 
 use crate::item::{Item, alone};
-use ht_base::{Memory, State, TaskId};
+use ht_base::{Memory, Person, State, TaskId};
 use ht_tree::{Plan, Row, Tables, owner_by, state_by};
 use std::alloc::Global;
 
@@ -29,9 +30,9 @@ pub(crate) fn activate(
     if row.state != State::Created {
         return Ok(Vec::new(alloc));
     }
-    let row = plan.take(alloc, tables, task)?;
     let needs_owner = tables.models().model(row.model).owner_required;
-    plan.put(tables, activated(row, needs_owner))?;
+    let (state, owner) = activation(row, needs_owner);
+    plan.activate(alloc, tables, task, state, owner)?;
     if needs_owner {
         Ok(Vec::new(alloc))
     } else {
@@ -39,16 +40,14 @@ pub(crate) fn activate(
     }
 }
 
-fn activated(row: Row, needs_owner: bool) -> Row
-    ensures { result ≡ spec.activated_as needs_owner row }
+// The state and the owner that a row gets by its activation.
+fn activation(row: &Row, needs_owner: bool) -> (State, Option<Person>)
+    ensures { activated_to result.0 result.1 row.now ≡ spec.activated_as needs_owner row.now }
 {
-    let mut row = row;
     if needs_owner {
-        row.state = state_by(&row.potential_owners, row.state);
-        row.owner = owner_by(&row.potential_owners);
+        let owners = &row.potential_owners;
+        (state_by(owners, row.state), owner_by(owners))
     } else {
-        row.state = State::InProgress;
+        (State::InProgress, row.owner)
     }
-    row.waits = None;
-    row
 }

@@ -3,7 +3,6 @@ use Rattle.std.proofs.Common.{◌≡◌, ℕ, ◌<◌, ◌≤◌, List, length, 
 use Rattle.ht_base.specs.declared.event.Command.{Command}
 use Rattle.ht_base.specs.declared.event.Command.TheVariants as command
 use Rattle.ht_base.specs.declared.operation.Op.{Op}
-use Rattle.ht_base.specs.declared.record.Record.{Record}
 use Rattle.ht_base.specs.declared.reply.Answer.{Answer}
 use Rattle.ht_base.specs.declared.reply.Answer.TheVariants.{Refused}
 use Rattle.ht_base.specs.declared.reply.Refusal.{Refusal}
@@ -13,7 +12,6 @@ use Rattle.ht_base.specs.Events.{IsRetry, IsTaskOf, op_of}
 use Rattle.ht_compose.specs.ByHand.{IsEntryOf}
 use Rattle.ht_machine.specs.declared.asking.Asked.{Asked as Ask}
 use Rattle.ht_machine.specs.declared.sending.Sending.{Sending}
-use Rattle.ht_machine.specs.declared.sending.Sending.TheVariants.{New}
 use Rattle.ht_machine.specs.Commands.{ActsOn, AfterEffect, BehindGate, Comes, DoesOn, MakesEntry, accepted, refused}
 use Rattle.ht_machine.specs.Deciding.{AsksAs, NamesOwner, Shows}
 use Rattle.ht_machine.specs.Gate.{Gate, gate, opens, shuts}
@@ -160,12 +158,3 @@ module _ (t : TablesOf) (p : PlanOf) (a : Ask) (op : Op) (sending : Sending) (na
     asks = record { sending = sending; sent = known; asks = asks };
     leaves = stays_leaves t p ready.fits ready.sound;
   }
-
-  pub new_asked : (q : PlanOf) (person : ℕ) (left : Option Record) (answer : Answer) → sending ≡ New person → PlansNew t p q a.at.0 person a.retry a.task a.command.now (record_of a) left answer → PlansAsk t p q a.at.0 a.caller a.retry a.task a.command.now left answer
-  new_asked q person left answer is plans =
-      let P : Sending → Type 0 = λ s. AsksAs (planned t p) a.at.0 a.retry a.task a.command.now (record_of a) s left answer plans.after in
-      record {
-        after = plans.after;
-        asks = record { sending = sending; sent = known; asks = subst P (sym is) plans.asks };
-        leaves = plans.leaves;
-      }

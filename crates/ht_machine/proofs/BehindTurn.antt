@@ -8,7 +8,7 @@ use Rattle.ht_base.specs.declared.reply.Answer.TheVariants.{Turned}
 use Rattle.ht_base.specs.Moment.{last_moment}
 use Rattle.ht_machine.specs.declared.asking.Asked.{Asked as Ask}
 use Rattle.ht_machine.specs.Deciding.{Asks, DecidesAt, after_with, left_with}
-use Rattle.ht_machine.specs.Planning.{IsReady, Leaves, PlansAsk}
+use Rattle.ht_machine.specs.Planning.{Leaves, PlansAsk}
 use Rattle.ht_machine.specs.Turning.{IsTurn, Turns}
 use Rattle.ht_machine.proofs.Asked.{stays_leaves}
 use Rattle.ht_tree.specs.Plans.{PlanOf, no_plan, planned}
@@ -39,20 +39,6 @@ module _ (t : TablesOf) (start p : PlanOf) (moment n : ℕ) (none : start ≡ no
 
   sound_after : IsSound (planned t p)
   sound_after = let S : TablesOf → Type 0 = λ u. IsSound u in subst S (sym (turns.goes).to) turns.sound
-
-  fresh : (p.changes).slot ≡ None
-  fresh = (turns.goes).slot ∙ ap (λ (q : PlanOf). (q.changes).slot) none
-
-  pub ready_then : (q : PlanOf) → q ≡ record p { marked = p.changes } → IsReady t q
-  ready_then q is =
-      let fit = (turns.goes).fits in
-      let R : PlanOf → Type 0 = λ x. IsReady t x in
-      subst R (sym is) (record {
-        fits = record { changes_fit = fit.changes_fit; changes_counted = fit.changes_counted; marked_fit = fit.changes_fit; marked_counted = fit.changes_counted };
-        sound = sound_after;
-        marked = refl;
-        fresh = fresh;
-      })
 
   -- alone
   pub turn_plans : (at : Moment) → moment ≤ last_moment → t.last ≤ moment → (left : Option Record) → left ≡ left_with moment n None → (after : TablesOf) × DecidesAt t moment (event.Turn at) left (record { taken = n; answer = Turned }) after × Leaves t p left after

@@ -16,11 +16,10 @@ use Rattle.ht_models.specs.Model.{ModelOf}
 use Rattle.ht_tree.specs.declared.creating.CreateRefusal.{CreateRefusal}
 use Rattle.ht_tree.specs.declared.creating.CreateRefusal.TheVariants as create
 use Rattle.ht_tree.specs.Creating.{IsFull, new_row}
-use Rattle.ht_tree.specs.Plans.{Goes, IsNext, IsPlanOf, PlanOf, planned}
+use Rattle.ht_tree.specs.Plans.{Goes, IsNext, PlanOf, planned}
 use Rattle.ht_tree.specs.Rows.{row_at}
-use Rattle.ht_tree.specs.Soundness.{IsSound}
 use Rattle.ht_tree.specs.Tables.{TablesOf, directory, model_at, model_named, with_row}
-use Rattle.ht_tree.proofs.PublicLaws.{goes_then, row_at-put_in, stays}
+use Rattle.ht_tree.proofs.PublicLaws.{goes_then, row_at-put_in}
 
 -- ---- the model that is found
 
@@ -69,9 +68,6 @@ pub activated : (t : TablesOf) (old new : PlanOf) (at : Moment) (task : ℕ) →
 activated t old new at task there runs =
     let still = runs.there task there.row there.there in
     record { after = runs.after; activates = runs.ends; goes = runs.goes; sound = runs.sound; row = still.0; there = still.1 }
-
-pub waits_on : (t : TablesOf) (p : PlanOf) (at m : Moment) (task : ℕ) → IsPlanOf t p → IsSound (planned t p) → IsTask (planned t p) task → IsActivated t p p at (Some m) task
-waits_on t p at m task fit sound is = record { after = planned t p; activates = refl; goes = stays t p fit; sound = sound; row = is.row; there = is.there }
 
 -- ---- or there are too many tasks
 

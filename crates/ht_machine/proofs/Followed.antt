@@ -1,5 +1,5 @@
 -- What follows on a task, as steps of plans.
-use Rattle.std.proofs.Common.{ℕ, List, Option, Result, Ok, Err, OnOk, map, option_map, refl, ap, subst, ◌∙◌}
+use Rattle.std.proofs.Common.{ℕ, List, Option, Result, Ok, Err, OnOk, map, option_map, ap, subst, ◌∙◌}
 use Rattle.ht_base.specs.declared.memory.Memory.{Memory}
 use Rattle.ht_base.specs.declared.moment.Moment.{Moment}
 use Rattle.ht_compose.specs.Agenda.{Ends}
@@ -11,14 +11,10 @@ use Rattle.ht_machine.specs.Following.{IsFollowed, Spreads}
 use Rattle.ht_owner.specs.declared.follow.Follow.{Follow}
 use Rattle.ht_owner.specs.declared.follow.Follow.TheVariants as follow
 use Rattle.ht_tree.specs.declared.row.Row.{Row}
-use Rattle.ht_tree.specs.Plans.{Goes, IsPlanOf, PlanOf, planned}
+use Rattle.ht_tree.specs.Plans.{Goes, PlanOf, planned}
 use Rattle.ht_tree.specs.Soundness.{IsSound}
 use Rattle.ht_tree.specs.Tables.{TablesOf, with_rows}
-use Rattle.ht_tree.proofs.PublicLaws.{row_at-map, stays}
-
--- nothing follows
-pub nothing_follows : (t : TablesOf) (p : PlanOf) (at : Moment) (task : ℕ) → IsPlanOf t p → IsSound (planned t p) → IsTask (planned t p) task → IsFollowed t p p at task follow.Nothing
-nothing_follows t p at task fit sound is = record { after = planned t p; spreads = refl; goes = stays t p fit; sound = sound; row = is.row; there = is.there }
+use Rattle.ht_tree.proofs.PublicLaws.{row_at-map}
 
 -- what is to be done is done to its end
 pub runs_follow : (t : TablesOf) (old new : PlanOf) (at : Moment) (task : ℕ) (next : Follow) (is : List items.Item) → IsTask (planned t old) task → ((v : TablesOf) → Ends (items.Does at) (planned t old) is v → Spreads at next task (planned t old) v) → Runs t old new at is → IsFollowed t old new at task next

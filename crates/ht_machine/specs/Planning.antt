@@ -29,6 +29,8 @@ use Rattle.ht_machine.specs.declared.answering.Response.TheVariants as response
 use Rattle.ht_machine.specs.declared.asking.Asked.{Asked as Ask}
 use Rattle.ht_machine.specs.declared.deciding.Decision.{Decision}
 use Rattle.ht_machine.specs.Commands.{ActivatesUnless, Outcome, accepted, refused}
+use Rattle.ht_machine.specs.declared.leaving.Left.{Left}
+use Rattle.ht_machine.specs.declared.leaving.Left.TheVariants as left
 use Rattle.ht_machine.specs.declared.sending.Sending.TheVariants.{New}
 use Rattle.ht_machine.specs.Deciding.{Asks, AsksAs, Decides, DecidesAt}
 use Rattle.ht_machine.specs.Sending.{answer_of}
@@ -81,9 +83,17 @@ pub record IsAsked (a : Ask) : Type 0 where
   pub task : IsTaskOf a.command.now a.task
   pub command : IsCommand a.command.now
 
--- as what it is kept
+-- as what an event is kept that acted at a moment: a command as one, and what was due as a turn
+abbrev pub record_at : Event → Moment → Record
+record_at (event.Ask asked caller retry task command) at = Asked at caller retry task command
+record_at e at = Turn at
+
+-- as what a command is kept, at a moment and at its own
+abbrev pub record_as : Ask → Moment → Record
+record_as a at = record_at (event.Ask a.at a.caller a.retry a.task a.command.now) at
+
 abbrev pub record_of : Ask → Record
-record_of a = Asked a.at a.caller a.retry a.task a.command.now
+record_of a = record_as a a.at
 
 -- the record that a command leaves itself, by how it is answered, and its answer
 abbrev pub record_left : Ask → Response → Option Record
@@ -94,6 +104,15 @@ abbrev pub answer_given : Response → Answer
 answer_given (response.Accepted kept) = answer_of kept
 answer_given (response.Answered kept) = answer_of kept
 answer_given (response.Refused other) = Refused other
+
+-- the record of what an event left, by that of a command which was accepted at a moment
+abbrev pub record_by : (Moment → Record) → Left → Option Record
+record_by make left.Nothing = None
+record_by make (left.Turned at) = Some (Turn at)
+record_by make (left.Commanded at) = Some (make at)
+
+abbrev pub record_in : Event → Left → Option Record
+record_in e l = record_by (record_at e) l
 
 -- the last moment is that of the record that is kept
 abbrev pub last_after : TablesOf → Option Record → ℕ

@@ -1,11 +1,11 @@
-ghost use Rattle.std.specs.Prelude.{◌≡◌, ◌≤◌, ◌<◌, IfOk, length};
+ghost use Rattle.std.specs.Prelude.{◌≤◌, ◌<◌, IfOk, length};
 ghost use Rattle.ht_machine.specs.Planning as spec;
 ghost use Rattle.ht_machine.specs.Planning.{IsReady, PlansAsk, PlansNew, answer_given, record_left};
 
 use crate::answering::{Response, done};
 use crate::commanding::command;
 use crate::sending::{Sending, keep, sending_of};
-use ht_base::{Command, Memory, Moment, Name, Person, Record, Retry, TaskId};
+use ht_base::{Command, Memory, Moment, Name, Person, Retry, TaskId};
 use ht_owner::ActRefusal;
 use ht_tree::{Plan, Tables};
 use std::alloc::Global;
@@ -81,17 +81,4 @@ fn ask_anew(
         }
         Err(ActRefusal::Memory) => Err(Memory),
     }
-}
-
-/// As what a command is kept.
-pub(crate) fn record_of(alloc: Global, asked: &Asked<'_>) -> Result<Record, Memory>
-    ensures { IfOk result (λ r. r ≡ spec.record_of asked.now) }
-{
-    Ok(Record::Asked {
-        at: asked.at,
-        caller: asked.caller,
-        retry: asked.retry,
-        task: asked.task,
-        command: asked.command.copy(alloc)?,
-    })
 }

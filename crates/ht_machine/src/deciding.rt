@@ -1,15 +1,15 @@
-ghost use Rattle.std.specs.Prelude.{◌≡◌, ◌≤◌, max, None, IfOk, MatchResult, OnErr};
+ghost use Rattle.std.specs.Prelude.{◌≡◌, ◌≤◌, max, IfOk, MatchResult, OnErr, OnOk};
 ghost use Rattle.ht_base.specs.Events.{IsValid};
-ghost use Rattle.ht_machine.specs.Deciding as deciding;
 ghost use Rattle.ht_machine.specs.History.{IsStep, memory_reply};
 ghost use Rattle.ht_machine.specs.Once.{ActsOnce};
 ghost use Rattle.ht_machine.specs.Planning as spec;
-ghost use Rattle.ht_machine.specs.Planning.{IsDecided, Plans, PlansBehindTurn};
-ghost use Rattle.ht_tree.specs.Plans.{committed, no_plan};
+ghost use Rattle.ht_machine.specs.Planning.{IsDecided, Plans, PlansBehindTurn, record_by, record_in};
+ghost use Rattle.ht_tree.specs.Plans.{IsPrepared, committed, no_plan};
 ghost use Rattle.ht_tree.specs.Soundness.{IsSound};
 
 use crate::answering::{Response, answer_of};
-use crate::asking::{Asked, ask, record_of};
+use crate::asking::{Asked, ask};
+use crate::leaving::Left;
 use crate::reading::read;
 use crate::turning::turn;
 use ht_base::{Answer, Event, Memory, Moment, Record, Reply};
@@ -33,8 +33,8 @@ pub fn decide(alloc: Global, tables: &mut Tables, event: &Event) -> Result<Decis
     ensures once { IfOk result (λ d. ActsOnce tables.new.tables event.now d.left d.reply.answer (committed tables.new.tables d.plan (spec.last_after tables.new.tables d.left))) }
 {
     let mut plan = Plan::begin(alloc)?;
-    let (left, reply) = plan_event(alloc, tables, &mut plan, event)?;
-    tables.prepare(&plan)?;
+    let (left, reply) = prepare_event(alloc, tables, &mut plan, event)?;
+    let left = left.record(alloc, event)?;
     Ok(Decision { plan, left, reply })
 }
 
@@ -45,33 +45,40 @@ pub fn run_one(alloc: Global, tables: &mut Tables, event: &Event) -> Result<Repl
     ensures err { OnErr result (tables.new.tables ≡ tables.old.tables) }
 {
     let mut plan = Plan::begin(alloc)?;
-    let (left, reply) = plan_event(alloc, tables, &mut plan, event)?;
-    tables.prepare(&plan)?;
-    let at = last_after(tables, &left);
+    let (left, reply) = prepare_event(alloc, tables, &mut plan, event)?;
+    let at = left.last(tables);
     tables.commit(plan, at);
     Ok(reply)
 }
 
-// The last moment of the tables after a decision that leaves this record.
-fn last_after(tables: &Tables, left: &Option<Record>) -> Moment
-    ensures { result.0 ≡ spec.last_after tables.now.tables left.now }
+// Plans an event, and prepares the tables for the plan.
+fn prepare_event(
+    alloc: Global,
+    tables: &mut Tables,
+    plan: &mut Plan,
+    event: &Event,
+) -> Result<(Left, Reply), Memory>
+    requires valid { IsValid event.now }
+    requires plan { plan.old ≡ no_plan }
+    ensures tables { tables.new.tables ≡ tables.old.tables }
+    ensures plans { IfOk result (λ r. Plans tables.new.tables plan.new event.now (record_in event.now r.0) r.1) }
+    ensures prepared { OnOk result (IsPrepared tables.new plan.new) }
 {
-    match left {
-        Some(Record::Turn { at } | Record::Asked { at, .. }) => *at,
-        Some(Record::Opening { .. }) | None => tables.last(),
-    }
+    let decided = plan_event(alloc, tables, plan, event)?;
+    tables.prepare(plan)?;
+    Ok(decided)
 }
 
-// Plans an event, and tells the record that it leaves and the reply.
+// Plans an event, and tells what it leaves and the reply.
 fn plan_event(
     alloc: Global,
     tables: &Tables,
     plan: &mut Plan,
     event: &Event,
-) -> Result<(Option<Record>, Reply), Memory>
+) -> Result<(Left, Reply), Memory>
     requires valid { IsValid event.now }
     requires plan { plan.old ≡ no_plan }
-    ensures { IfOk result (λ r. Plans tables.now.tables plan.new event.now r.0 r.1) }
+    ensures { IfOk result (λ r. Plans tables.now.tables plan.new event.now (record_in event.now r.0) r.1) }
 {
     let last = tables.last();
     match event {
@@ -79,7 +86,7 @@ fn plan_event(
             let at = effective(last, *at);
             let taken = turn(alloc, tables, plan, at)?;
             let answer = Answer::Turned;
-            Ok((turn_left(at, taken), Reply { taken, answer }))
+            Ok((Left::by_turn(at, taken), Reply { taken, answer }))
         }
         Event::Ask {
             at,
@@ -99,7 +106,7 @@ fn plan_event(
         }
         Event::Read { caller, query } => {
             let answer = read(alloc, tables, *caller, query)?;
-            Ok((None, Reply { taken: 0, answer }))
+            Ok((Left::Nothing, Reply { taken: 0, answer }))
         }
     }
 }
@@ -117,29 +124,19 @@ fn turn_then_ask(
     tables: &Tables,
     plan: &mut Plan,
     asked: &Asked<'_>,
-) -> Result<(Option<Record>, Reply), Memory>
+) -> Result<(Left, Reply), Memory>
     requires sound { IsSound tables.now.tables }
     requires later { tables.now.tables.last ≤ asked.now.at.0 }
     requires plan { plan.old ≡ no_plan }
     requires asked { spec.IsAsked asked.now }
-    ensures { IfOk result (λ r. PlansBehindTurn tables.now.tables plan.new asked.now r.0 r.1) }
+    ensures { IfOk result (λ r. PlansBehindTurn tables.now.tables plan.new asked.now (record_by (spec.record_as asked.now) r.0) r.1) }
 {
     let taken = turn(alloc, tables, plan, asked.at)?;
     plan.mark();
     let (left, answer) = match ask(alloc, tables, plan, asked)? {
-        Response::Accepted(kept) => (Some(record_of(alloc, asked)?), answer_of(&kept)),
-        Response::Answered(kept) => (turn_left(asked.at, taken), answer_of(&kept)),
-        Response::Refused(refusal) => (turn_left(asked.at, taken), Answer::Refused(refusal)),
+        Response::Accepted(kept) => (Left::Commanded(asked.at), answer_of(&kept)),
+        Response::Answered(kept) => (Left::by_turn(asked.at, taken), answer_of(&kept)),
+        Response::Refused(refusal) => (Left::by_turn(asked.at, taken), Answer::Refused(refusal)),
     };
     Ok((left, Reply { taken, answer }))
-}
-
-// The record of a turn that took so many actions.
-fn turn_left(at: Moment, taken: u32) -> Option<Record>
-    ensures { result ≡ deciding.left_with at.0 taken None }
-{
-    match taken {
-        0 => None,
-        _ => Some(Record::Turn { at }),
-    }
 }

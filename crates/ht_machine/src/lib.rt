@@ -22,6 +22,7 @@ mod family_tests;
 mod following;
 mod gating;
 mod laws;
+mod leaving;
 mod making;
 mod naming;
 #[cfg(test)]

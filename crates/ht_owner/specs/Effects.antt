@@ -112,8 +112,8 @@ prepared_leaves d m caller c row = unless (no_output m row c) (leaves d caller c
 abbrev pub effect : DirectoryOf → List Row → ModelOf → ℕ → Moment → Command → Row → Effect
 effect d rows m caller at c row = unless (fault d rows m at row c) (prepared_leaves d m caller c (prepared d m caller at c row))
 
--- what is answered is what comes of it
-abbrev pub Gives : Effect → Result (Row × Follow) ActRefusal → Type 0
-Gives e (Ok done) = e ≡ does done.0 done.1
-Gives e (Err (why.Refused refusal)) = e ≡ refuses refusal
-Gives e (Err why.Memory) = Unit {0}
+-- what is answered is what comes of it, with this row where it is done
+abbrev pub Gives : Effect → Row → Result Follow ActRefusal → Type 0
+Gives e row (Ok follow) = e ≡ does row follow
+Gives e row (Err (why.Refused refusal)) = e ≡ refuses refusal
+Gives e row (Err why.Memory) = Unit {0}

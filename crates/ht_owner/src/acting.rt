@@ -38,8 +38,23 @@ pub fn act(
         unreachable!()
     };
     let model = tables.models().model(row.model);
-    let before = row.copy(alloc)?;
-    let (after, follow) = effect(alloc, tables, plan, model, caller, at, command, before)?;
-    plan.put(tables, after)?;
-    Ok(follow)
+    let mut changed = row.copy(alloc)?;
+    let done = effect(
+        alloc,
+        tables,
+        plan,
+        model,
+        caller,
+        at,
+        command,
+        &mut changed,
+    );
+    // Matched, since the check can't follow this error through `?`.
+    match done {
+        Ok(follow) => {
+            plan.put(tables, changed)?;
+            Ok(follow)
+        }
+        Err(refusal) => Err(refusal),
+    }
 }

@@ -1,4 +1,4 @@
-ghost use Rattle.std.specs.Prelude.{◌≡◌, IfOk, Some, length};
+ghost use Rattle.std.specs.Prelude.{◌≡◌, OnOk, Some, length};
 ghost use Rattle.ht_base.specs.Persons.{AllBelow};
 ghost use Rattle.ht_models.specs.Kinded.{IsKinded};
 ghost use Rattle.ht_models.specs.Shown.{model_of};
@@ -11,17 +11,19 @@ ghost use Rattle.ht_tree.specs.Tables as tables_of;
 ghost use Rattle.ht_tree.specs.Tables.{directory};
 
 use crate::faults::{fault, no_output};
-use crate::moving::{ending, moved};
+use crate::moving::{ending, move_by};
 use crate::naming::{forwarded, persons_named, with_named, without_named};
 use crate::suspending::end_at;
 use crate::{ActRefusal, Follow};
-use ht_base::{Command, Memory, Moment, Name, Op, Parts, Person, RoleList};
+use ht_base::{Command, Memory, Moment, Name, Op, Parts, Person, RoleList, Values};
 use ht_models::Model;
 use ht_people::Directory;
 use ht_tree::{Comment, Plan, Row, Tables, values_given};
 use std::alloc::Global;
+use std::mem;
 
-/// What a caller's command makes of the row of a task of this model, and what follows.
+/// Makes of the row of a task of this model what a caller's command makes of it, and tells what follows.
+/// After a refusal or want of memory the row may be changed in part, and is to be dropped.
 pub(crate) fn effect(
     alloc: Global,
     tables: &Tables,
@@ -30,40 +32,41 @@ pub(crate) fn effect(
     caller: Person,
     at: Moment,
     command: &Command,
-    row: Row,
-) -> Result<(Row, Follow), ActRefusal>
+    row: &mut Row,
+) -> Result<Follow, ActRefusal>
     requires plan { IsPlanOf tables.now.tables plan.now }
     requires sound { IsSound (planned tables.now.tables plan.now) }
-    requires row { Fits tables.now.tables row }
-    requires model { tables_of.model_of tables.now.tables row ≡ Some (model_of model.now) }
+    requires row { Fits tables.now.tables row.old }
+    requires model { tables_of.model_of tables.now.tables row.old ≡ Some (model_of model.now) }
     requires kinds { IsKinded model.now }
-    ensures { Gives (spec.effect (directory tables.now.tables) (planned tables.now.tables plan.now).rows (model_of model.now) caller at command.now row) result }
+    ensures { Gives (spec.effect (directory tables.now.tables) (planned tables.now.tables plan.now).rows (model_of model.now) caller at command.now row.old) row.new result }
 {
-    if let Some(refusal) = fault(alloc, tables, plan, model, at, &row, command)? {
+    if let Some(refusal) = fault(alloc, tables, plan, model, at, row, command)? {
         return Err(ActRefusal::Refused(refusal));
     }
     let people = tables.people();
-    let row = prepared(alloc, people, model, caller, at, command, row)?;
-    if let Some(refusal) = no_output(model, &row, command) {
+    prepare(alloc, people, model, caller, at, command, row)?;
+    if let Some(refusal) = no_output(model, row, command) {
         return Err(ActRefusal::Refused(refusal));
     }
     match ending(row.state, command.op()) {
-        Some(end) => Ok((row, Follow::Close(end))),
+        Some(end) => Ok(Follow::Close(end)),
         None => {
             let follow = following(command);
             let named = named_owner(people, caller, command);
-            Ok((moved_now(follow, row, command.op(), caller, named), follow))
+            move_now(row, follow, command.op(), caller, named);
+            Ok(follow)
         }
     }
 }
 
-// The row as the operation moves it, unless an activation follows.
-fn moved_now(follow: Follow, row: Row, op: Op, caller: Person, named: Person) -> Row
-    ensures { result ≡ spec.moved_now follow row (moving.moved op caller named row) }
+// Moves the row as the operation does, unless an activation follows.
+fn move_now(row: &mut Row, follow: Follow, op: Op, caller: Person, named: Person)
+    ensures { row.new ≡ spec.moved_now follow row.old (moving.moved op caller named row.old) }
 {
     match follow {
-        Follow::Activate => row,
-        _ => moved(row, op, caller, named),
+        Follow::Activate => {}
+        _ => move_by(row, op, caller, named),
     }
 }
 
@@ -90,38 +93,37 @@ fn following(command: &Command) -> Follow
     }
 }
 
-// The row with what the command itself changes, before the table of changes moves the task.
-fn prepared(
+// Makes what the command itself changes, before the table of changes moves the task.
+fn prepare(
     alloc: Global,
     people: &Directory,
     model: &Model,
     caller: Person,
     at: Moment,
     command: &Command,
-    row: Row,
-) -> Result<Row, Memory>
-    requires { AllBelow (length people.now.persons) row.potential_owners }
-    ensures { IfOk result (λ r. r ≡ spec.prepared people.now (model_of model.now) caller at command.now row) }
+    row: &mut Row,
+) -> Result<(), Memory>
+    requires { AllBelow (length people.now.persons) row.old.potential_owners }
+    ensures { OnOk result (row.new ≡ spec.prepared people.now (model_of model.now) caller at command.now row.old) }
 {
-    let mut row = row;
     match command {
         Command::Delegate { person } => {
             row.potential_owners = with_named(alloc, people, &row.potential_owners, &[*person])?;
         }
         Command::Forward { persons } => {
-            row.potential_owners = forwarded(alloc, people, caller, &row, persons.as_slice())?;
+            row.potential_owners = forwarded(alloc, people, caller, row, persons.as_slice())?;
         }
         Command::Nominate { persons } => {
             row.potential_owners = persons_named(alloc, people, persons.as_slice())?;
             row.by_group = false;
         }
         Command::SetRole { role, persons } => {
-            return with_role(alloc, people, row, *role, persons.as_slice());
+            return set_role(alloc, people, row, *role, persons.as_slice());
         }
         Command::SetPriority { priority } => row.priority = *priority,
         Command::SuspendUntil { end } => row.until = Some(end_at(at, *end)),
-        Command::SetOutput { output } => return with_output(alloc, people, model, row, output),
-        Command::Complete { output } => return with_output(alloc, people, model, row, output),
+        Command::SetOutput { output } => return set_output(alloc, people, model, row, output),
+        Command::Complete { output } => return set_output(alloc, people, model, row, output),
         Command::Fail { fault } => row.fault = *fault,
         Command::AddComment { text } => {
             let text = text.copy(alloc)?;
@@ -134,36 +136,36 @@ fn prepared(
         }
         _ => {}
     }
-    Ok(row)
+    Ok(())
 }
 
-// The row with these parts of its output.
-fn with_output(
+// Sets these parts of the row's output.
+fn set_output(
     alloc: Global,
     people: &Directory,
     model: &Model,
-    row: Row,
+    row: &mut Row,
     output: &Parts,
-) -> Result<Row, Memory>
-    ensures { IfOk result (λ r. r ≡ spec.with_output people.now (model_of model.now) row output.now) }
+) -> Result<(), Memory>
+    ensures { OnOk result (row.new ≡ spec.with_output people.now (model_of model.now) row.old output.now) }
 {
     let given = values_given(alloc, people, &model.output, output)?;
-    let output = row.output.updated(given)?;
-    Ok(Row { output, ..row })
+    let output = mem::replace(&mut row.output, Values::new(alloc));
+    row.output = output.updated(given)?;
+    Ok(())
 }
 
-// The row with other persons in a role.
-fn with_role(
+// Puts other persons into a role of the row.
+fn set_role(
     alloc: Global,
     people: &Directory,
-    row: Row,
+    row: &mut Row,
     role: RoleList,
     names: &[Name],
-) -> Result<Row, Memory>
-    requires { AllBelow (length people.now.persons) row.potential_owners }
-    ensures { IfOk result (λ r. r ≡ spec.with_role people.now row names.now role) }
+) -> Result<(), Memory>
+    requires { AllBelow (length people.now.persons) row.old.potential_owners }
+    ensures { OnOk result (row.new ≡ spec.with_role people.now row.old names.now role) }
 {
-    let mut row = row;
     let persons = persons_named(alloc, people, names)?;
     match role {
         RoleList::PotentialOwners => {
@@ -177,5 +179,5 @@ fn with_role(
         RoleList::Administrators => row.administrators = persons,
         RoleList::Stakeholders => row.stakeholders = persons,
     }
-    Ok(row)
+    Ok(())
 }

@@ -10,12 +10,11 @@ const UNCHANGED: Change = Change {
     owner: OwnerAfter::Kept,
 };
 
-/// The row as an operation moves it by the table of changes: one that the caller does, and that
-/// names this person.
-pub(crate) fn moved(row: Row, op: Op, caller: Person, named: Person) -> Row
-    ensures { result ≡ spec.moved op caller named row }
+/// Moves the row as an operation does by the table of changes: one that the caller does, and that names
+/// this person.
+pub(crate) fn move_by(row: &mut Row, op: Op, caller: Person, named: Person)
+    ensures { row.new ≡ spec.moved op caller named row.old }
 {
-    let mut row = row;
     let change = next(row.state, op).unwrap_or(UNCHANGED);
     let owners = &row.potential_owners;
     let state = state_after(change.after, owners, row.state);
@@ -28,7 +27,6 @@ pub(crate) fn moved(row: Row, op: Op, caller: Person, named: Person) -> Row
     if !SUSPENDED.contains(state) {
         row.until = None;
     }
-    row
 }
 
 /// The state in which an operation ends a task that is in this one, if it does.

@@ -8,6 +8,7 @@ mod DuesInStep
 mod Families
 mod Fitting
 mod HeldGiven
+mod InPlace
 mod Indexing
 mod LeastDues
 mod Mapped

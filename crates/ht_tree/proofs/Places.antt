@@ -56,6 +56,22 @@ last_there task (r ∷ rows) o is = at (last_place task (tasks_of rows)) refl (l
     at None e m = subst M (sym (ap (λ q. later_or (option_map suc q) (if r.task.0 == task then Some 0 else None)) e) ∙ is) (here (r.task.0 == task) refl e m)
     at (Some i) e m = subst M (sym (ap (λ q. later_or (option_map suc q) (if r.task.0 == task then Some 0 else None)) e) ∙ is) (m.0, m.1, ap (λ q. later_or q (if r.task.0 == task then Some r else None)) m.2, m.3)
 
+-- the last row of a task is one of it
+pub last_own : (task : ℕ) (rows : List Row) (row : Row) → last_of task rows ≡ Some row → row.task.0 ≡ task
+last_own task [] row e = cc
+last_own task (r ∷ rows) row e = at (last_of task rows) refl e (λ is. last_own task rows row is)
+  where
+    first : (b : Bool) → (r.task.0 == task) ≡ b → (if b then Some r else None) ≡ Some row → row.task.0 ≡ task
+    first true own e =
+        let this : r ≡ row = cc in
+        let same : r.task.0 ≡ task = grind (arith, nat_tests, own) in
+        ap (λ (q : Row). q.task.0) (sym this) ∙ same
+    first false own e = cc
+
+    at : (o : Option Row) → last_of task rows ≡ o → later_or o (if r.task.0 == task then Some r else None) ≡ Some row → (last_of task rows ≡ Some row → row.task.0 ≡ task) → row.task.0 ≡ task
+    at None is e rest = first (r.task.0 == task) refl e
+    at (Some q) is e rest = rest (is ∙ e)
+
 -- ---- one row after another
 
 pub place_more : (task : ℕ) (rows : List Row) (i : ℕ) (d : Row) (o : Option ℕ) (b : Bool) → i < length rows → o ≡ last_place task (tasks_of (take i rows)) → ((get_or rows i d).task.0 == task) ≡ b → (if b then Some i else o) ≡ last_place task (tasks_of (take (i + 1) rows))

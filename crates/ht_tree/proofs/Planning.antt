@@ -165,38 +165,44 @@ pub record IsTaken (t : TablesOf) (old new : PlanOf) (task : ℕ) (row : Row) : 
   pub fits : Fits t row
   pub lends : Lends t old new task
 
--- the totals stay where a row gives its place to an emptied one
-emptied_totals : (t : TablesOf) (rows : List Row) (n : Totals) (task : ℕ) (row : Row) → row_at task rows ≡ Some row → row.task.0 ≡ task → AreTotals t rows n → AreTotals t (put_in rows (emptied row)) n
-emptied_totals t rows n task row at same are = record {
+-- the totals stay where a row gives its place to one of the same task, with a tree of the same size
+pub same_totals : (t : TablesOf) (rows : List Row) (n : Totals) (task : ℕ) (row new : Row) → row_at task rows ≡ Some row → row.task.0 ≡ task → new.task.0 ≡ row.task.0 → top_size t.models new ≡ top_size t.models row → AreTotals t rows n → AreTotals t (put_in rows new) n
+same_totals t rows n task row new at own same sized are = record {
   rows = are.rows ∙ long;
   size =
-      let P : Option Row → Type 0 = λ o. IsResized t.models (total_size t.models rows) (emptied row) o (total_size t.models (put_in rows (emptied row))) in
-      let Q : ℕ → Type 0 = λ k. IsResized t.models (total_size t.models rows) (emptied row) (row_at k rows) (total_size t.models (put_in rows (emptied row))) in
-      let resized = subst P at (subst Q same (resized_put t.models rows (emptied row) next)) in
-      are.size ∙ same_sum (total_size t.models rows) (total_size t.models (put_in rows (emptied row))) (top_size t.models row) resized;
-  small = λ q r is. here q r ((emptied row).task.0 == q) (sym (row_at-put_in rows (emptied row) q next) ∙ is);
+      let P : Option Row → Type 0 = λ o. IsResized t.models (total_size t.models rows) new o (total_size t.models (put_in rows new)) in
+      let resized = subst P (ap (λ (k : ℕ). row_at k rows) number ∙ at) (resized_put t.models rows new next) in
+      are.size ∙ same_sum (total_size t.models rows) (total_size t.models (put_in rows new)) (top_size t.models row) (top_size t.models new) sized resized;
+  small = λ q r is. here q r (new.task.0 == q) (sym (row_at-put_in rows new q next) ∙ is);
 }
   where
-    next : IsNext rows (emptied row)
-    next = is_next_there rows task row (emptied row) at same
+    number : new.task.0 ≡ task
+    number = same ∙ own
 
-    long : length rows ≡ length (put_in rows (emptied row))
+    next : IsNext rows new
+    next = is_next_there rows task row new at number
+
+    long : length rows ≡ length (put_in rows new)
     long =
         let place = there rows task row at in
         let low = slice_get_within rows place.0 row place.1 in
-        let number = place.2 in
-        let max_is : max (length rows) row.task.0 ≡ length rows = omega arith in
-        sym (length-put_in rows (emptied row) next ∙ max_is)
+        let is = place.2 in
+        let max_is : max (length rows) new.task.0 ≡ length rows = omega (arith, number, is, low) in
+        sym (length-put_in rows new next ∙ max_is)
 
-    same_sum : (a b size : ℕ) → b + size ≡ a + size → a ≡ b
-    same_sum a b size e = omega arith
+    same_sum : (a b old now : ℕ) → now ≡ old → b + old ≡ a + now → a ≡ b
+    same_sum a b old now s e = omega arith
 
-    here : (q : ℕ) (r : Row) (b : Bool) → (if b then Some (emptied row) else row_at q rows) ≡ Some r → top_size t.models r < 2 ^ 32
+    here : (q : ℕ) (r : Row) (b : Bool) → (if b then Some new else row_at q rows) ≡ Some r → top_size t.models r < 2 ^ 32
     here q r true e =
-        let this : emptied row ≡ r = cc in
+        let this : new ≡ r = cc in
         let P : Row → Type 0 = λ x. top_size t.models x < 2 ^ 32 in
-        subst P this (are.small task row at)
+        let S : ℕ → Type 0 = λ k. k < 2 ^ 32 in
+        subst P this (subst S (sym sized) (are.small task row at))
     here q r false e = are.small q r e
+
+emptied_totals : (t : TablesOf) (rows : List Row) (n : Totals) (task : ℕ) (row : Row) → row_at task rows ≡ Some row → row.task.0 ≡ task → AreTotals t rows n → AreTotals t (put_in rows (emptied row)) n
+emptied_totals t rows n task row at own are = same_totals t rows n task row (emptied row) at own refl refl are
 
 counted_emptied : (t : TablesOf) (rows news : List Row) (o : Option Totals) (task : ℕ) (row : Row) → row_at task (fold put_in t.rows rows) ≡ Some row → row.task.0 ≡ task → fold put_in t.rows news ≡ put_in (fold put_in t.rows rows) (emptied row) → (rows ≡ [] → ⊥) → AreCounted t rows o → AreCounted t news o
 counted_emptied t rows news None task row at same after some are = absurd (some are)

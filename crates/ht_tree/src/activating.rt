@@ -1,6 +1,7 @@
 ghost use Rattle.std.specs.Prelude.{◌≡◌};
 ghost use Rattle.ht_tree.specs.Activation as spec;
 
+use crate::Row;
 use ht_base::{Person, Persons, State};
 
 /// The state that its potential owners give a task which nobody owns: one of them gets it, and several
@@ -23,4 +24,22 @@ pub fn owner_by(owners: &Persons) -> Option<Person>
         [owner] => Some(*owner),
         _ => None,
     }
+}
+
+/// Gives a row this state and this owner. It waits no more.
+pub(crate) fn activate_row(row: &mut Row, state: State, owner: Option<Person>)
+    ensures { row.new ≡ spec.activated_to state owner row.old }
+{
+    row.state = state;
+    row.owner = owner;
+    row.waits = None;
+}
+
+/// The row with this state and this owner, which waits no more.
+pub(crate) fn activated(row: Row, state: State, owner: Option<Person>) -> Row
+    ensures { result ≡ spec.activated_to state owner row }
+{
+    let mut row = row;
+    activate_row(&mut row, state, owner);
+    row
 }

@@ -1,16 +1,18 @@
-ghost use Rattle.std.specs.Prelude.{◌≡◌, ◌<◌, ◌^◌, IfOk, IfSome, IsSome, Some, OnOk, OnErr, is_some, length, option_map};
+ghost use Rattle.std.specs.Prelude.{◌≡◌, ◌<◌, ◌^◌, false, IfOk, IfSome, IsSome, IsTrue, Some, OnOk, OnErr, is_some, length, option_map};
+ghost use Rattle.ht_tree.specs.Activation.{activated_to};
 ghost use Rattle.ht_tree.specs.Places.{last_of};
 ghost use Rattle.ht_tree.specs.Plans.{AreTotals, Goes, IsNext, IsPlanOf, Lends, keeping, new_rows, no_plan, notifying, planned};
 ghost use Rattle.ht_tree.specs.Roles as spec;
 ghost use Rattle.ht_tree.specs.Rows.{put_in};
 ghost use Rattle.ht_tree.specs.Sizes.{total_size};
-ghost use Rattle.ht_tree.specs.Soundness.{Fits};
-ghost use Rattle.ht_tree.specs.Tables.{task_row, with_row};
+ghost use Rattle.ht_tree.specs.Soundness.{Fits, IsSound};
+ghost use Rattle.ht_tree.specs.Tables.{TablesOf, task_row, with_row};
 
+use crate::activating::activated;
 use crate::puts::Puts;
 use crate::sizes::resized;
 use crate::{Notice, Row, Slot, Tables};
-use ht_base::{Memory, Person, Roles, TaskId};
+use ht_base::{Memory, Person, Roles, State, TaskId};
 use std::alloc::Global;
 use std::marker::Model;
 
@@ -126,7 +128,7 @@ impl Plan {
         ensures lends { OnOk result (Lends tables.now.tables self.old self.new id.0) }
         ensures err { OnErr result (self.new ≡ self.old) }
     {
-        // Most commands put one row, and change it again.
+        // A start and an end change the row that was just put.
         if let Some(row) = self.puts.take_only(self.mark, id) {
             self.noted.totals = self.marked.totals;
             return Ok(row);
@@ -138,6 +140,63 @@ impl Plan {
             Some(row) => Ok(row.copy(alloc)?),
             None => unreachable!(),
         }
+    }
+
+    /// Puts the row of a task again, activated to this state and owner (WS-HumanTask 1.1, 4.10.1): it waits
+    /// no more.
+    pub fn activate(
+        &mut self,
+        alloc: Global,
+        tables: &Tables,
+        id: TaskId,
+        state: State,
+        owner: Option<Person>,
+    ) -> Result<(), Memory>
+        requires plan { IsPlanOf tables.now.tables self.old }
+        requires sound { IsSound (planned tables.now.tables self.old) }
+        requires there { IsSome (task_row (planned tables.now.tables self.old) id.0) }
+        requires fits { IfSome (task_row (planned tables.now.tables self.old) id.0) (λ row. Fits tables.now.tables (activated_to state owner row)) }
+        ensures goes { OnOk result (IfSome (task_row (planned tables.now.tables self.old) id.0) (λ row. Goes tables.now.tables self.old self.new (planned tables.now.tables self.old) (with_row (planned tables.now.tables self.old) (activated_to state owner row)))) }
+        ensures err { OnErr result (self.new ≡ self.old) }
+    {
+        // The check takes an owner that was passed on for moved.
+        let again = owner;
+        // A new task's row was just put, and is not moved again.
+        if self.activate_put(id, state, owner) {
+            return Ok(());
+        }
+        self.activate_copy(alloc, tables, id, state, again)
+    }
+
+    // Activates the row in its place, where it was put behind the mark, and tells whether it did.
+    fn activate_put(&mut self, id: TaskId, state: State, owner: Option<Person>) -> bool
+        ensures goes { IsTrue result → (t : TablesOf) → IsPlanOf t self.old → IfSome (task_row (planned t self.old) id.0) (λ row. Fits t (activated_to state owner row) → Goes t self.old self.new (planned t self.old) (with_row (planned t self.old) (activated_to state owner row))) }
+        ensures other { result ≡ false → self.new ≡ self.old }
+    {
+        self.puts.activate(self.mark, id, state, owner)
+    }
+
+    // Puts an activated copy of the row.
+    fn activate_copy(
+        &mut self,
+        alloc: Global,
+        tables: &Tables,
+        id: TaskId,
+        state: State,
+        owner: Option<Person>,
+    ) -> Result<(), Memory>
+        requires plan { IsPlanOf tables.now.tables self.old }
+        requires sound { IsSound (planned tables.now.tables self.old) }
+        requires there { IsSome (task_row (planned tables.now.tables self.old) id.0) }
+        requires fits { IfSome (task_row (planned tables.now.tables self.old) id.0) (λ row. Fits tables.now.tables (activated_to state owner row)) }
+        ensures goes { OnOk result (IfSome (task_row (planned tables.now.tables self.old) id.0) (λ row. Goes tables.now.tables self.old self.new (planned tables.now.tables self.old) (with_row (planned tables.now.tables self.old) (activated_to state owner row)))) }
+        ensures err { OnErr result (self.new ≡ self.old) }
+    {
+        let Some(row) = self.row(tables, id) else {
+            unreachable!()
+        };
+        let copy = row.copy(alloc)?;
+        self.put(tables, activated(copy, state, owner))
     }
 
     /// Adds a notification behind the others.

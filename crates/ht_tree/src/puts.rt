@@ -1,9 +1,12 @@
-ghost use Rattle.std.specs.Prelude.{◌≡◌, ◌++◌, ◌∷◌, ◌≤◌, ◌<◌, [], length, MatchOption, OnOk, OnErr, Some, option_map, slice_get, slice_set, take, vec_capacity, vec_len};
+ghost use Rattle.std.specs.Prelude.{◌≡◌, ◌++◌, ◌∷◌, ◌≤◌, ◌<◌, [], false, length, IsTrue, MatchOption, OnOk, OnErr, Some, option_map, slice_get, slice_set, take, vec_capacity, vec_len};
+ghost use Rattle.ht_tree.specs.declared.row.Row.{Row};
+ghost use Rattle.ht_tree.specs.Activation.{activated_to};
 ghost use Rattle.ht_tree.specs.Places.{IsLent, IsOnly, last_of, last_place, put_past, tasks_of};
 
 use crate::Row;
+use crate::activating::activate_row;
 use crate::index::Index;
-use ht_base::{Memory, TaskId};
+use ht_base::{Memory, Person, State, TaskId};
 use std::alloc::Global;
 use std::marker::Model;
 use std::mem;
@@ -140,6 +143,34 @@ impl Puts {
             }
             _ => None,
         }
+    }
+
+    /// Activates the last row of a task to this state and owner, where it is not before the mark, and tells
+    /// whether it did.
+    pub(crate) fn activate(
+        &mut self,
+        mark: usize,
+        task: TaskId,
+        state: State,
+        owner: Option<Person>,
+    ) -> bool
+        ensures there { IsTrue result → (row : Row) × (last_of task.0 self.old ≡ Some row) × (self.new ≡ put_past mark self.old (activated_to state owner row)) }
+        ensures other { result ≡ false → self.new ≡ self.old }
+    {
+        match self.place(task) {
+            Some(place) if place >= mark => {
+                self.activate_at(place, state, owner);
+                true
+            }
+            _ => false,
+        }
+    }
+
+    fn activate_at(&mut self, place: usize, state: State, owner: Option<Person>)
+        requires { place < length self.old }
+        ensures { (row : Row) × (slice_get self.old place ≡ Some row) × (self.new ≡ slice_set self.old place (activated_to state owner row)) }
+    {
+        activate_row(&mut self.rows[place], state, owner);
     }
 
     // Puts a row in the place of one of the same task, which it gives.

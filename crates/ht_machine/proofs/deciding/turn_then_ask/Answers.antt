@@ -1,12 +1,13 @@
-use Rattle.std.proofs.Common.{◌≡◌, Option, Some, ap, refl, subst, sym, ◌∙◌}
+use Rattle.std.proofs.Common.{◌≡◌, Option, ap, refl, subst, sym, ◌∙◌}
 use Rattle.ht_base.specs.declared.record.Record.{Record}
 use Rattle.ht_base.specs.declared.reply.Answer.{Answer}
 use Rattle.ht_machine.specs.declared.answering.Response.{Response}
 use Rattle.ht_machine.specs.Deciding.{left_with}
-use Rattle.ht_machine.specs.Planning.{PlansBehindTurn, answer_given, record_left}
+use Rattle.ht_machine.specs.declared.leaving.Left.{Left}
+use Rattle.ht_machine.specs.Planning.{PlansBehindTurn, answer_given, record_as, record_by, record_left}
 use Rattle.ht_machine.proofs.BehindTurn.{then_asks}
 use Rattle.ht_machine.proofs.deciding.turn_then_ask.Goals as goal
-use Rattle.ht_machine.proofs.deciding.turn_then_ask.Goals.{in-Accepted+in_ok-record_of-in-Accepted, in-Answered, in-Refused}
+use Rattle.ht_machine.proofs.deciding.turn_then_ask.Goals.{in-Accepted, in-Answered, in-Refused}
 
 -- where the record and the answer are those of the response
 reached : (c : goal.Joined-branch-3) (left : Option Record) (answer : Answer) → left ≡ left_with c.args.asked.now.at.0 c.in_ok-taken.taken (record_left c.args.asked.now c.in_ok-kept.field-0) → answer ≡ answer_given c.in_ok-kept.field-0 → PlansBehindTurn c.args.tables.now.tables c.ask.new.plan c.args.asked.now left (record { taken = c.in_ok-taken.taken; answer = answer })
@@ -21,12 +22,12 @@ reached c left answer kept told =
 pub returns : goal.returns
 returns c =
     let left = c.match-branch-3.left in
-    let Pair : Type 0 = Option Record × Answer in
-    let kept_by : Response → Option Record = λ r. left_with c.args.asked.now.at.0 c.in_ok-taken.taken (record_left c.args.asked.now r) in
+    let a = c.args.asked.now in
+    let Pair : Type 0 = Left × Answer in
+    let kept_by : Response → Option Record = λ r. left_with a.at.0 c.in_ok-taken.taken (record_left a r) in
+    let kept : Pair → Option Record = λ p. record_by (record_as a) p.0 in
     elim c.match-branch-3.branch [
-      | in-Accepted+in_ok-record_of-in-Accepted w ↦
-          let record_is = w.in_ok-record_of-in-Accepted.ensures in
-          reached c left.0 left.1 (ap (λ (p : Pair). p.0) w.left-is ∙ ap Some record_is ∙ sym (ap kept_by w.in-Accepted.is)) (ap (λ (p : Pair). p.1) w.left-is ∙ w.answer_of.ensures ∙ sym (ap answer_given w.in-Accepted.is))
-      | in-Answered w ↦ reached c left.0 left.1 (ap (λ (p : Pair). p.0) w.left-is ∙ w.turn_left.ensures ∙ sym (ap kept_by w.in-Answered.is)) (ap (λ (p : Pair). p.1) w.left-is ∙ w.answer_of-in-Answered.ensures ∙ sym (ap answer_given w.in-Answered.is))
-      | in-Refused w ↦ reached c left.0 left.1 (ap (λ (p : Pair). p.0) w.left-is ∙ w.turn_left-in-Refused.ensures ∙ sym (ap kept_by w.in-Refused.is)) (ap (λ (p : Pair). p.1) w.left-is ∙ sym (ap answer_given w.in-Refused.is))
+      | in-Accepted w ↦ reached c (kept left) left.1 (ap kept w.left-is ∙ sym (ap kept_by w.in-Accepted.is)) (ap (λ (p : Pair). p.1) w.left-is ∙ w.answer_of.ensures ∙ sym (ap answer_given w.in-Accepted.is))
+      | in-Answered w ↦ reached c (kept left) left.1 (ap kept w.left-is ∙ w.by_turn.ensures (record_as a) ∙ sym (ap kept_by w.in-Answered.is)) (ap (λ (p : Pair). p.1) w.left-is ∙ w.answer_of-in-Answered.ensures ∙ sym (ap answer_given w.in-Answered.is))
+      | in-Refused w ↦ reached c (kept left) left.1 (ap kept w.left-is ∙ w.by_turn-in-Refused.ensures (record_as a) ∙ sym (ap kept_by w.in-Refused.is)) (ap (λ (p : Pair). p.1) w.left-is ∙ sym (ap answer_given w.in-Refused.is))
     ]
