@@ -3,7 +3,7 @@ ghost use Rattle.ht_expr.specs.Scanning.{mark_in};
 ghost use Rattle.ht_expr.specs.Tokens.{mark_bytes};
 
 /// A token that is one or two signs.
-#[derive(Clone, Copy, Debug)]
+#[derive(Clone, Copy)]
 pub(crate) enum Mark {
     Open,
     Close,
@@ -66,7 +66,7 @@ impl Mark {
 }
 
 /// A token of a text.
-#[derive(Clone, Copy, Debug)]
+#[derive(Clone, Copy)]
 pub(crate) enum Token<'a> {
     Number(u64),
     /// What stands between two quotation marks.
@@ -76,7 +76,7 @@ pub(crate) enum Token<'a> {
 }
 
 /// A token, and how many bytes stand before it.
-#[derive(Clone, Copy, Debug)]
+#[derive(Clone, Copy)]
 pub(crate) struct Placed<'a> {
     pub token: Token<'a>,
     pub at: usize,
