@@ -15,14 +15,6 @@ mod replies;
 mod routes;
 mod sheets;
 mod statuses;
-#[cfg(test)]
-mod tests;
-#[cfg(test)]
-mod tests_of_bodies;
-#[cfg(test)]
-mod tests_of_moments;
-#[cfg(test)]
-mod tests_of_replies;
 
 pub use events::event_of;
 pub use refusal::ApiRefusal;

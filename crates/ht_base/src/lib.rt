@@ -6,8 +6,6 @@ mod boxed_sheet;
 mod bytes;
 mod end;
 mod event;
-#[cfg(test)]
-mod event_tests;
 mod how;
 mod ids;
 mod indexes;
@@ -32,8 +30,6 @@ mod sheet;
 mod shown_comments;
 mod state;
 mod task_id;
-#[cfg(test)]
-mod tests;
 mod txt;
 mod value;
 mod value_list;

@@ -11,8 +11,6 @@ mod parts;
 mod reader;
 mod reading;
 mod refusal;
-#[cfg(test)]
-mod tests;
 mod texts;
 mod writing;
 mod writing_fields;

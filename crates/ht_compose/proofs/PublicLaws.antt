@@ -1,6 +1,6 @@
 -- Laws of what is done on composite tasks, and of rows that are changed in their places, for the proofs
 -- of crates above.
-pub use Rattle.ht_compose.proofs.Acted.{MayReplace}
+pub use Rattle.ht_compose.proofs.Acted.{IsTaken, MayReplace, again, again_fits, again_next, goes_again, model_there}
 pub use Rattle.ht_compose.proofs.ActivatedRows.{activated_filed, activated_goes_on, activated_sound}
 pub use Rattle.ht_compose.proofs.AgingRows.{activated_ages, ages_further, ages_itself, freed_ages, was_due}
 pub use Rattle.ht_compose.proofs.AgingTables.{all_age, all_age_freed, all_age_further, all_age_itself, each_ages, numbered_still, put_ages}

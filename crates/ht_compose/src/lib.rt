@@ -10,8 +10,6 @@ mod changing;
 mod checking;
 mod closing;
 mod composing;
-#[cfg(test)]
-mod composing_tests;
 mod downward;
 mod finishing;
 mod freeing;
@@ -23,8 +21,6 @@ mod reaching;
 mod resuming;
 mod running;
 mod spreading;
-#[cfg(test)]
-mod tests;
 
 pub use by_hand::entry_to_make;
 pub use composing::{activate, begin, close, instantiate};

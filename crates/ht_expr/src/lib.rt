@@ -20,11 +20,7 @@ mod operating;
 mod operator;
 mod refusal;
 mod scanning;
-#[cfg(test)]
-mod tests;
 mod token;
-#[cfg(test)]
-mod value_tests;
 
 pub use assignment::Assign;
 pub use environment::{Env, Subs};

@@ -10,13 +10,9 @@ mod device;
 mod faults;
 mod journal;
 mod opening;
-#[cfg(test)]
-mod opening_tests;
 mod reading;
 mod settling;
 mod state;
-#[cfg(test)]
-mod tests;
 mod walking;
 
 pub use body::Body;

@@ -4,41 +4,21 @@
 
 mod ahead;
 mod answering;
-#[cfg(test)]
-mod answers_in_words;
 mod asking;
-#[cfg(test)]
-mod authorisation_tests;
 mod commanding;
-#[cfg(test)]
-mod comment_tests;
 mod course;
 mod creating;
-#[cfg(test)]
-mod creating_tests;
 mod deciding;
-#[cfg(test)]
-mod family_tests;
 mod following;
 mod gating;
 mod laws;
 mod leaving;
 mod making;
 mod naming;
-#[cfg(test)]
-mod operation_tests;
 mod reading;
 mod sending;
-#[cfg(test)]
-mod sending_tests;
 mod sheets;
 mod taking;
-#[cfg(test)]
-mod tests;
-#[cfg(test)]
-mod timer_tests;
-#[cfg(test)]
-mod turn_tests;
 mod turning;
 
 pub use deciding::{Decision, decide, run_one};

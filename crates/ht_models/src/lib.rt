@@ -7,8 +7,6 @@ mod choices;
 mod contradictions;
 mod deadlines;
 mod declaring;
-#[cfg(test)]
-mod document_tests;
 mod entries;
 mod expressions;
 mod finishes;
@@ -23,13 +21,9 @@ mod models;
 mod parts;
 mod reading;
 mod refusal;
-#[cfg(test)]
-mod refusal_tests;
 mod repeats;
 mod sub_entries;
 mod sub_graph;
-#[cfg(test)]
-mod tests;
 mod times;
 mod tree_sizes;
 

@@ -7,8 +7,6 @@ mod asked;
 mod crash_images;
 mod disk;
 mod disk_call;
-#[cfg(test)]
-mod disk_tests;
 mod failed;
 mod file_bytes;
 mod file_disk;
@@ -23,8 +21,6 @@ mod sink;
 mod source;
 mod std_sink;
 mod std_source;
-#[cfg(test)]
-mod tests;
 mod text_fault;
 mod texts;
 

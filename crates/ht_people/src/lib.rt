@@ -10,11 +10,7 @@ mod people;
 mod places;
 mod reading;
 mod refusal;
-#[cfg(test)]
-mod set_tests;
 mod sets;
-#[cfg(test)]
-mod tests;
 
 pub use directory::Directory;
 pub use entries::{MemberName, PersonEntry};

@@ -149,6 +149,24 @@ fn bodies_are_looked_at(rt: HostRuntime) -> Result<(), Fail> {
     Ok(())
 }
 
+// An input that is refused ends the connection, and the run with status 1.
+fn is_refused(
+    rt: &impl Abort,
+    alloc: Global,
+    input: &str,
+    line: &str,
+    fault: &str,
+    complaint: &str,
+) -> Result<(), Fail> {
+    let ran = run(alloc, input)?;
+    let text = format!(in alloc; "{{\"fault\":\"{fault}\"}}")?;
+    let want = reply(alloc, line, text.as_str(), true)?;
+    assert_eq!(rt; ran.status, Status(1), "{input:?}");
+    assert_eq!(rt; ran.output.written(), want.as_bytes(), "{input:?}");
+    assert_eq!(rt; ran.complaints.written(), complaint.as_bytes());
+    Ok(())
+}
+
 #[test]
 fn an_input_that_is_no_request_is_refused(rt: HostRuntime) -> Result<(), Fail> {
     let head = ("400 Bad Request", "Head", "wire: 400\n");
@@ -179,12 +197,7 @@ fn an_input_that_is_no_request_is_refused(rt: HostRuntime) -> Result<(), Fail> {
         (long.as_str(), fields),
     ];
     for (input, (line, fault, complaint)) in table {
-        let ran = run(rt.alloc(), input)?;
-        let text = format!(in rt.alloc(); "{{\"fault\":\"{fault}\"}}")?;
-        let want = reply(rt.alloc(), line, text.as_str(), true)?;
-        assert_eq!(rt; ran.status, Status(1), "{input:?}");
-        assert_eq!(rt; ran.output.written(), want.as_bytes(), "{input:?}");
-        assert_eq!(rt; ran.complaints.written(), complaint.as_bytes());
+        is_refused(&rt, rt.alloc(), input, line, fault, complaint)?;
     }
     Ok(())
 }

@@ -35,6 +35,21 @@ const NO_TEXTS: Office = Office {
     failing: &[],
 };
 
+fn texts_of(alloc: Global, office_texts: &Office<'_>) -> Result<MemoryTexts, Fail> {
+    let mut named = Vec::new(alloc);
+    for (name, text) in office_texts.texts {
+        let bytes = Bytes::of(alloc, text.as_bytes())?;
+        named.push((Txt::of(alloc, name)?, bytes))?;
+    }
+    let failing = Vec::from_slice(alloc, office_texts.failing)?;
+    Ok(MemoryTexts::make(alloc, named, failing)?)
+}
+
+fn source_of(alloc: Global, input: &str, failing: &[u32]) -> Result<MemorySource, Fail> {
+    let bytes = Bytes::of(alloc, input.as_bytes())?;
+    Ok(MemorySource::make(alloc, bytes, Vec::from_slice(alloc, failing)?)?)
+}
+
 pub(crate) fn run_office(
     alloc: Global,
     line: &str,
@@ -44,14 +59,8 @@ pub(crate) fn run_office(
     writes: &[u32],
 ) -> Result<Ran, Fail> {
     let words = words(alloc, line)?;
-    let bytes = Bytes::of(alloc, input.as_bytes())?;
-    let mut named = Vec::new(alloc);
-    for (name, text) in office_texts.texts {
-        let bytes = Bytes::of(alloc, text.as_bytes())?;
-        named.push((Txt::of(alloc, name)?, bytes))?;
-    }
-    let mut texts = MemoryTexts::make(alloc, named, Vec::from_slice(alloc, office_texts.failing)?)?;
-    let mut source = MemorySource::make(alloc, bytes, Vec::from_slice(alloc, reads)?)?;
+    let mut texts = texts_of(alloc, office_texts)?;
+    let mut source = source_of(alloc, input, reads)?;
     let mut output = MemorySink::make(alloc, Vec::from_slice(alloc, writes)?)?;
     let mut complaints = MemorySink::make(alloc, Vec::new(alloc))?;
     let status = office(
@@ -215,16 +224,29 @@ const SHUT: &str = "[[model]]\nname = \"shut\"\npotentialOwners = \"user('anna')
 
 const WITH_TEXTS: &str = "run --people p --step 1000 --models m --from 1000";
 
-// Whether an office of this models text answers each request line, with its person, as it should.
-fn answers(alloc: Global, models: &str, table: &[(&str, &str, &str, &str)]) -> Result<bool, Fail> {
-    let mut input = String::new(alloc);
-    let mut want = String::new(alloc);
-    for (request, person, line, text) in table {
-        let head = format!(in alloc; "{request} HTTP/1.1\r\nx-person: {person}\r\n\r\n")?;
-        let reply = reply(alloc, line, text, false)?;
-        input.push_str(head.as_str())?;
-        want.push_str(reply.as_str())?;
+// A request line, a person, a status line and a text.
+type Row<'a> = (&'a str, &'a str, &'a str, &'a str);
+
+fn heads_of(alloc: Global, table: &[Row<'_>]) -> Result<String, Fail> {
+    let mut heads = String::new(alloc);
+    for (request, person, _, _) in table {
+        write!(heads, "{request} HTTP/1.1\r\nx-person: {person}\r\n\r\n")?;
     }
+    Ok(heads)
+}
+
+fn replies_of(alloc: Global, table: &[Row<'_>]) -> Result<String, Fail> {
+    let mut replies = String::new(alloc);
+    for (_, _, line, text) in table {
+        replies.push_str(reply(alloc, line, text, false)?.as_str())?;
+    }
+    Ok(replies)
+}
+
+// Whether an office of this models text answers each request line, with its person, as it should.
+fn answers(alloc: Global, models: &str, table: &[Row<'_>]) -> Result<bool, Fail> {
+    let input = heads_of(alloc, table)?;
+    let want = replies_of(alloc, table)?;
     let office = Office {
         texts: &[("m", models), ("p", PEOPLE)],
         failing: &[],

@@ -4,17 +4,11 @@
 
 mod activating;
 mod assigning;
-#[cfg(test)]
-mod assigning_tests;
 mod changed_dues;
 mod comments;
 mod creating;
-#[cfg(test)]
-mod due_tests;
 mod exchanging;
 mod family;
-#[cfg(test)]
-mod family_tests;
 mod giving;
 mod index;
 mod least_dues;
@@ -27,8 +21,6 @@ mod sizes;
 mod slot;
 mod tables;
 mod taken;
-#[cfg(test)]
-mod tests;
 
 pub use activating::{owner_by, state_by};
 pub use assigning::{env, env_with, resolve};

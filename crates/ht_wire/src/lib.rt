@@ -8,8 +8,6 @@ mod looking;
 mod reading;
 mod replying;
 mod request;
-#[cfg(test)]
-mod tests;
 
 pub use buffer::Buffer;
 pub use reading::{Next, next_request};

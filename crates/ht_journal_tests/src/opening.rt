@@ -1,0 +1,172 @@
+use crate::appending::{disk, found, left};
+use ht_journal::{Body, JournalFault, open};
+use ht_outside::Disk;
+use std::alloc::{AllocError, Global};
+use std::test::Fail;
+
+const HEADER: &[u8] = b"HTJ1\r\n\x1a\n";
+
+// A file of the header and these bytes.
+fn file(alloc: Global, behind: &[u8]) -> Result<Vec<u8>, AllocError> {
+    let mut file = HEADER.to_vec(alloc)?;
+    file.extend_from_slice(behind)?;
+    Ok(file)
+}
+
+// What an opening finds in a file of these bytes.
+fn contents(alloc: Global, bytes: &[u8]) -> Result<Result<Vec<u8>, JournalFault>, Fail> {
+    Ok(found(alloc, &mut disk(alloc, bytes, &[])?))
+}
+
+// Whether an opening answered these bodies, or this fault.
+fn is_answer(found: &Result<Vec<u8>, JournalFault>, want: Result<&str, JournalFault>) -> bool {
+    match (found, want) {
+        (Ok(bodies), Ok(want)) => bodies.as_slice() == want.as_bytes(),
+        (Err(fault), Err(want)) => *fault == want,
+        _ => false,
+    }
+}
+
+#[test]
+fn files_behind_a_header_are_whole_or_damaged(rt: HostRuntime) -> Result<(), Fail> {
+    let alloc = rt.alloc();
+    let rows: [(&[u8], Result<&str, JournalFault>); 15] = [
+        (b"\0", Ok("")),
+        (b"\x01", Ok("")),
+        (b"\0\x01", Ok("")),
+        (b"\x02\x01\0\0\0a\0", Ok("")),
+        (b"\x01\x01\0\0\0a\0", Ok("a.")),
+        (b"\x01\x01\0\0\0a\0rest", Ok("a.")),
+        (b"\x01\0\0\0\0\x01\x02\0\0\0bc\0", Ok(".bc.")),
+        (b"\x01\x01\0\0\0a\x01", Err(JournalFault::Damaged(14))),
+        (b"\x01\x01\0\0\0a\x01\0\0\0", Err(JournalFault::Damaged(14))),
+        (b"\x01\0", Err(JournalFault::Damaged(8))),
+        (b"\x01\x01\0\0\0", Err(JournalFault::Damaged(8))),
+        (b"\x01\x01\0\0\0a", Err(JournalFault::Damaged(8))),
+        (b"\x01\x03\0\0\0a\0", Err(JournalFault::Damaged(8))),
+        (b"\x01\x02\0\0\0a\0", Err(JournalFault::Damaged(8))),
+        (b"\x01\0\0\0\x01aaaaaaaa", Err(JournalFault::Damaged(8))),
+    ];
+    for (behind, want) in rows {
+        let found = contents(alloc, &file(alloc, behind)?)?;
+        assert!(rt; is_answer(&found, want), "{behind:?}");
+    }
+    Ok(())
+}
+
+#[test]
+fn a_file_of_nine_bytes_is_begun(rt: HostRuntime) -> Result<(), Fail> {
+    let alloc = rt.alloc();
+    for size in 0..11 {
+        let found = contents(alloc, &vec![in alloc; b'H'; size]?)?;
+        let want = if size < 10 {
+            Ok("")
+        } else {
+            Err(JournalFault::Damaged(0))
+        };
+        assert!(rt; is_answer(&found, want), "{size}");
+    }
+    Ok(())
+}
+
+#[test]
+fn each_byte_of_the_header_counts(rt: HostRuntime) -> Result<(), Fail> {
+    let alloc = rt.alloc();
+    for place in 0..HEADER.len() {
+        let mut file = file(alloc, b"\x01\x01\0\0\0a\0")?;
+        if place < file.len() {
+            file[place] ^= 0x80;
+        }
+        let found = contents(alloc, &file)?;
+        assert!(rt; is_answer(&found, Err(JournalFault::Damaged(0))), "{place}");
+    }
+    Ok(())
+}
+
+#[test]
+fn a_body_has_1048576_bytes_at_most(rt: HostRuntime) -> Result<(), Fail> {
+    let alloc = rt.alloc();
+    for (length, want) in [(1_048_576_u32, true), (1_048_577, false)] {
+        let mut file = file(alloc, b"\x01")?;
+        file.extend_from_slice(&length.to_le_bytes())?;
+        file.extend_from_slice(&vec![in alloc; 0; length as usize + 1]?)?;
+        let found = contents(alloc, &file)?;
+        assert_eq!(rt; found.is_ok(), want, "{length}");
+        assert!(rt; want || is_answer(&found, Err(JournalFault::Damaged(8))));
+    }
+    Ok(())
+}
+
+fn opens<D: Disk>(alloc: Global, disk: &mut D) -> bool {
+    open(alloc, disk, 100).is_ok()
+}
+
+// The calls of the disk: a sync, the length, and a read; or a sync, the length, a write and a sync.
+#[test]
+fn a_stopped_opening_loses_nothing(rt: HostRuntime) -> Result<(), Fail> {
+    let alloc = rt.alloc();
+    let rows: [(&[u8], u32, &str); 2] = [
+        (
+            b"HTJ1\r\n\x1a\n\x01\x01\0\0\0a\x01\x02\0\0\0bc\0",
+            3,
+            "a.bc.",
+        ),
+        (b"HTJ1\r", 4, ""),
+    ];
+    for (bytes, calls, bodies) in rows {
+        for stop in 1..calls + 2 {
+            let mut disk = disk(alloc, bytes, &[])?;
+            disk.stop(stop);
+            assert_eq!(rt; opens(alloc, &mut disk), stop > calls, "{stop}");
+            for pick in 0..3 {
+                let left = left(alloc, &disk, pick)?;
+                assert_eq!(rt; left.as_slice(), bodies.as_bytes(), "{stop} {pick}");
+            }
+        }
+    }
+    Ok(())
+}
+
+// The bodies of these numbers, up to the first that isn't there.
+fn bodies_of<D: Disk>(
+    alloc: Global,
+    disk: &mut D,
+    numbers: &[u32],
+) -> Result<Vec<Body>, JournalFault> {
+    let mut bodies = Vec::new(alloc);
+    let mut journal = open(alloc, disk, 1_000_000)?;
+    for n in numbers {
+        if *n < 1 || *n > journal.count() {
+            return Ok(bodies);
+        }
+        bodies.push(journal.body(alloc, disk, *n)?)?;
+    }
+    Ok(bodies)
+}
+
+// A file of so many bodies of 20 bytes, each with its number in front.
+fn many(alloc: Global, count: u32) -> Result<Vec<u8>, AllocError> {
+    let mut file = file(alloc, b"")?;
+    for n in 0..count {
+        file.extend_from_slice(b"\x01\x14\0\0\0")?;
+        file.extend_from_slice(&n.to_le_bytes())?;
+        file.extend_from_slice(&[9; 16])?;
+    }
+    file.push(0)?;
+    Ok(file)
+}
+
+#[test]
+fn bodies_are_read_in_any_order(rt: HostRuntime) -> Result<(), Fail> {
+    let alloc = rt.alloc();
+    let mut disk = disk(alloc, &many(alloc, 5_000)?, &[])?;
+    let numbers = [1, 2, 5_000, 2_622, 2_623, 2_621, 1, 5_001];
+    let bodies = bodies_of(alloc, &mut disk, &numbers)?;
+    assert_eq!(rt; bodies.len(), 7);
+    for (n, body) in numbers.iter().zip(&bodies) {
+        let bytes = body.bytes.as_slice();
+        assert_eq!(rt; body.at.wrapping_add(12), 25 * u64::from(*n));
+        assert!(rt; bytes.len() == 20 && bytes.starts_with(&n.wrapping_sub(1).to_le_bytes()));
+    }
+    Ok(())
+}

@@ -1,0 +1,326 @@
+use ht_base::{How, Kind, Moment, Name};
+use ht_expr::Assign;
+use ht_models::{
+    Composition, Deadline, DeadlineKind, Delegation, Model, Models, ModelsRefusal, Trigger,
+    a_models_text_has_one_answer, built_in_text_reads, instant,
+};
+use ht_samples::MODELS;
+use std::process::Abort;
+use std::test::Fail;
+
+const SHUT: &[u8] = b"[[model]]
+name = \"shut\"
+potentialOwners = \"user('anna')\"
+excludedOwners = \"user('anna')\"
+administrators = \"user('cora')\"
+";
+
+fn name(text: &str) -> Result<Name, Fail> {
+    Ok(Name::of(text.as_bytes()).ok_or("a name")?)
+}
+
+fn is_user(assignment: &Assign, name: &str) -> bool {
+    match assignment {
+        Assign::User(text) => text.as_str() == name,
+        _ => false,
+    }
+}
+
+fn is_group(assignment: &Assign, name: &str) -> bool {
+    match assignment {
+        Assign::Group(text) => text.as_str() == name,
+        _ => false,
+    }
+}
+
+fn says_who(rt: &impl Abort, shut: &Model) -> Result<(), Fail> {
+    assert!(rt; shut.name == name("shut")?);
+    assert!(rt; is_user(&shut.potential_owners, "anna"));
+    assert!(rt; is_user(&shut.excluded_owners, "anna"));
+    assert!(rt;
+        shut.administrators
+            .as_ref()
+            .is_some_and(|a| is_user(a, "cora"))
+    );
+    assert!(rt; shut.stakeholders.is_none());
+    Ok(())
+}
+
+fn says_nothing_else(rt: &impl Abort, shut: &Model) {
+    assert!(rt; shut.priority.is_none());
+    assert!(rt; !shut.skipable);
+    assert!(rt; shut.owner_required);
+    assert_eq!(rt; shut.delegation, Delegation::Anybody);
+    assert_eq!(rt; shut.composition, Composition::Sequential);
+    assert_eq!(rt; shut.instantiation, Trigger::Manual);
+    assert_eq!(rt; shut.completion, Trigger::Manual);
+    assert_eq!(rt; shut.size, 1);
+}
+
+#[test]
+fn one_model_is_read(rt: HostRuntime) -> Result<(), Fail> {
+    let models = Models::read(rt.alloc(), SHUT)?;
+    assert_eq!(rt; models.count(), 1);
+    says_who(&rt, models.model(0))?;
+    says_nothing_else(&rt, models.model(0));
+    Ok(())
+}
+
+#[test]
+fn a_model_is_found_by_its_name(rt: HostRuntime) -> Result<(), Fail> {
+    let models = Models::read(rt.alloc(), SHUT)?;
+    assert_eq!(rt; models.find(name("shut")?), Some(0));
+    assert_eq!(rt; models.find(name("shu")?), None);
+    Ok(())
+}
+
+const WHOLE: &str = "
+[[model]]
+name = \"child\"
+[[model.input]]
+name = \"about\"
+kind = \"text\"
+[[model]]
+name = \"whole\"
+priority = \"if in.urgent then 1 else 7\"
+skipable = true
+delegation = \"other\"
+delegatees = \"user('ben')\"
+potentialOwners = \"everybody\"
+composition = \"parallel\"
+instantiation = \"automatic\"
+completion = \"automatic\"
+input = [{name = \"urgent\", kind = \"bool\", optional = true}, {name = \"topic\", kind = \"text\"}]
+output = [{name = \"sum\", kind = \"int\"}]
+sub = [{name = \"x\", model = \"child\", input = {about = \"topic\"}}]
+[[model.deadline]]
+name = \"one\"
+kind = \"completion\"
+for = \"PT10S\"
+escalation = [{name = \"tell\", when = \"priority < 3\", notify = \"initiator\"}, {name = \"move\", reassign = \"user('cora')\"}]
+[[model.deadline]]
+name = \"two\"
+kind = \"start\"
+at = \"2026-03-02T09:00:00Z\"
+[[model.finish]]
+when = \"done() > 0\"
+set = [{part = \"sum\", from = \"n\", with = \"sum\"}]
+";
+
+fn has_choices(rt: &impl Abort, whole: &Model) {
+    assert!(rt; whole.priority.is_some());
+    assert!(rt; whole.skipable);
+    assert_eq!(rt; whole.delegation, Delegation::Other);
+    assert!(rt; whole.delegatees.as_ref().is_some_and(|a| is_user(a, "ben")));
+    assert_eq!(rt; whole.composition, Composition::Parallel);
+    assert_eq!(rt; whole.instantiation, Trigger::Automatic);
+    assert_eq!(rt; whole.completion, Trigger::Automatic);
+    assert_eq!(rt; whole.size, 2);
+}
+
+fn has_parts(rt: &impl Abort, whole: &Model) -> Result<(), Fail> {
+    let urgent = whole.input.first().ok_or("a part")?;
+    assert!(rt; urgent.name == name("urgent")? && urgent.optional);
+    assert_eq!(rt; urgent.kind, Kind::Truth);
+    assert_eq!(rt; whole.output.first().ok_or("a part")?.kind, Kind::Int);
+    Ok(())
+}
+
+fn has_a_sub_entry(rt: &impl Abort, whole: &Model) -> Result<(), Fail> {
+    let sub = whole.subs.first().ok_or("a sub entry")?;
+    assert!(rt; sub.name == name("x")? && sub.model == name("child")?);
+    let (theirs, ours) = sub.input.first().ok_or("a pair")?;
+    assert!(rt; theirs.0 == name("about")? && ours.0 == name("topic")?);
+    Ok(())
+}
+
+fn has_a_finish(rt: &impl Abort, whole: &Model) -> Result<(), Fail> {
+    let finish = whole.finishes.first().ok_or("a finish")?;
+    assert!(rt; finish.when.is_some());
+    let setting = finish.settings.first().ok_or("a setting")?;
+    assert!(rt; setting.part == name("sum")? && setting.from == name("n")?);
+    assert!(rt; matches!(&setting.how, How::Sum));
+    Ok(())
+}
+
+// The model that the text of every key has behind another.
+fn whole_of(models: &Models) -> Result<&Model, Fail> {
+    let place = models.find(name("whole")?).ok_or("a model")?;
+    Ok(models.model(place))
+}
+
+#[test]
+fn every_key_is_read(rt: HostRuntime) -> Result<(), Fail> {
+    let models = Models::read(rt.alloc(), WHOLE.as_bytes())?;
+    let whole = whole_of(&models)?;
+    has_choices(&rt, whole);
+    has_parts(&rt, whole)?;
+    has_a_sub_entry(&rt, whole)?;
+    has_a_finish(&rt, whole)
+}
+
+fn is_the_first(rt: &impl Abort, one: &Deadline) -> Result<(), Fail> {
+    assert!(rt; one.name == name("one")?);
+    assert_eq!(rt; one.kind, DeadlineKind::Completion);
+    assert_eq!(rt; one.period, Some(10_000));
+    let tell = one.escalations.first().ok_or("an escalation")?;
+    assert!(rt; tell.name == name("tell")? && tell.when.is_some() && tell.reassign.is_none());
+    assert!(rt; matches!(&tell.notify, Some(Assign::Initiator)));
+    let moves = one.escalations.get(1).ok_or("an escalation")?;
+    assert!(rt; moves.when.is_none() && moves.notify.is_none());
+    assert!(rt; moves.reassign.as_ref().is_some_and(|a| is_user(a, "cora")));
+    Ok(())
+}
+
+fn is_the_second(rt: &impl Abort, two: &Deadline) {
+    assert_eq!(rt; two.kind, DeadlineKind::Start);
+    assert_eq!(rt; two.at, Some(Moment(1_772_442_000_000)));
+    assert!(rt; two.part.is_none() && two.escalations.is_empty());
+}
+
+#[test]
+fn deadlines_are_read(rt: HostRuntime) -> Result<(), Fail> {
+    let models = Models::read(rt.alloc(), WHOLE.as_bytes())?;
+    let deadlines = &whole_of(&models)?.deadlines;
+    is_the_first(&rt, deadlines.first().ok_or("a deadline")?)?;
+    is_the_second(&rt, deadlines.get(1).ok_or("a deadline")?);
+    Ok(())
+}
+
+// Each model with how many tasks the tree of a task has.
+const SIZES: [(&str, u32); 7] = [
+    ("unit", 1),
+    ("both", 3),
+    ("seq", 3),
+    ("ballot", 1),
+    ("vote", 4),
+    ("timed", 1),
+    ("late", 1),
+];
+
+fn size(models: &Models, model: &str) -> Result<u32, Fail> {
+    let place = models.find(name(model)?).ok_or("a model")?;
+    Ok(models.model(place).size)
+}
+
+#[test]
+fn the_models_of_an_office_are_read(rt: HostRuntime) -> Result<(), Fail> {
+    let models = Models::read(rt.alloc(), MODELS.as_bytes())?;
+    assert_eq!(rt; models.count(), 10);
+    for (model, want) in &SIZES {
+        assert_eq!(rt; size(&models, model)?, *want, "{model}");
+    }
+    Ok(())
+}
+
+#[test]
+fn the_built_in_text_is_read(rt: HostRuntime) -> Result<(), Fail> {
+    built_in_text_reads();
+    a_models_text_has_one_answer();
+    let text = b"[[model]]\nname = \"unit\"\npotentialOwners = \"everybody\"\n";
+    let models = Models::read(rt.alloc(), text)?;
+    assert_eq!(rt; models.count(), 1);
+    assert_eq!(rt; models.find(name("unit")?), Some(0));
+    assert!(rt; matches!(&models.model(0).potential_owners, Assign::Everybody));
+    Ok(())
+}
+
+const TWO: &[u8] =
+    b"model = [{name = 'b'}, {stakeholders = \"group('clerks')\", administrators = 'nobody', name = 'a'}]";
+
+fn is_bare(rt: &impl Abort, first: &Model) {
+    assert!(rt; matches!(&first.potential_owners, Assign::Nobody));
+    assert!(rt; matches!(&first.excluded_owners, Assign::Nobody));
+    assert!(rt; first.administrators.is_none());
+    assert!(rt; first.stakeholders.is_none());
+}
+
+fn has_stakeholders(rt: &impl Abort, second: &Model) -> Result<(), Fail> {
+    assert!(rt; second.name == name("a")?);
+    assert!(rt; matches!(&second.administrators, Some(Assign::Nobody)));
+    assert!(rt;
+        second
+            .stakeholders
+            .as_ref()
+            .is_some_and(|a| is_group(a, "clerks"))
+    );
+    Ok(())
+}
+
+#[test]
+fn missing_keys_are_nobody_or_none(rt: HostRuntime) -> Result<(), Fail> {
+    let models = Models::read(rt.alloc(), TWO)?;
+    assert_eq!(rt; models.count(), 2);
+    is_bare(&rt, models.model(0));
+    has_stakeholders(&rt, models.model(1))
+}
+
+#[test]
+fn models_are_found_wherever_they_stand(rt: HostRuntime) -> Result<(), Fail> {
+    let models = Models::read(rt.alloc(), TWO)?;
+    assert_eq!(rt; models.find(name("a")?), Some(1));
+    assert_eq!(rt; models.find(name("b")?), Some(0));
+    Ok(())
+}
+
+#[test]
+fn refusals_are_told(rt: HostRuntime) -> Result<(), Fail> {
+    let text = format!(in rt.alloc(); "{}; {}", ModelsRefusal::Twice(3), ModelsRefusal::Memory)?;
+    assert_eq!(rt;
+        text.as_str(),
+        "model 3: a name that stands twice; out of memory"
+    );
+    Ok(())
+}
+
+#[test]
+fn instants_are_read(rt: HostRuntime) {
+    let table = [
+        ("1970-01-01T00:00:00Z", 0),
+        ("2026-03-02T09:00:00Z", 1_772_442_000_000),
+        ("2000-02-28T00:00:00Z", 951_696_000_000),
+        ("2000-02-29T00:00:00Z", 951_782_400_000),
+        ("2023-02-28T12:34:56Z", 1_677_587_696_000),
+        ("2024-02-28T00:00:00Z", 1_709_078_400_000),
+        ("2024-02-29T23:59:59Z", 1_709_251_199_000),
+        ("2100-02-28T00:00:00Z", 4_107_456_000_000),
+        ("9999-12-31T23:59:59Z", 253_402_300_799_000),
+    ];
+    for (text, moment) in table {
+        assert_eq!(rt; instant(text), Some(Moment(moment)), "{text}");
+    }
+}
+
+#[test]
+fn other_texts_are_no_instants(rt: HostRuntime) {
+    let table = [
+        "",
+        "2023-02-29T00:00:00Z",
+        "2100-02-29T00:00:00Z",
+        "2026-04-31T00:00:00Z",
+        "2026-00-01T00:00:00Z",
+        "2026-13-01T00:00:00Z",
+        "2026-01-00T00:00:00Z",
+        "2026-01-32T00:00:00Z",
+        "1969-12-31T23:59:59Z",
+        "2026-03-02T24:00:00Z",
+        "2026-03-02T09:60:00Z",
+        "2026-03-02T09:00:60Z",
+        "2026-03-02t09:00:00Z",
+        "2026-03-02T09:00:00z",
+        "2026-03-02 09:00:00Z",
+        "2026/03/02T09:00:00Z",
+        "2026-03-02T09.00.00Z",
+        "2026-03-02T09:00:0Z",
+        "2026-03-02T09:00:000Z",
+        "2026-03-02T09:00:00ZZ",
+        "2026-03-02T09:00:00",
+        "+026-03-02T09:00:00Z",
+        "2026-+3-02T09:00:00Z",
+        "2026-03-02T09:00:\u{e9}Z",
+        "2026-03-02T09:00+00Z",
+    ];
+    for text in table {
+        assert_eq!(rt; instant(text), None, "{text}");
+    }
+}

@@ -1,0 +1,7 @@
+//! Tests of `ht_outside`, through its public calls.
+#![tactic(auto)]
+
+#[cfg(test)]
+mod disks;
+#[cfg(test)]
+mod streams;
