@@ -158,21 +158,25 @@ fn worded(
             if 0 < level {
                 return Err(Memory);
             }
-            let test = expression(alloc, tokens, at + 1, 0)?;
-            let next = behind(tokens, test.next, "then")?;
-            let then = expression(alloc, tokens, next, 0)?;
-            let next = behind(tokens, then.next, "else")?;
-            let other = expression(alloc, tokens, next, 0)?;
-            let test = Box::new(alloc, test.node)?;
-            let then = Box::new(alloc, then.node)?;
-            Ok(Read::new(
-                Node::If(test, then, Box::new(alloc, other.node)?),
-                0,
-                other.next,
-            ))
+            conditional(alloc, tokens, at)
         }
         _ => atom(alloc, tokens, at, keyword),
     }
+}
+
+// `if` and a test, `then` and an expression, `else` and another one.
+#[cycle(expressions)]
+fn conditional(alloc: Global, tokens: &[Placed<'_>], at: usize) -> Result<Read, Memory>
+    requires { IsAt tokens.now at (said keyword.If) }
+    ensures { IfOk result (λ r. ReadsExpression tokens.now at 0 r) }
+{
+    let test = expression(alloc, tokens, at + 1, 0)?;
+    let next = behind(tokens, test.next, "then")?;
+    let then = expression(alloc, tokens, next, 0)?;
+    let next = behind(tokens, then.next, "else")?;
+    let other = expression(alloc, tokens, next, 0)?;
+    let node = Node::conditional(alloc, test.node, then.node, other.node)?;
+    Ok(Read::new(node, 0, other.next))
 }
 
 // An operand that begins with a keyword and holds no other.

@@ -1,5 +1,6 @@
 ghost use Rattle.std.specs.Prelude.{◌≡◌, IfOk};
 ghost use Rattle.ht_expr.specs.Nodes.{shown_node};
+ghost use Rattle.ht_expr.specs.Trees.{choice};
 
 use crate::{Operator, Side};
 use ht_base::{Memory, Txt};
@@ -44,6 +45,20 @@ pub(crate) enum Node {
 }
 
 impl Node {
+    /// The second where the first is true, and else the third.
+    pub(crate) fn conditional(
+        alloc: Global,
+        test: Node,
+        then: Node,
+        other: Node,
+    ) -> Result<Node, Memory>
+        ensures { IfOk result (λ node. shown_node node ≡ choice (shown_node test) (shown_node then) (shown_node other)) }
+    {
+        let test = Box::new(alloc, test)?;
+        let then = Box::new(alloc, then)?;
+        Ok(Node::If(test, then, Box::new(alloc, other)?))
+    }
+
     /// The same tree once more.
     pub(crate) fn copy(&self, alloc: Global) -> Result<Node, Memory>
         ensures { IfOk result (λ e. shown_node e ≡ shown_node self.now) }
