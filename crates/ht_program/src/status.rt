@@ -19,7 +19,7 @@ impl Status {
 }
 
 /// What the process ends with.
-pub(crate) fn exit_code(status: Status) -> ExitCode
+pub fn exit_code(status: Status) -> ExitCode
     ensures { exit_status result ≡ status.0 }
 {
     ExitCode::from(status.0)

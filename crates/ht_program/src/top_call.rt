@@ -9,6 +9,7 @@ ghost use Rattle.ht_program.specs.Running.{Complains, usage_line};
 ghost use Rattle.ht_program.specs.Words.{IsRun, moment_of};
 
 use crate::connection::serve;
+use crate::ending::Ending;
 use crate::fault_lines::{fault_line, fault_status};
 use crate::opening::{TextsFault, Which, open};
 use crate::status::{Status, USAGE_LINE, line_of, status_of};
@@ -64,6 +65,15 @@ pub fn office<X: Texts, S: Source, K: Sink, Q: Sink>(
             Status::USAGE
         }
     }
+}
+
+/// Where there was no memory for the words: tells so. Gives the status with which the program ends.
+pub fn tell_no_memory<Q: Sink>(complaints: &mut Q) -> Status
+    ensures status { result.0 ≡ 8 }
+    ensures line { Complains (Q.sink_state complaints.old) (Q.sink_state complaints.new) (codes "memory\n") }
+{
+    complain(complaints, &line_of(Ending::Memory));
+    Status::MEMORY
 }
 
 // Tells why there is no office, for texts of these names.

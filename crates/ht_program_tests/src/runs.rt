@@ -1,6 +1,6 @@
-use crate::{Status, office};
 use ht_base::{Bytes, Txt};
 use ht_outside::{MemorySink, MemorySource, MemoryTexts};
+use ht_program::{Status, office, tell_no_memory};
 use ht_samples::{MODELS, PEOPLE};
 use std::alloc::Global;
 use std::process::Abort;
@@ -148,6 +148,14 @@ fn a_task_is_created_by_json(rt: HostRuntime) -> Result<(), Fail> {
         {\"owner\":null,\"state\":\"Ready\",\"task\":1}";
     assert_eq!(rt; ran.status, Status(0));
     assert_eq!(rt; ran.output.written(), want.as_bytes());
+    Ok(())
+}
+
+#[test]
+fn want_of_memory_for_the_words_is_told(rt: HostRuntime) -> Result<(), Fail> {
+    let mut complaints = MemorySink::make(rt.alloc(), Vec::new(rt.alloc()))?;
+    assert_eq!(rt; tell_no_memory(&mut complaints), Status(8));
+    assert_eq!(rt; complaints.written(), b"memory\n".as_slice());
     Ok(())
 }
 

@@ -1,4 +1,4 @@
-use crate::office_tests::is_answered_so;
+use crate::working::is_answered_so;
 use ht_samples::MODELS;
 use std::test::Fail;
 

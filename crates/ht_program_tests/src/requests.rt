@@ -1,5 +1,5 @@
-use crate::Status;
-use crate::tests::{reply, run};
+use crate::runs::{reply, run};
+use ht_program::Status;
 use std::alloc::Global;
 use std::process::Abort;
 use std::test::Fail;

@@ -1,38 +1,13 @@
-//! `office`: a task server. Here are the words of the command line, the loop over one connection,
-//! and the top call.
+//! The program: hands its words, files and streams to the top call, and ends with the exit code of the
+//! status.
 #![tactic(auto)]
 
-mod connection;
-mod ending;
-#[cfg(test)]
-mod family_tests;
-mod fault_lines;
-mod laws;
-mod numbers;
-mod office_tables;
-#[cfg(test)]
-mod office_tests;
-mod opening;
-#[cfg(test)]
-mod request_tests;
-mod status;
-#[cfg(test)]
-mod tests;
-mod texts;
-mod top_call;
-mod words;
-
-use ending::Ending;
 use ht_outside::{FileTexts, StdSink, StdSource};
-pub use laws::one_output;
-pub use status::Status;
-use status::{exit_code, line_of};
+use ht_program::{exit_code, office, tell_no_memory};
 use std::env;
 use std::io::{self, ErrorKind};
 use std::process::ExitCode;
 use std::rt::Env;
-use top_call::complain;
-pub use top_call::office;
 
 fn main(rt: HostRuntime) -> ExitCode {
     let mut complaints = StdSink::new(rt.stderr());
@@ -40,8 +15,7 @@ fn main(rt: HostRuntime) -> ExitCode {
         Ok(words) => words,
         Err(error) => {
             if error.kind() == ErrorKind::OutOfMemory {
-                complain(&mut complaints, &line_of(Ending::Memory));
-                return exit_code(Status::MEMORY);
+                return exit_code(tell_no_memory(&mut complaints));
             }
             // Words that are no text are not in the grammar, as none are.
             Vec::new(rt.alloc())

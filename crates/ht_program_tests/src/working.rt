@@ -1,5 +1,5 @@
-use crate::Status;
-use crate::tests::{Office, reply, run_office};
+use crate::runs::{Office, reply, run_office};
+use ht_program::Status;
 use ht_samples::{MODELS, PEOPLE};
 use std::alloc::Global;
 use std::test::Fail;

@@ -1,0 +1,11 @@
+//! Tests of `ht_program`, through its public calls.
+#![tactic(auto)]
+
+#[cfg(test)]
+mod families;
+#[cfg(test)]
+mod requests;
+#[cfg(test)]
+mod runs;
+#[cfg(test)]
+mod working;
