@@ -8,8 +8,6 @@ mod given;
 mod joining;
 mod laws;
 mod numbers;
-#[cfg(test)]
-mod tests;
 mod truths;
 mod voting;
 

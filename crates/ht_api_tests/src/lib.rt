@@ -2,12 +2,4 @@
 #![tactic(auto)]
 
 #[cfg(test)]
-mod bodies;
-#[cfg(test)]
-mod moments;
-#[cfg(test)]
-mod replies;
-#[cfg(test)]
 mod requests;
-#[cfg(test)]
-mod tables;

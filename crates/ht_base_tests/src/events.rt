@@ -1,6 +1,6 @@
 use ht_base::{
-    Bytes, Command, End, Event, Memory, Moment, Name, Names, Op, Parts, Query, Record, Retry,
-    RoleList, Scalar, TaskId, Txt,
+    Command, End, Event, Memory, Moment, Name, Names, Op, Parts, Record, Retry, RoleList, Scalar,
+    TaskId, Txt,
 };
 use std::alloc::Global;
 use std::test::Fail;
@@ -94,48 +94,6 @@ fn events_and_records_are_copied(rt: HostRuntime) -> Result<(), Fail> {
     Ok(())
 }
 
-fn is_of_texts(record: &Record, models: &[u8], people: &[u8]) -> bool {
-    match record {
-        Record::Opening {
-            models: m,
-            people: p,
-        } => m.as_slice() == models && p.as_slice() == people,
-        _ => false,
-    }
-}
-
-#[test]
-fn openings_and_turns_are_copied(rt: HostRuntime) -> Result<(), Fail> {
-    let opening = Record::Opening {
-        models: Bytes::of(rt.alloc(), b"[[model]]")?,
-        people: Bytes::of(rt.alloc(), b"")?,
-    };
-    assert!(rt; is_of_texts(&opening.copy(rt.alloc())?, b"[[model]]", b""));
-    let turn = Record::Turn { at: Moment(7000) };
-    let copy = turn.copy(rt.alloc())?;
-    assert!(rt; matches!(copy, Record::Turn { at: Moment(7000) }));
-    Ok(())
-}
-
-#[test]
-fn a_turn_is_copied(rt: HostRuntime) -> Result<(), Fail> {
-    let turn = Event::Turn { at: Moment(7000) };
-    let copy = turn.copy(rt.alloc())?;
-    assert!(rt; matches!(copy, Event::Turn { at: Moment(7000) }));
-    Ok(())
-}
-
-#[test]
-fn an_event_that_reads_is_copied(rt: HostRuntime) -> Result<(), Fail> {
-    let anna = Name::of(b"anna").ok_or("a name")?;
-    let read = Event::Read {
-        caller: anna,
-        query: Query::Sheet(TaskId(1)),
-    };
-    assert_eq!(rt; op_asked(&read.copy(rt.alloc())?), None);
-    Ok(())
-}
-
 // A command of this operation, which names this person.
 fn command_of(alloc: Global, op: Op, name: Name) -> Result<Command, Fail> {
     match plain_command(op) {
@@ -207,39 +165,6 @@ fn one_part(alloc: Global, name: Name) -> Result<Parts, Memory> {
     let mut parts = Parts::new(alloc);
     parts.push(name, Scalar::Text(Txt::of(alloc, "soon")?))?;
     Ok(parts)
-}
-
-// Whether parts with this scalar show it when they are copied, and the copied scalar is its copy.
-fn is_copied_scalar(alloc: Global, scalar: &Scalar) -> Result<bool, Fail> {
-    let mut parts = Parts::new(alloc);
-    parts.push(Name::of(b"due").ok_or("a name")?, scalar.copy(alloc)?)?;
-    let copy = parts.copy(alloc)?;
-    Ok(is_alone_in_parts(&copy, scalar))
-}
-
-fn is_alone_in_parts(parts: &Parts, scalar: &Scalar) -> bool {
-    match parts.as_slice().first() {
-        Some((key, copied)) => Some(*key) == Name::of(b"due") && is_same_scalar(copied, scalar),
-        None => false,
-    }
-}
-
-#[test]
-fn what_is_given_is_copied(rt: HostRuntime) -> Result<(), Fail> {
-    let text = Scalar::Text(Txt::of(rt.alloc(), "soon")?);
-    assert!(rt; is_copied_scalar(rt.alloc(), &text)?);
-    assert!(rt; is_copied_scalar(rt.alloc(), &Scalar::Int(-1))?);
-    assert!(rt; is_copied_scalar(rt.alloc(), &Scalar::Truth(true))?);
-    Ok(())
-}
-
-fn is_same_scalar(one: &Scalar, other: &Scalar) -> bool {
-    match (one, other) {
-        (Scalar::Text(a), Scalar::Text(b)) => a.as_str() == b.as_str(),
-        (Scalar::Int(a), Scalar::Int(b)) => a == b,
-        (Scalar::Truth(a), Scalar::Truth(b)) => a == b,
-        _ => false,
-    }
 }
 
 fn op_asked(event: &Event) -> Option<(Op, Option<Retry>)> {

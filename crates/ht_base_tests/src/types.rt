@@ -1,11 +1,10 @@
 ghost use Rattle.ht_base.specs.Persons.{AllBelow};
 
 use ht_base::{
-    Bytes, How, Ids, IndexFault, Kind, LAST, Moment, Name, Names, Person, Persons, Role, Roles,
-    ShownComment, ShownComments, State, StateSet, TaskId, Txt, Value, ValueList, Values, index,
-    name_places, number, period,
+    Bytes, How, Ids, Kind, Moment, Name, Names, Person, Persons, ShownComment, ShownComments,
+    TaskId, Txt, Value, ValueList, Values, name_places, number, period,
 };
-use std::alloc::{AllocError, Global};
+use std::alloc::Global;
 use std::process::Abort;
 use std::test::Fail;
 
@@ -39,13 +38,6 @@ fn names_are_read(rt: HostRuntime) {
         assert!(rt; Name::of(text.as_bytes()).is_none(), "{text}");
     }
     assert!(rt; Name::of(b"").is_none());
-}
-
-#[test]
-fn names_are_ordered_by_their_bytes(rt: HostRuntime) {
-    let (first, second) = (Name::of(b"p1"), Name::of(b"p10"));
-    assert!(rt; first < second);
-    assert!(rt; first != second);
 }
 
 fn is_copied_before_it_changes(
@@ -90,53 +82,6 @@ fn tasks_are_copied(rt: HostRuntime) -> Result<(), Fail> {
     Ok(())
 }
 
-#[test]
-fn sets_hold_what_was_put_in(rt: HostRuntime) {
-    let states = StateSet::NONE.with(State::Ready).with(State::Obsolete);
-    let mut held = 0usize;
-    for state in State::ALL {
-        if states.contains(state) {
-            held = held.saturating_add(state.name().len());
-        }
-    }
-    assert_eq!(rt; held, "Ready".len() + "Obsolete".len());
-    let roles = Roles::NONE.with(Role::PotentialOwner);
-    assert!(rt; roles.contains(Role::PotentialOwner));
-    assert!(rt; !roles.contains(Role::Operator));
-    for role in Role::ALL {
-        assert_eq!(rt; roles.contains(role), role == Role::PotentialOwner);
-    }
-    assert_eq!(rt; Role::PotentialOwner.name(), "potentialOwner");
-}
-
-#[test]
-fn the_last_moment_is_the_end_of_9999(rt: HostRuntime) {
-    // 2932896 is the day number of 9999-12-31.
-    assert_eq!(rt; Moment(LAST), Moment(2_932_896 * 86_400_000 + 86_399_999));
-}
-
-// In each line a text stands before its number.
-const NUMBERS: &str = "\
-0 => Some(0)
-007 => Some(7)
-2026 => Some(2026)
-999999 => Some(999999)
-1000000 => None
- => None
--1 => None
-+1 => None
-1a => None";
-
-#[test]
-fn numbers_have_one_to_six_digits(rt: HostRuntime) -> Result<(), Fail> {
-    for line in NUMBERS.lines() {
-        let (text, expected) = line.split_once(" => ").ok_or("a text and its number")?;
-        let value = format!(in rt.alloc(); "{:?}", number(text.as_bytes()))?;
-        assert_eq!(rt; value.as_str(), expected, "{text}");
-    }
-    Ok(())
-}
-
 // In each line a text stands before its milliseconds.
 const PERIODS: &str = "\
 P1D => Some(86400000)
@@ -175,14 +120,6 @@ fn periods_are_read(rt: HostRuntime) -> Result<(), Fail> {
         let millis = format!(in rt.alloc(); "{:?}", period(text))?;
         assert_eq!(rt; millis.as_str(), expected, "{text}");
     }
-    Ok(())
-}
-
-#[test]
-fn want_of_memory_is_told(rt: HostRuntime) -> Result<(), Fail> {
-    let memory = ht_base::Memory::from(AllocError);
-    let text = format!(in rt.alloc(); "{memory}")?;
-    assert_eq!(rt; text.as_str(), "out of memory");
     Ok(())
 }
 
@@ -306,41 +243,6 @@ fn values_grow_and_are_copied(rt: HostRuntime) -> Result<(), Fail> {
     Ok(())
 }
 
-fn put_number(values: &mut Values, text: &str, number: i64) -> Result<(), Fail> {
-    let name = Name::of(text.as_bytes()).ok_or("a name")?;
-    values.put(name, Value::Int(number))?;
-    Ok(())
-}
-
-// Two numbers, each under its name.
-fn numbers_of(alloc: Global, first: (&str, i64), second: (&str, i64)) -> Result<Values, Fail> {
-    let mut values = Values::new(alloc);
-    put_number(&mut values, first.0, first.1)?;
-    put_number(&mut values, second.0, second.1)?;
-    Ok(values)
-}
-
-fn number_under(values: &Values, text: &str) -> Option<i64> {
-    int_of(values.value_of(&Name::of(text.as_bytes())?))
-}
-
-fn updated(alloc: Global) -> Result<Values, Fail> {
-    let values = numbers_of(alloc, ("d", 2), ("b", 1))?;
-    let given = numbers_of(alloc, ("a", 7), ("d", 8))?;
-    Ok(values.updated(given)?)
-}
-
-#[test]
-fn values_are_put_under_their_names(rt: HostRuntime) -> Result<(), Fail> {
-    let values = updated(rt.alloc())?;
-    let numbers = [("a", Some(7)), ("b", Some(1)), ("c", None), ("d", Some(8))];
-    for (text, number) in numbers {
-        assert!(rt; number_under(&values, text) == number, "{text}");
-    }
-    assert_eq!(rt; values.as_slice().len(), 3);
-    Ok(())
-}
-
 #[test]
 fn lists_of_values_grow_and_are_copied(rt: HostRuntime) -> Result<(), Fail> {
     let mut values = ValueList::new(rt.alloc());
@@ -394,12 +296,4 @@ fn names_have_their_places(rt: HostRuntime) -> Result<(), Fail> {
     let names = five_names(rt.alloc())?;
     assert_eq!(rt; names.len(), 5);
     have_places(&rt, rt.alloc(), &names[..3])
-}
-
-#[test]
-fn a_name_that_stands_twice_is_told(rt: HostRuntime) -> Result<(), Fail> {
-    let names = five_names(rt.alloc())?;
-    let repeated = index(rt.alloc(), &names).err();
-    assert_eq!(rt; repeated, Some(IndexFault::Repeated(3)));
-    Ok(())
 }

@@ -1,7 +1,7 @@
 ghost use Rattle.ht_base.specs.Records.{record_of};
 ghost use Rattle.ht_codec.specs.Records.{IsRecord};
 
-use ht_base::{Bytes, Command, Moment, Name, Op, Record, Retry, TaskId};
+use ht_base::{Bytes, Command, Moment, Name, Op, Record, TaskId};
 use ht_codec::{CodecRefusal, read, write};
 use std::alloc::Global;
 use std::test::Fail;
@@ -93,52 +93,6 @@ fn operations_with_fields(rt: HostRuntime) -> Result<(), Fail> {
 }
 
 #[test]
-fn a_create_names_no_task(rt: HostRuntime) -> Result<(), Fail> {
-    let behind = b"\x01\x01\x01m\x01\x01a\0\x01\0x\x01\x58\x1b\0\0\0\0\0\0";
-    assert_eq!(rt; op_asked(rt.alloc(), 0, behind)?, Some(Op::Create));
-    assert_eq!(rt; op_asked(rt.alloc(), 0, b"\x01\0\0\0")?, Some(Op::Create));
-    Ok(())
-}
-
-fn retry_of(record: &Option<Record>) -> Option<Retry> {
-    match record {
-        Some(Record::Asked { retry, .. }) => *retry,
-        _ => None,
-    }
-}
-
-#[test]
-fn a_number_of_a_device(rt: HostRuntime) -> Result<(), Fail> {
-    let claim = b"\x02\0\0\0\0\0\0\0\0\x01b\x03\x02\x01\0\0\x07\0\0\0\x02";
-    let record = read_and_written(rt.alloc(), claim)?;
-    let retry = Retry {
-        device: 3,
-        number: 258,
-    };
-    assert_eq!(rt; retry_of(&record), Some(retry));
-    Ok(())
-}
-
-fn opens_with(record: &Option<Record>, models: &[u8], people: &[u8]) -> bool {
-    match record {
-        Some(
-            Record::Opening {
-                models: m,
-                people: p,
-            },
-        ) => m.as_slice() == models && p.as_slice() == people,
-        _ => false,
-    }
-}
-
-#[test]
-fn an_opening_holds_two_texts(rt: HostRuntime) -> Result<(), Fail> {
-    let record = read_and_written(rt.alloc(), b"\0\x02\0\0\0mo\x01\0\0\0p")?;
-    assert!(rt; opens_with(&record, b"mo", b"p"));
-    Ok(())
-}
-
-#[test]
 fn a_turn_has_nine_bytes(rt: HostRuntime) -> Result<(), Fail> {
     let bytes = write(rt.alloc(), &Record::Turn { at: Moment(1000) })?;
     assert_eq!(rt; bytes.as_slice(), &TURN[..9]);
@@ -203,94 +157,4 @@ fn the_first_field_that_fails_is_told(rt: HostRuntime) {
     for (bytes, told) in rows {
         assert_eq!(rt; refusal(rt.alloc(), bytes), Some(told));
     }
-}
-
-/// A forward to 1,024 names, of which none comes. It is refused without an allocation.
-const ANNOUNCED: &[u8] = b"\x02\0\0\0\0\0\0\0\0\x01a\x10\x01\0\0\0\x07\0\x04";
-
-#[test]
-fn announced_names_are_missed(rt: HostRuntime) {
-    assert_eq!(rt;
-        refusal(rt.alloc(), ANNOUNCED),
-        Some(CodecRefusal::Short(19))
-    );
-}
-
-fn refusal_behind(alloc: Global, task: u8, behind: &[u8]) -> Result<Option<CodecRefusal>, Fail> {
-    let bytes = asked(alloc, task, behind)?;
-    Ok(refusal(alloc, bytes.as_slice()))
-}
-
-#[test]
-fn a_task_is_told_behind_its_operation(rt: HostRuntime) -> Result<(), Fail> {
-    let rows = [
-        (0, b"\x02".as_slice(), CodecRefusal::Range(15)),
-        (1, b"\x01".as_slice(), CodecRefusal::Range(15)),
-        (0, b"".as_slice(), CodecRefusal::Short(19)),
-        (0, b"\0".as_slice(), CodecRefusal::Tag(19)),
-        (1, b"\x17".as_slice(), CodecRefusal::Tag(19)),
-        (1, b"\x02\0".as_slice(), CodecRefusal::Trailing(20)),
-    ];
-    for (task, behind, told) in rows {
-        assert_eq!(rt; refusal_behind(rt.alloc(), task, behind)?, Some(told));
-    }
-    Ok(())
-}
-
-#[test]
-fn fields_of_commands_are_told(rt: HostRuntime) -> Result<(), Fail> {
-    let rows = [
-        (b"\x06\0".as_slice(), CodecRefusal::Range(20)),
-        (b"\x06\x21".as_slice(), CodecRefusal::Range(20)),
-        (b"\x06\x02a ".as_slice(), CodecRefusal::Range(20)),
-        (b"\x06\x03be".as_slice(), CodecRefusal::Short(23)),
-        (b"\x0a\x04".as_slice(), CodecRefusal::Range(20)),
-        (b"\x0b\x0b".as_slice(), CodecRefusal::Range(20)),
-        (b"\x0d\x02".as_slice(), CodecRefusal::Tag(20)),
-        (
-            b"\x0d\0\0\xdc\x1f\xd2\x77\xe6\0\0".as_slice(),
-            CodecRefusal::Range(21),
-        ),
-        (
-            b"\x0d\x01\x39\x89\x8b\xf0\xe8\x51\0\0".as_slice(),
-            CodecRefusal::Range(21),
-        ),
-        (b"\x11\x02".as_slice(), CodecRefusal::Tag(20)),
-        (b"\x15\0\0".as_slice(), CodecRefusal::Range(20)),
-    ];
-    for (behind, told) in rows {
-        assert_eq!(rt; refusal_behind(rt.alloc(), 1, behind)?, Some(told));
-    }
-    Ok(())
-}
-
-#[test]
-fn entries_of_lists_are_told(rt: HostRuntime) -> Result<(), Fail> {
-    let rows = [
-        (b"\x07\0\0".as_slice(), CodecRefusal::Range(20)),
-        (b"\x07\x01\x04".as_slice(), CodecRefusal::Range(20)),
-        (b"\x07\0\x04".as_slice(), CodecRefusal::Short(22)),
-        (b"\x07\x02\0\x01b\x01b".as_slice(), CodecRefusal::Range(24)),
-        (b"\x0f\0".as_slice(), CodecRefusal::Range(20)),
-        (b"\x10\x09".as_slice(), CodecRefusal::Range(20)),
-        // A name out of order is told before its value is read.
-        (
-            b"\x10\x02\x01b\x02\x01\x01a\x09".as_slice(),
-            CodecRefusal::Range(25),
-        ),
-        (b"\x10\x01\x01a\x03".as_slice(), CodecRefusal::Tag(23)),
-        (b"\x10\x01\x01a\x02\x02".as_slice(), CodecRefusal::Range(24)),
-        (
-            b"\x10\x01\x01a\0\x01\x02".as_slice(),
-            CodecRefusal::Range(24),
-        ),
-        (
-            b"\x10\x01\x01a\0\x01\0\xff".as_slice(),
-            CodecRefusal::Range(24),
-        ),
-    ];
-    for (behind, told) in rows {
-        assert_eq!(rt; refusal_behind(rt.alloc(), 1, behind)?, Some(told));
-    }
-    Ok(())
 }

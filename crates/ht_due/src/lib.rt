@@ -9,8 +9,6 @@ mod merging;
 mod queue;
 mod sorting;
 mod taking_out;
-#[cfg(test)]
-mod tests;
 
 pub use due::Due;
 pub use laws::{

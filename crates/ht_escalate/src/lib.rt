@@ -7,8 +7,6 @@ mod laws;
 mod notifying;
 mod reassigning;
 mod taking;
-#[cfg(test)]
-mod tests;
 mod triggering;
 
 pub use first_due::first;

@@ -5,8 +5,6 @@
 mod cycles;
 mod depth;
 mod graph;
-#[cfg(test)]
-mod tests;
 mod walking;
 
 pub use cycles::first_cycle;

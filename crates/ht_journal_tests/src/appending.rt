@@ -2,7 +2,7 @@ ghost use Rattle.std.specs.Prelude.{◌^◌, ◌≤◌, ℕ, List};
 ghost use Rattle.ht_journal.specs.Keeping.{IsKept};
 
 use ht_base::Bytes;
-use ht_journal::{AppendRefusal, Body, Journal, JournalFault, JournalState, Settled, open};
+use ht_journal::{AppendRefusal, JournalFault, JournalState, Settled, open};
 use ht_outside::{Disk, MemoryDisk};
 use std::alloc::Global;
 use std::test::Fail;
@@ -75,26 +75,6 @@ fn append_and_settle<D: Disk>(alloc: Global, disk: &mut D, body: &[u8]) -> Optio
         return Some(journal.settle(disk));
     }
     None
-}
-
-// Appends twice over a journal with its disk, and reads the first body.
-fn append_again<D: Disk>(alloc: Global, disk: &mut D) -> Result<Option<Body>, JournalFault> {
-    let mut journal = Journal::open(alloc, disk, LIMIT)?;
-    let _ = journal.append(b"a");
-    if !journal.doubtful() {
-        return Ok(None);
-    }
-    let _ = journal.settle();
-    if journal.doubtful() {
-        return Ok(None);
-    }
-    let _ = journal.append(b"bc");
-    if journal.count() == 0 {
-        return Ok(None);
-    }
-    let body = journal.body(alloc, 1)?;
-    let _ = journal.close();
-    Ok(Some(body))
 }
 
 #[test]
@@ -210,17 +190,5 @@ fn a_crash_leaves_the_body_or_not(rt: HostRuntime) -> Result<(), Fail> {
             );
         }
     }
-    Ok(())
-}
-
-#[test]
-fn an_append_follows_a_dropped_doubt(rt: HostRuntime) -> Result<(), Fail> {
-    let alloc = rt.alloc();
-    let mut disk = disk(alloc, b"", &[7])?;
-    let body = append_again(alloc, &mut disk)?;
-    assert!(rt;
-        body.is_some_and(|body| body.at == 13 && body.bytes.as_slice() == b"bc".as_slice())
-    );
-    assert_eq!(rt; found(alloc, &mut disk)?.as_slice(), b"bc.".as_slice());
     Ok(())
 }

@@ -1,4 +1,4 @@
-use crate::appending::{disk, found, left};
+use crate::appending::{disk, left};
 use ht_journal::{Body, JournalFault, open};
 use ht_outside::Disk;
 use std::alloc::{AllocError, Global};
@@ -11,90 +11,6 @@ fn file(alloc: Global, behind: &[u8]) -> Result<Vec<u8>, AllocError> {
     let mut file = HEADER.to_vec(alloc)?;
     file.extend_from_slice(behind)?;
     Ok(file)
-}
-
-// What an opening finds in a file of these bytes.
-fn contents(alloc: Global, bytes: &[u8]) -> Result<Result<Vec<u8>, JournalFault>, Fail> {
-    Ok(found(alloc, &mut disk(alloc, bytes, &[])?))
-}
-
-// Whether an opening answered these bodies, or this fault.
-fn is_answer(found: &Result<Vec<u8>, JournalFault>, want: Result<&str, JournalFault>) -> bool {
-    match (found, want) {
-        (Ok(bodies), Ok(want)) => bodies.as_slice() == want.as_bytes(),
-        (Err(fault), Err(want)) => *fault == want,
-        _ => false,
-    }
-}
-
-#[test]
-fn files_behind_a_header_are_whole_or_damaged(rt: HostRuntime) -> Result<(), Fail> {
-    let alloc = rt.alloc();
-    let rows: [(&[u8], Result<&str, JournalFault>); 15] = [
-        (b"\0", Ok("")),
-        (b"\x01", Ok("")),
-        (b"\0\x01", Ok("")),
-        (b"\x02\x01\0\0\0a\0", Ok("")),
-        (b"\x01\x01\0\0\0a\0", Ok("a.")),
-        (b"\x01\x01\0\0\0a\0rest", Ok("a.")),
-        (b"\x01\0\0\0\0\x01\x02\0\0\0bc\0", Ok(".bc.")),
-        (b"\x01\x01\0\0\0a\x01", Err(JournalFault::Damaged(14))),
-        (b"\x01\x01\0\0\0a\x01\0\0\0", Err(JournalFault::Damaged(14))),
-        (b"\x01\0", Err(JournalFault::Damaged(8))),
-        (b"\x01\x01\0\0\0", Err(JournalFault::Damaged(8))),
-        (b"\x01\x01\0\0\0a", Err(JournalFault::Damaged(8))),
-        (b"\x01\x03\0\0\0a\0", Err(JournalFault::Damaged(8))),
-        (b"\x01\x02\0\0\0a\0", Err(JournalFault::Damaged(8))),
-        (b"\x01\0\0\0\x01aaaaaaaa", Err(JournalFault::Damaged(8))),
-    ];
-    for (behind, want) in rows {
-        let found = contents(alloc, &file(alloc, behind)?)?;
-        assert!(rt; is_answer(&found, want), "{behind:?}");
-    }
-    Ok(())
-}
-
-#[test]
-fn a_file_of_nine_bytes_is_begun(rt: HostRuntime) -> Result<(), Fail> {
-    let alloc = rt.alloc();
-    for size in 0..11 {
-        let found = contents(alloc, &vec![in alloc; b'H'; size]?)?;
-        let want = if size < 10 {
-            Ok("")
-        } else {
-            Err(JournalFault::Damaged(0))
-        };
-        assert!(rt; is_answer(&found, want), "{size}");
-    }
-    Ok(())
-}
-
-#[test]
-fn each_byte_of_the_header_counts(rt: HostRuntime) -> Result<(), Fail> {
-    let alloc = rt.alloc();
-    for place in 0..HEADER.len() {
-        let mut file = file(alloc, b"\x01\x01\0\0\0a\0")?;
-        if place < file.len() {
-            file[place] ^= 0x80;
-        }
-        let found = contents(alloc, &file)?;
-        assert!(rt; is_answer(&found, Err(JournalFault::Damaged(0))), "{place}");
-    }
-    Ok(())
-}
-
-#[test]
-fn a_body_has_1048576_bytes_at_most(rt: HostRuntime) -> Result<(), Fail> {
-    let alloc = rt.alloc();
-    for (length, want) in [(1_048_576_u32, true), (1_048_577, false)] {
-        let mut file = file(alloc, b"\x01")?;
-        file.extend_from_slice(&length.to_le_bytes())?;
-        file.extend_from_slice(&vec![in alloc; 0; length as usize + 1]?)?;
-        let found = contents(alloc, &file)?;
-        assert_eq!(rt; found.is_ok(), want, "{length}");
-        assert!(rt; want || is_answer(&found, Err(JournalFault::Damaged(8))));
-    }
-    Ok(())
 }
 
 fn opens<D: Disk>(alloc: Global, disk: &mut D) -> bool {

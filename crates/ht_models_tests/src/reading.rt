@@ -1,9 +1,6 @@
 use ht_base::{How, Kind, Moment, Name};
 use ht_expr::Assign;
-use ht_models::{
-    Composition, Deadline, DeadlineKind, Delegation, Model, Models, ModelsRefusal, Trigger,
-    a_models_text_has_one_answer, built_in_text_reads, instant,
-};
+use ht_models::{Composition, Deadline, DeadlineKind, Delegation, Model, Models, Trigger, instant};
 use ht_samples::MODELS;
 use std::process::Abort;
 use std::test::Fail;
@@ -24,46 +21,6 @@ fn is_user(assignment: &Assign, name: &str) -> bool {
         Assign::User(text) => text.as_str() == name,
         _ => false,
     }
-}
-
-fn is_group(assignment: &Assign, name: &str) -> bool {
-    match assignment {
-        Assign::Group(text) => text.as_str() == name,
-        _ => false,
-    }
-}
-
-fn says_who(rt: &impl Abort, shut: &Model) -> Result<(), Fail> {
-    assert!(rt; shut.name == name("shut")?);
-    assert!(rt; is_user(&shut.potential_owners, "anna"));
-    assert!(rt; is_user(&shut.excluded_owners, "anna"));
-    assert!(rt;
-        shut.administrators
-            .as_ref()
-            .is_some_and(|a| is_user(a, "cora"))
-    );
-    assert!(rt; shut.stakeholders.is_none());
-    Ok(())
-}
-
-fn says_nothing_else(rt: &impl Abort, shut: &Model) {
-    assert!(rt; shut.priority.is_none());
-    assert!(rt; !shut.skipable);
-    assert!(rt; shut.owner_required);
-    assert_eq!(rt; shut.delegation, Delegation::Anybody);
-    assert_eq!(rt; shut.composition, Composition::Sequential);
-    assert_eq!(rt; shut.instantiation, Trigger::Manual);
-    assert_eq!(rt; shut.completion, Trigger::Manual);
-    assert_eq!(rt; shut.size, 1);
-}
-
-#[test]
-fn one_model_is_read(rt: HostRuntime) -> Result<(), Fail> {
-    let models = Models::read(rt.alloc(), SHUT)?;
-    assert_eq!(rt; models.count(), 1);
-    says_who(&rt, models.model(0))?;
-    says_nothing_else(&rt, models.model(0));
-    Ok(())
 }
 
 #[test]
@@ -214,66 +171,6 @@ fn the_models_of_an_office_are_read(rt: HostRuntime) -> Result<(), Fail> {
 }
 
 #[test]
-fn the_built_in_text_is_read(rt: HostRuntime) -> Result<(), Fail> {
-    built_in_text_reads();
-    a_models_text_has_one_answer();
-    let text = b"[[model]]\nname = \"unit\"\npotentialOwners = \"everybody\"\n";
-    let models = Models::read(rt.alloc(), text)?;
-    assert_eq!(rt; models.count(), 1);
-    assert_eq!(rt; models.find(name("unit")?), Some(0));
-    assert!(rt; matches!(&models.model(0).potential_owners, Assign::Everybody));
-    Ok(())
-}
-
-const TWO: &[u8] =
-    b"model = [{name = 'b'}, {stakeholders = \"group('clerks')\", administrators = 'nobody', name = 'a'}]";
-
-fn is_bare(rt: &impl Abort, first: &Model) {
-    assert!(rt; matches!(&first.potential_owners, Assign::Nobody));
-    assert!(rt; matches!(&first.excluded_owners, Assign::Nobody));
-    assert!(rt; first.administrators.is_none());
-    assert!(rt; first.stakeholders.is_none());
-}
-
-fn has_stakeholders(rt: &impl Abort, second: &Model) -> Result<(), Fail> {
-    assert!(rt; second.name == name("a")?);
-    assert!(rt; matches!(&second.administrators, Some(Assign::Nobody)));
-    assert!(rt;
-        second
-            .stakeholders
-            .as_ref()
-            .is_some_and(|a| is_group(a, "clerks"))
-    );
-    Ok(())
-}
-
-#[test]
-fn missing_keys_are_nobody_or_none(rt: HostRuntime) -> Result<(), Fail> {
-    let models = Models::read(rt.alloc(), TWO)?;
-    assert_eq!(rt; models.count(), 2);
-    is_bare(&rt, models.model(0));
-    has_stakeholders(&rt, models.model(1))
-}
-
-#[test]
-fn models_are_found_wherever_they_stand(rt: HostRuntime) -> Result<(), Fail> {
-    let models = Models::read(rt.alloc(), TWO)?;
-    assert_eq!(rt; models.find(name("a")?), Some(1));
-    assert_eq!(rt; models.find(name("b")?), Some(0));
-    Ok(())
-}
-
-#[test]
-fn refusals_are_told(rt: HostRuntime) -> Result<(), Fail> {
-    let text = format!(in rt.alloc(); "{}; {}", ModelsRefusal::Twice(3), ModelsRefusal::Memory)?;
-    assert_eq!(rt;
-        text.as_str(),
-        "model 3: a name that stands twice; out of memory"
-    );
-    Ok(())
-}
-
-#[test]
 fn instants_are_read(rt: HostRuntime) {
     let table = [
         ("1970-01-01T00:00:00Z", 0),
@@ -288,39 +185,5 @@ fn instants_are_read(rt: HostRuntime) {
     ];
     for (text, moment) in table {
         assert_eq!(rt; instant(text), Some(Moment(moment)), "{text}");
-    }
-}
-
-#[test]
-fn other_texts_are_no_instants(rt: HostRuntime) {
-    let table = [
-        "",
-        "2023-02-29T00:00:00Z",
-        "2100-02-29T00:00:00Z",
-        "2026-04-31T00:00:00Z",
-        "2026-00-01T00:00:00Z",
-        "2026-13-01T00:00:00Z",
-        "2026-01-00T00:00:00Z",
-        "2026-01-32T00:00:00Z",
-        "1969-12-31T23:59:59Z",
-        "2026-03-02T24:00:00Z",
-        "2026-03-02T09:60:00Z",
-        "2026-03-02T09:00:60Z",
-        "2026-03-02t09:00:00Z",
-        "2026-03-02T09:00:00z",
-        "2026-03-02 09:00:00Z",
-        "2026/03/02T09:00:00Z",
-        "2026-03-02T09.00.00Z",
-        "2026-03-02T09:00:0Z",
-        "2026-03-02T09:00:000Z",
-        "2026-03-02T09:00:00ZZ",
-        "2026-03-02T09:00:00",
-        "+026-03-02T09:00:00Z",
-        "2026-+3-02T09:00:00Z",
-        "2026-03-02T09:00:\u{e9}Z",
-        "2026-03-02T09:00+00Z",
-    ];
-    for text in table {
-        assert_eq!(rt; instant(text), None, "{text}");
     }
 }

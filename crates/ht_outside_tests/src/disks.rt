@@ -75,22 +75,6 @@ fn a_crash_leaves_an_image(rt: HostRuntime) -> Result<(), Fail> {
 }
 
 #[test]
-fn a_call_that_is_to_fail_fails(rt: HostRuntime) -> Result<(), Fail> {
-    let mut disk = disk(rt.alloc(), b"abc", &[1, 3])?;
-    assert_eq!(rt; disk.write_at(0, b"X"), Err(Failed));
-    assert!(rt; !holds(&mut disk, b"abc"));
-    assert!(rt; holds(&mut disk, b"abc"));
-    disk.stop(8);
-    assert_eq!(rt; disk.write_at(0, b"Y"), Ok(()));
-    assert_eq!(rt; disk.sync(), Ok(()));
-    assert_eq!(rt; disk.write_at(0, b"Z"), Err(Failed));
-    assert_eq!(rt; disk.sync(), Err(Failed));
-    assert_eq!(rt; disk.attach("journal.0"), Err(Failed));
-    assert!(rt; holds(&mut disk.crash(1)?, b"Ybc"));
-    Ok(())
-}
-
-#[test]
 fn a_disk_with_room_fails_past_it(rt: HostRuntime) -> Result<(), Fail> {
     let mut disk = RoomDisk::make(rt.alloc(), 5)?;
     let mut into = [0; 8];
@@ -150,17 +134,5 @@ fn a_file_is_a_disk(rt: HostRuntime) -> Result<(), Fail> {
     assert_eq!(rt; read, Ok((9005, 9005, 0)));
     assert_eq!(rt; &into[4092..4102], b"xxmiddlexx".as_slice());
     assert_eq!(rt; &into[8998..9005], b"xx\0\0end".as_slice());
-    Ok(())
-}
-
-#[test]
-fn a_folder_is_no_disk(rt: HostRuntime) -> Result<(), Fail> {
-    let folder = env::temp_dir(&rt)?;
-    let mut disk = FileDisk::new(&rt);
-    assert_eq!(rt; disk.sync(), Err(Failed));
-    assert_eq!(rt; disk.len(), Err(Failed));
-    assert_eq!(rt; disk.read(0, &mut [0; 4]), Err(Failed));
-    assert_eq!(rt; disk.write_at(0, b"a"), Err(Failed));
-    assert_eq!(rt; disk.attach(folder.as_str()), Err(Failed));
     Ok(())
 }

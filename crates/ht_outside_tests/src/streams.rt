@@ -94,15 +94,6 @@ fn is_answer(read: &Result<Bytes, TextFault>, want: Result<&[u8], TextFault>) ->
     }
 }
 
-// A read where no call is to fail: its clauses are what such a caller knows.
-fn read_unfailing(alloc: Global, texts: &mut MemoryTexts, name: &str) -> Result<Bytes, TextFault>
-    requires { texts.old.failing ≡ [] }
-    ensures never { IsTrue (is_failed result) → ⊥ }
-    ensures kept { texts.new.failing ≡ [] }
-{
-    texts.read(alloc, name, 8)
-}
-
 #[test]
 fn texts_in_memory_are_read_by_name(rt: HostRuntime) -> Result<(), Fail> {
     let alloc = rt.alloc();
@@ -128,16 +119,6 @@ fn texts_in_memory_are_read_by_name(rt: HostRuntime) -> Result<(), Fail> {
     }
     let last = texts.asked().last();
     assert!(rt; last.is_some_and(|asked| asked.name.as_str() == "nobody" && asked.before == 2));
-    Ok(())
-}
-
-#[test]
-fn no_read_fails_unasked(rt: HostRuntime) -> Result<(), Fail> {
-    let alloc = rt.alloc();
-    let texts = named(alloc, &[("people", "ann")])?;
-    let mut texts = MemoryTexts::make(alloc, texts, Vec::new(alloc))?;
-    assert!(rt; is_answer(&read_unfailing(alloc, &mut texts, "people"), Ok(b"ann")));
-    assert!(rt; is_answer(&read_unfailing(alloc, &mut texts, "models"), Ok(b"")));
     Ok(())
 }
 

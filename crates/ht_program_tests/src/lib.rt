@@ -2,8 +2,6 @@
 #![tactic(auto)]
 
 #[cfg(test)]
-mod families;
-#[cfg(test)]
 mod requests;
 #[cfg(test)]
 mod runs;

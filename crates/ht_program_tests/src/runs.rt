@@ -219,73 +219,10 @@ fn a_fault_of_the_pipe_is_told_by_the_status(rt: HostRuntime) -> Result<(), Fail
     Ok(())
 }
 
-#[test]
-fn nothing_is_read_behind_a_request_that_closes(rt: HostRuntime) -> Result<(), Fail> {
-    let last = "POST /tasks HTTP/1.0\r\nx-person: p3\r\n\r\n";
-    let ran = run_with(rt.alloc(), "run --from 0 --step 0", last, &[2], &[])?;
-    assert_eq!(rt; ran.status, Status(0));
-    Ok(())
-}
-
 const SHUT: &str = "[[model]]\nname = \"shut\"\npotentialOwners = \"user('anna')\"\n\
     excludedOwners = \"user('anna')\"\nadministrators = \"user('cora')\"\n";
 
 const WITH_TEXTS: &str = "run --people p --step 1000 --models m --from 1000";
-
-// A request line, a person, a status line and a text.
-type Row<'a> = (&'a str, &'a str, &'a str, &'a str);
-
-fn heads_of(alloc: Global, table: &[Row<'_>]) -> Result<String, Fail> {
-    let mut heads = String::new(alloc);
-    for (request, person, _, _) in table {
-        write!(heads, "{request} HTTP/1.1\r\nx-person: {person}\r\n\r\n")?;
-    }
-    Ok(heads)
-}
-
-fn replies_of(alloc: Global, table: &[Row<'_>]) -> Result<String, Fail> {
-    let mut replies = String::new(alloc);
-    for (_, _, line, text) in table {
-        replies.push_str(reply(alloc, line, text, false)?.as_str())?;
-    }
-    Ok(replies)
-}
-
-// Whether an office of this models text answers each request line, with its person, as it should.
-fn answers(alloc: Global, models: &str, table: &[Row<'_>]) -> Result<bool, Fail> {
-    let input = heads_of(alloc, table)?;
-    let want = replies_of(alloc, table)?;
-    let office = Office {
-        texts: &[("m", models), ("p", PEOPLE)],
-        failing: &[],
-    };
-    let ran = run_office(alloc, WITH_TEXTS, &office, input.as_str(), &[], &[])?;
-    let is_quiet = ran.complaints.written().is_empty();
-    Ok(ran.status == Status(0) && is_quiet && ran.output.written() == want.as_bytes())
-}
-
-#[test]
-fn a_task_is_what_its_model_says(rt: HostRuntime) -> Result<(), Fail> {
-    let urgent = "[[model]]\nname = \"urgent\"\npriority = \"-1\"\n\
-        potentialOwners = \"when(priority == 0, user('anna'), nobody)\"\n";
-    let due = "[[model]]\nname = \"due\"\npotentialOwners = \"user('anna')\"\n\
-        [[model.deadline]]\nname = \"one\"\nkind = \"start\"\nfor = \"PT1S\"\n\
-        escalation = [{name = \"move\", reassign = \"user('ben')\"}]\n";
-    let asks = "[[model]]\nname = \"asks\"\ninput = [{name = \"sum\", kind = \"int\"}]\n";
-    let reserved = "{\"owner\":\"anna\",\"state\":\"Reserved\",\"task\":1}";
-    let bens = "{\"owner\":\"ben\",\"state\":\"Reserved\",\"task\":1}";
-    let part = "{\"fault\":\"PartRefused\",\"part\":\"sum\"}";
-    let urgent_row = [("POST /tasks", "dan", "201 Created", reserved)];
-    let due_rows = [
-        ("POST /tasks", "dan", "201 Created", reserved),
-        ("POST /tasks/1/claim", "ben", "200 OK", bens),
-    ];
-    let asks_row = [("POST /tasks", "dan", "422 Unprocessable Entity", part)];
-    assert!(rt; answers(rt.alloc(), urgent, &urgent_row)?);
-    assert!(rt; answers(rt.alloc(), due, &due_rows)?);
-    assert!(rt; answers(rt.alloc(), asks, &asks_row)?);
-    Ok(())
-}
 
 // An office of these texts, where these reads of them fail, tells so with this status, and asks for
 // nothing.
@@ -329,22 +266,5 @@ fn a_bad_text_is_told(rt: HostRuntime) -> Result<(), Fail> {
     is_told(&rt, alloc, key, circle, &[], 4, "models: Field 1\n")?;
     is_told(&rt, alloc, SHUT, circle, &[], 4, "people: Cycle 5\n")?;
     is_told(&rt, alloc, SHUT, "[[", &[], 4, "people: Syntax\n")?;
-    Ok(())
-}
-
-#[test]
-fn names_of_texts_stand_together(rt: HostRuntime) -> Result<(), Fail> {
-    for line in [
-        "run --from 0 --step 0 --models m",
-        "run --from 0 --step 0 --people p",
-        "run --from 0 --step 0 --models m --models m",
-        "run --from 0 --step 0 --models m --people -p",
-        "run --from 0 --step 0 --models m --people p --from 0",
-        "run --models m --people p",
-    ] {
-        let ran = run_with(rt.alloc(), line, CREATE, &[], &[])?;
-        assert_eq!(rt; ran.status, Status(2), "{line:?}");
-        assert_eq!(rt; ran.left, CREATE.len());
-    }
     Ok(())
 }

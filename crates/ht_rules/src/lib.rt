@@ -7,8 +7,6 @@ mod changes;
 mod judging;
 mod laws;
 mod sets;
-#[cfg(test)]
-mod tests;
 
 pub use changes::{After, Change, OwnerAfter, next};
 pub use judging::{Verdict, may};

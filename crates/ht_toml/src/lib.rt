@@ -4,14 +4,10 @@
 
 mod documents;
 mod entries;
-#[cfg(test)]
-mod key_tests;
 mod keys;
 mod rows;
 mod shapes;
 mod tables;
-#[cfg(test)]
-mod tests;
 mod values;
 
 pub use documents::{DocumentFault, document};

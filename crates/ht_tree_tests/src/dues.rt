@@ -3,7 +3,7 @@ ghost use Rattle.ht_due.specs.Dues.{Ascends};
 ghost use Rattle.ht_tree.specs.Plans.{IsPlanOf, planned};
 ghost use Rattle.ht_tree.specs.Soundness.{IsSound};
 
-use crate::tables::{created, urged};
+use crate::tables::created;
 use ht_base::{Moment, Person, TaskId, Values};
 use ht_due::{Due, DueQueue};
 use ht_models::Models;
@@ -77,20 +77,6 @@ fn planned_waiting(
     Ok(plan)
 }
 
-// And the task.
-fn waiting(
-    rt: &impl Abort,
-    alloc: Global,
-    tables: &mut Tables,
-    model: u32,
-) -> Result<(), CreateRefusal> {
-    let plan = planned_waiting(rt, alloc, tables, model)?;
-    tables.prepare(&plan)?;
-    let at = tables.last();
-    tables.commit(plan, at);
-    Ok(())
-}
-
 const IN_ORDER: [Line; 5] = [
     (5000, 2, 2, 0),
     (10_000, 1, 3, 0),
@@ -107,22 +93,6 @@ fn the_dues_of_all_tasks_are_in_order(rt: HostRuntime) -> Result<(), Fail> {
         created(&rt, rt.alloc(), &mut tables, model)?;
     }
     are_due(&rt, tables.due(), &IN_ORDER);
-    Ok(())
-}
-
-const WAITING: [Line; 3] = [(5000, 1, 0, 0), (5000, 1, 2, 0), (5000, 2, 2, 0)];
-
-const URGED: [Line; 2] = [(5000, 1, 2, 0), (5000, 2, 2, 0)];
-
-// A task that waits no longer keeps its deadline, and the other task keeps its dues.
-#[test]
-fn the_dues_of_a_changed_task_change(rt: HostRuntime) -> Result<(), Fail> {
-    let mut tables = tables_of(rt.alloc(), MODELS)?;
-    waiting(&rt, rt.alloc(), &mut tables, LATE)?;
-    created(&rt, rt.alloc(), &mut tables, LATE)?;
-    are_due(&rt, tables.due(), &WAITING);
-    urged(rt.alloc(), &mut tables, TaskId(1), Moment(1000))?;
-    are_due(&rt, tables.due(), &URGED);
     Ok(())
 }
 

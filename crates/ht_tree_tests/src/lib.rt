@@ -2,10 +2,6 @@
 #![tactic(auto)]
 
 #[cfg(test)]
-mod assigning;
-#[cfg(test)]
 mod dues;
-#[cfg(test)]
-mod families;
 #[cfg(test)]
 mod tables;

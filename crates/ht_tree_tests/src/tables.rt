@@ -5,12 +5,11 @@ ghost use Rattle.ht_tree.specs.declared.slot.Kept.TheVariants as kept;
 ghost use Rattle.ht_tree.specs.Plans.{IsPlanOf, planned};
 ghost use Rattle.ht_tree.specs.Soundness.{KeepsSound};
 
-use ht_base::{LAST, Moment, Op, Person, Role, Roles, State, TaskId, Txt, Values};
-use ht_expr::Env;
+use ht_base::{Op, Person, State, TaskId, Values};
 use ht_models::Models;
 use ht_people::Directory;
 use ht_samples::PEOPLE;
-use ht_tree::{Comment, Comments, CreateRefusal, Kept, Plan, Row, Slot, Tables, create, env};
+use ht_tree::{CreateRefusal, Kept, Plan, Slot, Tables, create};
 use std::alloc::Global;
 use std::process::Abort;
 use std::test::Fail;
@@ -19,10 +18,6 @@ const MODELS: &[u8] =
     b"[[model]]\nname = \"unit\"\npotentialOwners = \"group('clerks')\"\nadministrators = \"user('cora')\"\nstakeholders = \"user('root')\"\n[[model]]\nname = \"shut\"\npotentialOwners = \"user('anna')\"\nexcludedOwners = \"user('anna')\"\nadministrators = \"user('cora')\"\n[[model]]\nname = \"bare\"\npotentialOwners = \"user('ben')\"\n";
 
 const UNIT: u32 = 0;
-
-const SHUT: u32 = 1;
-
-const BARE: u32 = 2;
 
 const DAN: Person = Person(3);
 
@@ -70,141 +65,6 @@ pub(crate) fn created(
     let at = tables.last();
     tables.commit(plan, at);
     Ok(task)
-}
-
-// Gives a task the highest priority, and lets it wait no longer.
-pub(crate) fn urged(
-    alloc: Global,
-    tables: &mut Tables,
-    task: TaskId,
-    at: Moment,
-) -> Result<(), Fail> {
-    if task.0 > tables.rows() || at < tables.last() || at.0 > LAST {
-        return Err(Fail::from("no such task or moment"));
-    }
-    let Some(old) = tables.row(task) else {
-        return Err(Fail::from("no such task"));
-    };
-    let mut row = old.copy(alloc)?;
-    row.priority = 0;
-    row.waits = None;
-    let mut plan = Plan::begin(alloc)?;
-    plan.put(tables, row)?;
-    tables.prepare(&plan)?;
-    tables.commit(plan, at);
-    Ok(())
-}
-
-// Whether the row of a task of dan's has these roles.
-fn has_roles(row: &Row, owners: &[Person], excluded: &[Person], by_group: bool) -> bool {
-    row.initiator == DAN
-        && row.potential_owners.as_slice() == owners
-        && row.excluded_owners.as_slice() == excluded
-        && row.by_group == by_group
-}
-
-// A task of this model is created with these roles.
-fn is_created(
-    rt: &impl Abort,
-    alloc: Global,
-    tables: &mut Tables,
-    model: u32,
-    owners: &[Person],
-    excluded: &[Person],
-    by_group: bool,
-) -> Result<bool, Fail> {
-    let task = created(rt, alloc, tables, model)?;
-    let row = tables.row(task).ok_or("a row")?;
-    Ok(has_roles(row, owners, excluded, by_group))
-}
-
-#[test]
-fn a_task_is_created(rt: HostRuntime) -> Result<(), Fail> {
-    let mut tables = tables(rt.alloc())?;
-    let anna = [Person(0)];
-    assert!(rt; is_created(&rt, rt.alloc(), &mut tables, SHUT, &[], &anna, false)?);
-    let clerks = [Person(0), Person(1)];
-    assert!(rt; is_created(&rt, rt.alloc(), &mut tables, UNIT, &clerks, &[], true)?);
-    Ok(())
-}
-
-fn is_below(rt: &impl Abort, row: &Row) {
-    assert_eq!(rt; row.parent, Some((TaskId(1), 7)));
-    assert_eq!(rt; row.potential_owners.as_slice(), [Person(1)].as_slice());
-    assert_eq!(rt; row.administrators.as_slice(), [Person(2)].as_slice());
-    assert_eq!(rt; row.stakeholders.as_slice(), [Person(4)].as_slice());
-}
-
-fn is_planned_below(rt: &impl Abort, alloc: Global, tables: &Tables) -> Result<(), Fail> {
-    let mut plan = Plan::begin(alloc)?;
-    let above = planned(rt, alloc, tables, &mut plan, UNIT, None)?;
-    let below = planned(rt, alloc, tables, &mut plan, BARE, Some((above, 7)))?;
-    let row = plan.row(tables, below).ok_or("a row")?;
-    is_below(rt, row);
-    Ok(())
-}
-
-#[test]
-fn a_sub_task_has_the_administrators_of_its_parent(rt: HostRuntime) -> Result<(), Fail> {
-    let tables = tables(rt.alloc())?;
-    is_planned_below(&rt, rt.alloc(), &tables)
-}
-
-#[test]
-fn there_are_at_most_fifty_thousand_tasks(rt: HostRuntime) -> Result<(), Fail> {
-    let mut tables = tables(rt.alloc())?;
-    for _ in 0..50_000 {
-        created(&rt, rt.alloc(), &mut tables, BARE)?;
-    }
-    assert_eq!(rt;
-        created(&rt, rt.alloc(), &mut tables, BARE),
-        Err(CreateRefusal::TaskLimit)
-    );
-    assert_eq!(rt; tables.rows(), 50_000);
-    Ok(())
-}
-
-// Whether a task has this priority, or isn't there.
-fn has_priority(tables: &Tables, task: u32, priority: Option<u8>) -> bool {
-    tables.row(TaskId(task)).map(|row| row.priority) == priority
-}
-
-fn have_changed(rt: &impl Abort, tables: &Tables) {
-    let table = [(0, None), (1, Some(0)), (2, Some(5)), (3, None)];
-    for (task, priority) in table {
-        assert!(rt; has_priority(tables, task, priority), "{task}");
-    }
-}
-
-#[test]
-fn a_changed_row_is_committed(rt: HostRuntime) -> Result<(), Fail> {
-    let mut tables = tables(rt.alloc())?;
-    created(&rt, rt.alloc(), &mut tables, UNIT)?;
-    created(&rt, rt.alloc(), &mut tables, UNIT)?;
-    urged(rt.alloc(), &mut tables, TaskId(1), Moment(5000))?;
-    assert_eq!(rt; tables.rows(), 2);
-    assert_eq!(rt; tables.last(), Moment(5000));
-    have_changed(&rt, &tables);
-    Ok(())
-}
-
-fn goes_back(rt: &impl Abort, alloc: Global, tables: &Tables) -> Result<(), Fail> {
-    let mut plan = Plan::begin(alloc)?;
-    let first = planned(rt, alloc, tables, &mut plan, UNIT, None)?;
-    plan.mark();
-    planned(rt, alloc, tables, &mut plan, SHUT, None)?;
-    assert_eq!(rt; plan.rows(tables), 2);
-    plan.back();
-    assert_eq!(rt; plan.rows(tables), 1);
-    assert!(rt; plan.row(tables, TaskId(2)).is_none());
-    assert!(rt; plan.row(tables, first).is_some());
-    Ok(())
-}
-
-#[test]
-fn a_plan_goes_back_to_its_mark(rt: HostRuntime) -> Result<(), Fail> {
-    let tables = tables(rt.alloc())?;
-    goes_back(&rt, rt.alloc(), &tables)
 }
 
 // Plans priorities of tasks that there would be, one after another.
@@ -351,112 +211,4 @@ fn the_last_command_of_each_device_is_kept(rt: HostRuntime) -> Result<(), Fail> 
     }
     are_last(&rt, &tables);
     Ok(())
-}
-
-#[test]
-fn there_are_no_notifications_yet(rt: HostRuntime) -> Result<(), Fail> {
-    let tables = tables(rt.alloc())?;
-    assert_eq!(rt; tables.notices(), 0);
-    for number in [0, 1] {
-        assert!(rt; tables.notice(number).is_none());
-    }
-    Ok(())
-}
-
-fn comment(alloc: Global, comments: &mut Comments, text: &str) -> Result<(), Fail> {
-    let comment = Comment {
-        moment: Moment(7),
-        person: DAN,
-        text: Txt::of(alloc, text)?,
-    };
-    comments.push(alloc, comment)?;
-    Ok(())
-}
-
-// A copy of two comments, which are gone.
-fn copied(alloc: Global) -> Result<Comments, Fail> {
-    let mut comments = Comments::new(alloc);
-    comment(alloc, &mut comments, "late")?;
-    comment(alloc, &mut comments, "later")?;
-    Ok(comments.copy(alloc)?)
-}
-
-#[test]
-fn comments_are_kept_in_order(rt: HostRuntime) -> Result<(), Fail> {
-    let copy = copied(rt.alloc())?;
-    assert_eq!(rt; copy.count(), 2);
-    let last = copy.get(1).ok_or("a comment")?;
-    assert_eq!(rt; last.text.as_str(), "later");
-    assert!(rt; copy.get(2).is_none());
-    Ok(())
-}
-
-// The roles of a person in the first task, where both are there.
-fn roles_in_first(tables: &Tables, person: Person, alloc: Global) -> Result<Roles, Fail> {
-    let plan = Plan::begin(alloc)?;
-    if person.0 >= tables.people().persons() || plan.row(tables, TaskId(1)).is_none() {
-        return Err(Fail::from("no such person or task"));
-    }
-    Ok(plan.roles_of(tables, TaskId(1), person))
-}
-
-#[test]
-fn roles_are_those_of_the_row(rt: HostRuntime) -> Result<(), Fail> {
-    let mut tables = tables(rt.alloc())?;
-    created(&rt, rt.alloc(), &mut tables, UNIT)?;
-    let table = [
-        (0, Roles::NONE.with(Role::PotentialOwner)),
-        (1, Roles::NONE.with(Role::PotentialOwner)),
-        (2, Roles::NONE.with(Role::Administrator)),
-        (3, Roles::NONE.with(Role::Initiator)),
-        (4, Roles::NONE.with(Role::Stakeholder).with(Role::Operator)),
-    ];
-    for (person, roles) in table {
-        let found = roles_in_first(&tables, Person(person), rt.alloc())?;
-        assert_eq!(rt; found, roles, "{person}");
-    }
-    Ok(())
-}
-
-fn is_env_of_row(rt: &impl Abort, env: &Env) {
-    assert_eq!(rt; env.initiator, DAN);
-    assert_eq!(rt; env.priority, 5);
-    assert_eq!(rt; env.subs.as_slice().len(), 0);
-}
-
-fn env_of_first(alloc: Global, tables: &Tables) -> Result<Env, Fail> {
-    let plan = Plan::begin(alloc)?;
-    let _count = tables.rows();
-    let row = tables.row(TaskId(1)).ok_or("a row")?;
-    Ok(env(alloc, tables, &plan, row)?)
-}
-
-#[test]
-fn an_environment_is_that_of_a_row(rt: HostRuntime) -> Result<(), Fail> {
-    let mut tables = tables(rt.alloc())?;
-    created(&rt, rt.alloc(), &mut tables, UNIT)?;
-    let env = env_of_first(rt.alloc(), &tables)?;
-    is_env_of_row(&rt, &env);
-    Ok(())
-}
-
-fn is_first(rt: &impl Abort, row: &Row) {
-    assert_eq!(rt; (row.task, row.state), (TaskId(1), State::Created));
-    assert_eq!(rt; row.potential_owners.as_slice().len(), 2);
-}
-
-fn is_taken(rt: &impl Abort, alloc: Global, tables: &Tables) -> Result<(), Fail> {
-    let mut plan = Plan::begin(alloc)?;
-    assert!(rt; plan.row(tables, TaskId(1)).is_some());
-    let row = plan.take(alloc, tables, TaskId(1))?;
-    is_first(rt, &row);
-    Ok(())
-}
-
-#[test]
-fn a_row_is_taken(rt: HostRuntime) -> Result<(), Fail> {
-    let mut tables = tables(rt.alloc())?;
-    let task = created(&rt, rt.alloc(), &mut tables, UNIT)?;
-    assert_eq!(rt; task, TaskId(1));
-    is_taken(&rt, rt.alloc(), &tables)
 }
