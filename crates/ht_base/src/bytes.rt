@@ -7,7 +7,7 @@ use std::mem;
 
 /// A list of bytes. A contract sees its `items`, and in `spare` how many more it takes without
 /// memory.
-#[derive(Debug, Drop)]
+#[derive(Drop)]
 pub struct Bytes {
     items: Vec<u8>,
 }

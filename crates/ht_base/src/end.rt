@@ -1,7 +1,7 @@
 use crate::Moment;
 
 /// When a suspension ends by itself.
-#[derive(Clone, Copy, Debug, PartialEq, Eq)]
+#[derive(Clone, Copy)]
 pub enum End {
     /// At a moment.
     At(Moment),

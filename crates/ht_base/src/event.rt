@@ -5,7 +5,7 @@ use crate::{End, Memory, Moment, Name, Names, Op, Parts, Retry, RoleList, TaskId
 use std::alloc::Global;
 
 /// What a command does (WS-HumanTask 1.1, 7.1.1 "Participant operations").
-#[derive(Debug, Drop)]
+#[derive(Drop)]
 pub enum Command {
     /// A new task of a model, or else of the first, created by the caller, with what is given for its
     /// input. It is activated at a moment, or at once where none is given or the moment has come.
@@ -166,14 +166,14 @@ impl Command {
 }
 
 /// What is asked of the tables.
-#[derive(Clone, Copy, Debug)]
+#[derive(Clone, Copy)]
 pub enum Query {
     /// The sheet of a task.
     Sheet(TaskId),
 }
 
 /// One thing that happens to the task machine.
-#[derive(Debug, Drop)]
+#[derive(Drop)]
 pub enum Event {
     /// The time has come to this moment: what is due by then is done.
     Turn {

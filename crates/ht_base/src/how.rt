@@ -4,7 +4,7 @@ use crate::{Memory, Txt};
 use std::alloc::Global;
 
 /// How the results of sub tasks become one value (WS-HumanTask 1.1, 4.8).
-#[derive(Debug, Drop)]
+#[derive(Drop)]
 pub enum How {
     /// The texts, one behind another.
     Concat,

@@ -5,7 +5,7 @@ use std::alloc::Global;
 use std::marker::Model;
 
 /// A list of tasks. A contract sees it as the list of their numbers.
-#[derive(Debug, Drop)]
+#[derive(Drop)]
 pub struct Ids {
     items: Vec<TaskId>,
 }

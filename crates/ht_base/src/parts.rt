@@ -7,7 +7,7 @@ use std::marker::Model;
 
 /// What a request gives for a task's parts, by their names. A contract sees it as the list of both,
 /// with ascending names.
-#[derive(Debug, Drop)]
+#[derive(Drop)]
 pub struct Parts {
     items: Vec<(Name, Scalar)>,
 }

@@ -7,7 +7,7 @@ use std::marker::Model;
 
 /// A set of persons. A contract sees it as the list of their places, in ascending order without
 /// repeats.
-#[derive(Debug, Drop)]
+#[derive(Drop)]
 pub struct Persons {
     items: Vec<Person>,
 }

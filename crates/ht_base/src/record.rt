@@ -5,7 +5,7 @@ use crate::{Bytes, Command, Memory, Moment, Name, Retry, TaskId};
 use std::alloc::Global;
 
 /// What is kept: of the office that is opened, and of each event that changed its tables.
-#[derive(Debug, Drop)]
+#[derive(Drop)]
 pub enum Record {
     /// The office has these texts: of its models and of its people.
     Opening {

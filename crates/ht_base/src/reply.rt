@@ -1,7 +1,7 @@
 use crate::{BoxedSheet, Name, Roles, State, StateSet, TaskId};
 
 /// The limit that a command would pass.
-#[derive(Clone, Copy, Debug, PartialEq, Eq)]
+#[derive(Clone, Copy, Debug)]
 pub enum Limit {
     /// The number of tasks, 50,000.
     Tasks,
@@ -10,14 +10,14 @@ pub enum Limit {
 }
 
 /// What a command names that isn't there.
-#[derive(Clone, Copy, Debug, PartialEq, Eq)]
+#[derive(Clone, Copy, Debug)]
 pub enum Unknown {
     Model(Name),
     Person(Name),
 }
 
 /// Why a request is refused.
-#[derive(Clone, Copy, Debug, PartialEq, Eq)]
+#[derive(Clone, Copy, Debug)]
 pub enum Refusal {
     /// The bytes are no head of a request, or end before the request does.
     Head,

@@ -40,7 +40,7 @@ impl Role {
 }
 
 /// A set of roles.
-#[derive(Clone, Copy, Debug, PartialEq, Eq)]
+#[derive(Clone, Copy, Debug)]
 pub struct Roles {
     pub initiator: bool,
     pub stakeholder: bool,

@@ -1,5 +1,5 @@
 /// A list of persons of a task that its administrators may replace (WS-HumanTask 1.1, 3.1).
-#[derive(Clone, Copy, Debug, PartialEq, Eq)]
+#[derive(Clone, Copy)]
 pub enum RoleList {
     PotentialOwners,
     ExcludedOwners,

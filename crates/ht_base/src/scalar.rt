@@ -4,7 +4,7 @@ use crate::{Memory, Txt};
 use std::alloc::Global;
 
 /// A value as a request gives it: a text also stands for a person, and a whole number for an instant.
-#[derive(Debug, Drop)]
+#[derive(Drop)]
 pub enum Scalar {
     Text(Txt),
     Int(i64),

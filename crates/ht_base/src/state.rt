@@ -76,7 +76,7 @@ impl State {
 }
 
 /// A set of states.
-#[derive(Clone, Copy, Debug, PartialEq, Eq)]
+#[derive(Clone, Copy, Debug)]
 pub struct StateSet {
     pub created: bool,
     pub ready: bool,

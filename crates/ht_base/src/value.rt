@@ -4,7 +4,7 @@ use crate::{Memory, Moment, Person, Txt};
 use std::alloc::Global;
 
 /// The value of a task's part, of the kind that its model declares.
-#[derive(Debug, Drop)]
+#[derive(Drop)]
 pub enum Value {
     Text(Txt),
     Int(i64),

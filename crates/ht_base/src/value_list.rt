@@ -5,7 +5,7 @@ use std::alloc::Global;
 use std::marker::Model;
 
 /// A list of values. A contract sees it as their list.
-#[derive(Debug, Drop)]
+#[derive(Drop)]
 pub struct ValueList {
     items: Vec<Value>,
 }

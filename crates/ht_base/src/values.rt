@@ -8,7 +8,7 @@ use std::marker::Model;
 
 /// The values of a task's parts by their names. A contract sees it as the list of both, with
 /// ascending names.
-#[derive(Debug, Drop)]
+#[derive(Drop)]
 pub struct Values {
     items: Vec<(Name, Value)>,
 }

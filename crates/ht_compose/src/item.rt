@@ -4,7 +4,7 @@ use ht_base::{Memory, State, TaskId};
 use std::alloc::Global;
 
 /// What is to be done with composite tasks.
-#[derive(Clone, Copy, Debug, PartialEq, Eq)]
+#[derive(Clone, Copy)]
 pub(crate) enum Item {
     Activate(TaskId),
     Begin(TaskId),

@@ -11,7 +11,7 @@ use std::marker::Model;
 
 /// The dues in ascending order, none twice. A contract sees them as the list `dues`, and in `spare`
 /// how many more the queue takes without memory.
-#[derive(Debug, Drop)]
+#[derive(Drop)]
 pub struct DueQueue {
     dues: Vec<Due>,
 }

@@ -13,7 +13,7 @@ use std::alloc::Global;
 
 /// A people assignment (WS-HumanTask 1.1, 3.5): who is found. A contract sees it by `shown`, as a
 /// tree of its forms and names.
-#[derive(Debug, Drop)]
+#[derive(Drop)]
 pub enum Assign {
     Nobody,
     Everybody,

@@ -9,7 +9,7 @@ use std::alloc::Global;
 use std::marker::Model;
 
 /// What an expression or an assignment looks at, beside the directory.
-#[derive(Debug, Drop)]
+#[derive(Drop)]
 pub struct Env {
     /// The values of the task's input parts and output parts.
     pub input: Values,
@@ -22,7 +22,7 @@ pub struct Env {
 
 /// The sub tasks of a task in ascending order, each by its state and the values of its output parts.
 /// A contract sees them as the list of these.
-#[derive(Debug, Drop)]
+#[derive(Drop)]
 pub struct Subs {
     items: Vec<(State, Values)>,
 }

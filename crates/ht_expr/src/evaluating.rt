@@ -14,7 +14,7 @@ use ht_base::{Kind, Moment, Txt, Value};
 
 /// What an expression gives: a value, of which a person may be nobody, or nothing, where its kinds
 /// don't fit.
-#[derive(Clone, Copy, Debug)]
+#[derive(Clone, Copy)]
 pub(crate) enum Held<'a> {
     Text(&'a str),
     Number(i64),

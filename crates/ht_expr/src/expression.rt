@@ -12,8 +12,6 @@ use crate::operating::{number, truth};
 use crate::{Env, ExprRefusal, Kinds, building, evaluating, expected, kinding};
 use ht_base::{Kind, Memory};
 use std::alloc::Global;
-use std::fmt;
-use std::fmt::{Debug, Formatter};
 use std::marker::Model;
 
 /// An expression, as it is written, with the parts that are declared for it. A contract sees both.
@@ -33,12 +31,6 @@ impl Model for Expr {
     ghost coded = { Prim.hlevel (codes, coded_tree) };
 
     ghost view = { λ e. record { tree = shown_node e.node; kinds = e.kinds } };
-}
-
-impl Debug for Expr {
-    fn fmt<W: fmt::Write>(&self, f: &mut Formatter<W>) -> fmt::Result {
-        self.node.fmt(f)
-    }
 }
 
 impl Expr {

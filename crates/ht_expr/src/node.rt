@@ -7,7 +7,7 @@ use ht_base::{Memory, Txt};
 use std::alloc::Global;
 
 /// Which sub tasks are counted.
-#[derive(Clone, Copy, Debug)]
+#[derive(Clone, Copy)]
 pub enum Count {
     Made,
     Finished,
@@ -16,7 +16,7 @@ pub enum Count {
 
 /// The tree of an expression, as it is written. A contract sees it by `shown_node`, as a tree of the
 /// grammar.
-#[derive(Debug, Drop)]
+#[derive(Drop)]
 pub(crate) enum Node {
     /// A whole number, up to 9,223,372,036,854,775,807.
     Number(u64),

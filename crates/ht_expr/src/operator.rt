@@ -7,7 +7,7 @@ use crate::keyword::Keyword;
 use crate::token::{Mark, Token};
 
 /// What stands between two operands.
-#[derive(Clone, Copy, Debug)]
+#[derive(Clone, Copy)]
 pub enum Operator {
     Or,
     And,

@@ -11,7 +11,7 @@ use ht_base::{Answer, Refusal, TaskId};
 use ht_tree::{Kept, Plan, Tables};
 
 /// How a command is answered: it is accepted with this reply, or was before, or it is refused.
-#[derive(Clone, Copy, Debug, PartialEq, Eq)]
+#[derive(Clone, Copy)]
 pub(crate) enum Response {
     Accepted(Kept),
     Answered(Kept),

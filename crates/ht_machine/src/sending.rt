@@ -7,7 +7,7 @@ use ht_tree::{Kept, Plan, Slot, Tables};
 use std::cmp::Ordering;
 
 /// What is known of a command by its caller and its number, before anything else is looked at.
-#[derive(Clone, Copy, Debug, PartialEq, Eq)]
+#[derive(Clone, Copy)]
 pub(crate) enum Sending {
     /// It is a person's, and wasn't answered before.
     New(Person),

@@ -7,7 +7,7 @@ use std::marker::Model;
 use toml::{Table, Value};
 
 /// A part that a finish sets.
-#[derive(Debug, Drop)]
+#[derive(Drop)]
 pub struct Setting {
     /// The output part of the task.
     pub part: Name,

@@ -10,7 +10,7 @@ use toml::Value;
 
 /// The name of a part, a sub entry, a deadline or an escalation: a name without `.` and `-` that
 /// begins with a letter.
-#[derive(Debug, Drop)]
+#[derive(Drop)]
 pub struct Label(pub Name);
 
 impl Model for Label {

@@ -7,7 +7,7 @@ use ht_base::{Moment, Name};
 use ht_expr::{Assign, Expr};
 
 /// A task model: what all tasks of one kind have in common.
-#[derive(Debug, Drop)]
+#[derive(Drop)]
 pub struct Model {
     pub name: Name,
     /// A number, of which 0 is the highest priority and 10 the lowest. None where none is given,
@@ -38,7 +38,7 @@ pub struct Model {
 
 /// When a task is to be started or completed (WS-HumanTask 1.1, 4.9). Its end is one of `period`, `at`
 /// and `part`.
-#[derive(Debug, Drop)]
+#[derive(Drop)]
 pub struct Deadline {
     pub name: Name,
     pub kind: DeadlineKind,
@@ -51,7 +51,7 @@ pub struct Deadline {
 }
 
 /// What follows where a deadline is missed: one of `notify` and `reassign` is given.
-#[derive(Debug, Drop)]
+#[derive(Drop)]
 pub struct Escalation {
     pub name: Name,
     /// A condition. None where none is given, which means true.
@@ -61,7 +61,7 @@ pub struct Escalation {
 }
 
 /// A way in which a composite task finishes (WS-HumanTask 1.1, 4.8).
-#[derive(Debug, Drop)]
+#[derive(Drop)]
 pub struct Finish {
     /// Its condition. One without a condition is the default.
     pub when: Option<Expr>,

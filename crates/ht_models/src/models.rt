@@ -30,7 +30,7 @@ use std::marker;
 
 /// The task models of an office, which have distinct names. A contract sees them as a list, in the
 /// order of the text.
-#[derive(Debug, Drop)]
+#[derive(Drop)]
 pub struct Models {
     models: Vec<Model>,
     places: BTreeMap<Name, usize>,

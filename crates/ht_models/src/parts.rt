@@ -14,7 +14,7 @@ const KINDS: [(&str, Kind); 5] = [
 ];
 
 /// A part of a task's input or output.
-#[derive(Debug, Drop)]
+#[derive(Drop)]
 pub struct Part {
     pub name: Name,
     pub kind: Kind,

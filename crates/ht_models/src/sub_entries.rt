@@ -15,7 +15,7 @@ use std::marker::Model;
 use toml::{Table, Value};
 
 /// A sub entry of a model: a sub task that its tasks may have.
-#[derive(Debug, Drop)]
+#[derive(Drop)]
 pub struct SubEntry {
     pub name: Name,
     /// The model of the sub task.

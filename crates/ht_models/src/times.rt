@@ -10,7 +10,7 @@ use std::marker::Model;
 use toml::Value;
 
 /// A period of time in milliseconds.
-#[derive(Debug, Drop)]
+#[derive(Drop)]
 pub struct Period(pub u64);
 
 impl Model for Period {
@@ -44,7 +44,7 @@ fn period_in(text: &str) -> Option<Period>
 }
 
 /// A point in time.
-#[derive(Debug, Drop)]
+#[derive(Drop)]
 pub struct Instant(pub Moment);
 
 impl Model for Instant {

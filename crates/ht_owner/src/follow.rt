@@ -1,7 +1,7 @@
 use ht_base::State;
 
 /// What follows once an operation has changed its task.
-#[derive(Clone, Copy, Debug, PartialEq, Eq)]
+#[derive(Clone, Copy)]
 pub enum Follow {
     Nothing,
     /// The task is worked on.

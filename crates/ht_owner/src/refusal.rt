@@ -2,7 +2,7 @@ use ht_base::{Memory, Refusal};
 use thiserror::Error;
 
 /// Why an operation is not done.
-#[derive(Clone, Copy, Debug, PartialEq, Eq, Error)]
+#[derive(Clone, Copy, Debug, Error)]
 pub enum ActRefusal {
     /// What the command names, or the task itself, doesn't allow it.
     #[error("the command is refused")]

@@ -12,7 +12,7 @@ use std::marker::Model;
 use toml::{Table, Value};
 
 /// A person of the people text.
-#[derive(Clone, Copy, Debug, PartialEq, Eq)]
+#[derive(Clone, Copy)]
 pub struct PersonEntry {
     pub name: Name,
     /// Whether the person operates the server.

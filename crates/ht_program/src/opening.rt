@@ -17,7 +17,7 @@ use thiserror::Error;
 const TEXT_LIMIT: u32 = 262_144;
 
 /// One of the two texts of an office.
-#[derive(Clone, Copy, Debug, PartialEq, Eq)]
+#[derive(Clone, Copy, Debug)]
 pub enum Which {
     Models,
     People,

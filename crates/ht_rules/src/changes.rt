@@ -8,7 +8,7 @@ use crate::sets::{
 use ht_base::{Op, State, StateSet};
 
 /// The state after an operation.
-#[derive(Clone, Copy, Debug, PartialEq, Eq)]
+#[derive(Clone, Copy)]
 pub enum After {
     To(State),
     /// As the task's people make it: reserved for one potential owner, ready for several.
@@ -17,7 +17,7 @@ pub enum After {
 }
 
 /// The actual owner after an operation.
-#[derive(Clone, Copy, Debug, PartialEq, Eq)]
+#[derive(Clone, Copy)]
 pub enum OwnerAfter {
     Kept,
     Cleared,
@@ -30,7 +30,7 @@ pub enum OwnerAfter {
 }
 
 /// What an operation changes of a task's state and of its owner.
-#[derive(Clone, Copy, Debug, PartialEq, Eq)]
+#[derive(Clone, Copy)]
 pub struct Change {
     pub after: After,
     pub owner: OwnerAfter,

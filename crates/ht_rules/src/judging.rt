@@ -6,7 +6,7 @@ use crate::sets::{join_roles, join_states, share_role};
 use ht_base::{Op, Roles, State, StateSet};
 
 /// Whether an operation may be done.
-#[derive(Clone, Copy, Debug, PartialEq, Eq)]
+#[derive(Clone, Copy)]
 pub enum Verdict {
     Yes,
     /// The caller has none of these roles, which are all that may do it in some state.

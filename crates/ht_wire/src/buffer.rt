@@ -126,7 +126,7 @@ fn new_room(alloc: Global) -> Result<Box<[HeaderSpan; ROOM]>, Memory> {
 }
 
 /// Why a read puts nothing into a buffer.
-#[derive(Clone, Copy, Debug)]
+#[derive(Clone, Copy)]
 pub(crate) enum FillFault {
     /// The source failed.
     Failed,
