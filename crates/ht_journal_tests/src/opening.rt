@@ -1,4 +1,4 @@
-use crate::appending::{disk, left};
+use crate::appending::disk;
 use ht_journal::{Body, JournalFault, open};
 use ht_outside::Disk;
 use std::alloc::{AllocError, Global};
@@ -11,36 +11,6 @@ fn file(alloc: Global, behind: &[u8]) -> Result<Vec<u8>, AllocError> {
     let mut file = HEADER.to_vec(alloc)?;
     file.extend_from_slice(behind)?;
     Ok(file)
-}
-
-fn opens<D: Disk>(alloc: Global, disk: &mut D) -> bool {
-    open(alloc, disk, 100).is_ok()
-}
-
-// The calls of the disk: a sync, the length, and a read; or a sync, the length, a write and a sync.
-#[test]
-fn a_stopped_opening_loses_nothing(rt: HostRuntime) -> Result<(), Fail> {
-    let alloc = rt.alloc();
-    let rows: [(&[u8], u32, &str); 2] = [
-        (
-            b"HTJ1\r\n\x1a\n\x01\x01\0\0\0a\x01\x02\0\0\0bc\0",
-            3,
-            "a.bc.",
-        ),
-        (b"HTJ1\r", 4, ""),
-    ];
-    for (bytes, calls, bodies) in rows {
-        for stop in 1..calls + 2 {
-            let mut disk = disk(alloc, bytes, &[])?;
-            disk.stop(stop);
-            assert_eq!(rt; opens(alloc, &mut disk), stop > calls, "{stop}");
-            for pick in 0..3 {
-                let left = left(alloc, &disk, pick)?;
-                assert_eq!(rt; left.as_slice(), bodies.as_bytes(), "{stop} {pick}");
-            }
-        }
-    }
-    Ok(())
 }
 
 // The bodies of these numbers, up to the first that isn't there.
