@@ -1,10 +1,9 @@
-ghost use Rattle.std.specs.Prelude.{◌≡◌, IfOk, IsSome};
+ghost use Rattle.std.specs.Prelude.{◌≡◌, IsSome};
 ghost use Rattle.ht_expr.specs.KindTable.{kind_of};
 
-use ht_base::{Kind, Memory, Name, Person, Txt, Value, Values};
+use ht_base::{Kind, Name, Person, Values};
 use ht_expr::{Env, Expr, Kinds, Side, Subs};
 use std::alloc::Global;
-use std::process::Abort;
 use std::test::Fail;
 
 fn name(text: &str) -> Result<Name, Fail> {

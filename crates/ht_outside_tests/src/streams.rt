@@ -1,6 +1,3 @@
-ghost use Rattle.std.specs.Prelude.{◌≡◌, [], IsTrue};
-ghost use Rattle.ht_outside.specs.Texts.{is_failed};
-
 use ht_base::{Bytes, Memory, Txt};
 use ht_outside::{
     Failed, FileTexts, Link, MemorySink, MemorySource, MemoryTexts, Pair, Sink, Source, StdSink,
