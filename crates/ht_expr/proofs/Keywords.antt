@@ -1,5 +1,5 @@
 -- The keyword that a word is.
-use Rattle.std.proofs.Common.{◌≡◌, ◌≢◌, ℕ, Bool, true, false, cond, List, [], ◌∷◌, Option, Some, None, refl, ap, ◌∙◌}
+use Rattle.std.proofs.Common.{◌≡◌, ◌≢◌, ℕ, Bool, true, false, cond, List, [], ◌∷◌, Option, Some, None, IfSome, IfNone, refl, ap, ◌∙◌}
 use Rattle.std.specs.Prelude.{bytes_eq}
 use Rattle.std.proofs.lemmas.Bool.{false_from_ne_true}
 use Rattle.std.proofs.lemmas.Slice.Eq.{bytes_eq-Decides}
@@ -64,3 +64,16 @@ on_keyword w k f is = ap (λ l. if_some (keyword_in l) f) is ∙ ap (λ o. if_so
 
 pub on_no_keyword : {B : Type 0} (w : List ℕ) (f : Keyword → Option B) → ((k : Keyword) → w ≢ spelling k) → if_some (keyword_in w) f ≡ None
 on_no_keyword w f other = ap (λ o. if_some o f) (no_keyword w other)
+
+pub if_found : (w : List ℕ) (o : Option Keyword) → keyword_in w ≡ o → IfSome o (λ k. w ≡ spelling k)
+if_found w None is = tt
+if_found w (Some k) is = keyword_spelled w k is
+
+not_spelled : (w : List ℕ) (k : Keyword) → keyword_in w ≡ None → w ≢ spelling k
+not_spelled w k none is =
+    let there : keyword_in w ≡ Some k = ap keyword_in is ∙ keyword_is k in
+    absurd (cc)
+
+pub if_not_found : (w : List ℕ) (o : Option Keyword) → keyword_in w ≡ o → IfNone o ((k : Keyword) → w ≢ spelling k)
+if_not_found w None is = λ k. not_spelled w k is
+if_not_found w (Some k) is = tt

@@ -2,13 +2,12 @@ ghost use Rattle.std.specs.Prelude.{◌≡◌, IfOk};
 ghost use Rattle.ht_expr.specs.Assignments.{is_individual, is_plain};
 ghost use Rattle.ht_expr.specs.Reading.{IsOnly, Reads};
 ghost use Rattle.ht_expr.specs.KindTable as table;
-ghost use Rattle.ht_expr.specs.Kinds.{Declared};
 ghost use Rattle.ht_expr.specs.Shown.{shown, shown_answer, AreDeclared};
 ghost use Rattle.ht_expr.specs.Trees.{an_assignment};
 
 use crate::kinding::{is_of_kind, kind_of};
 use crate::{Expr, ExprRefusal, Kinds, Side, building, expected};
-use ht_base::{Kind, Memory, Txt};
+use ht_base::{Kind, Txt};
 use std::alloc::Global;
 
 /// A people assignment (WS-HumanTask 1.1, 3.5): who is found. A contract sees it by `shown`, as a
@@ -113,38 +112,6 @@ impl Assign {
             Assign::Union(first, second)
             | Assign::Intersect(first, second)
             | Assign::Except(first, second) => first.is_plain() && second.is_plain(),
-        }
-    }
-
-    /// The same assignment once more.
-    pub fn copy(&self, alloc: Global) -> Result<Assign, Memory>
-        ensures tree { IfOk result (λ a. shown a ≡ shown self.now) }
-        ensures kinds { IfOk result (λ a. (kinds : Declared) → AreDeclared kinds self.now → AreDeclared kinds a) }
-    {
-        match self {
-            Assign::Nobody => Ok(Assign::Nobody),
-            Assign::Everybody => Ok(Assign::Everybody),
-            Assign::Initiator => Ok(Assign::Initiator),
-            Assign::In(name) => Ok(Assign::In(name.copy(alloc)?)),
-            Assign::User(name) => Ok(Assign::User(name.copy(alloc)?)),
-            Assign::Group(name) => Ok(Assign::Group(name.copy(alloc)?)),
-            Assign::Union(first, second) => {
-                let first = Box::new(alloc, first.copy(alloc)?)?;
-                Ok(Assign::Union(first, Box::new(alloc, second.copy(alloc)?)?))
-            }
-            Assign::Intersect(first, second) => {
-                let first = Box::new(alloc, first.copy(alloc)?)?;
-                Ok(Assign::Intersect(first, Box::new(alloc, second.copy(alloc)?)?))
-            }
-            Assign::Except(first, second) => {
-                let first = Box::new(alloc, first.copy(alloc)?)?;
-                Ok(Assign::Except(first, Box::new(alloc, second.copy(alloc)?)?))
-            }
-            Assign::When(test, first, second) => {
-                let test = Box::new(alloc, test.copy(alloc)?)?;
-                let first = Box::new(alloc, first.copy(alloc)?)?;
-                Ok(Assign::When(test, first, Box::new(alloc, second.copy(alloc)?)?))
-            }
         }
     }
 }

@@ -87,14 +87,4 @@ impl Expr {
             None => false,
         }
     }
-
-    /// The same expression once more.
-    pub fn copy(&self, alloc: Global) -> Result<Expr, Memory>
-        ensures { IfOk result (λ e. e ≡ self.now) }
-    {
-        Ok(Expr {
-            node: self.node.copy(alloc)?,
-            kinds: self.kinds.copy(alloc)?,
-        })
-    }
 }

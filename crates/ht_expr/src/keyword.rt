@@ -1,4 +1,5 @@
 ghost use Rattle.std.specs.Prelude.{◌≡◌, ◌≢◌, IfSome, IfNone};
+ghost use Rattle.ht_expr.specs.Expected as expected;
 ghost use Rattle.ht_expr.specs.Keywords.{spelling};
 
 /// A word with a meaning of its own.
@@ -33,39 +34,85 @@ pub(crate) enum Keyword {
 }
 
 impl Keyword {
+    const ALL: [Keyword; 26] = [
+        Keyword::If,
+        Keyword::Then,
+        Keyword::Else,
+        Keyword::Or,
+        Keyword::And,
+        Keyword::Not,
+        Keyword::True,
+        Keyword::False,
+        Keyword::Priority,
+        Keyword::Initiator,
+        Keyword::In,
+        Keyword::Out,
+        Keyword::Set,
+        Keyword::Made,
+        Keyword::Finished,
+        Keyword::Done,
+        Keyword::CountText,
+        Keyword::CountTrue,
+        Keyword::Nobody,
+        Keyword::Everybody,
+        Keyword::User,
+        Keyword::Group,
+        Keyword::Union,
+        Keyword::Intersect,
+        Keyword::Except,
+        Keyword::When,
+    ];
+
+    fn spelling(self) -> &'static str
+        ensures { result.now ≡ spelling self }
+    {
+        match self {
+            Keyword::If => "if",
+            Keyword::Then => "then",
+            Keyword::Else => "else",
+            Keyword::Or => "or",
+            Keyword::And => "and",
+            Keyword::Not => "not",
+            Keyword::True => "true",
+            Keyword::False => "false",
+            Keyword::Priority => "priority",
+            Keyword::Initiator => "initiator",
+            Keyword::In => "in",
+            Keyword::Out => "out",
+            Keyword::Set => "set",
+            Keyword::Made => "made",
+            Keyword::Finished => "finished",
+            Keyword::Done => "done",
+            Keyword::CountText => "countText",
+            Keyword::CountTrue => "countTrue",
+            Keyword::Nobody => "nobody",
+            Keyword::Everybody => "everybody",
+            Keyword::User => "user",
+            Keyword::Group => "group",
+            Keyword::Union => "union",
+            Keyword::Intersect => "intersect",
+            Keyword::Except => "except",
+            Keyword::When => "when",
+        }
+    }
+
     /// The keyword that is spelled so.
     pub(crate) fn of(word: &str) -> Option<Keyword>
         ensures some { IfSome result (λ keyword. word.now ≡ spelling keyword) }
         ensures none { IfNone result ((keyword : Keyword) → word.now ≢ spelling keyword) }
     {
-        match word {
-            "if" => Some(Keyword::If),
-            "then" => Some(Keyword::Then),
-            "else" => Some(Keyword::Else),
-            "or" => Some(Keyword::Or),
-            "and" => Some(Keyword::And),
-            "not" => Some(Keyword::Not),
-            "true" => Some(Keyword::True),
-            "false" => Some(Keyword::False),
-            "priority" => Some(Keyword::Priority),
-            "initiator" => Some(Keyword::Initiator),
-            "in" => Some(Keyword::In),
-            "out" => Some(Keyword::Out),
-            "set" => Some(Keyword::Set),
-            "made" => Some(Keyword::Made),
-            "finished" => Some(Keyword::Finished),
-            "done" => Some(Keyword::Done),
-            "countText" => Some(Keyword::CountText),
-            "countTrue" => Some(Keyword::CountTrue),
-            "nobody" => Some(Keyword::Nobody),
-            "everybody" => Some(Keyword::Everybody),
-            "user" => Some(Keyword::User),
-            "group" => Some(Keyword::Group),
-            "union" => Some(Keyword::Union),
-            "intersect" => Some(Keyword::Intersect),
-            "except" => Some(Keyword::Except),
-            "when" => Some(Keyword::When),
-            _ => None,
+        spelled_so(word, &Keyword::ALL)
+    }
+}
+
+// The first of these keywords that is spelled so.
+fn spelled_so(word: &str, keywords: &[Keyword]) -> Option<Keyword>
+    ensures { result ≡ expected.spelled_so word.now keywords.now }
+{
+    for keyword in keywords {
+        if word == keyword.spelling() {
+            return Some(*keyword);
         }
     }
+    None
 }

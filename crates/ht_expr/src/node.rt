@@ -58,36 +58,4 @@ impl Node {
         let then = Box::new(alloc, then)?;
         Ok(Node::If(test, then, Box::new(alloc, other)?))
     }
-
-    /// The same tree once more.
-    pub(crate) fn copy(&self, alloc: Global) -> Result<Node, Memory>
-        ensures { IfOk result (λ e. shown_node e ≡ shown_node self.now) }
-    {
-        match self {
-            Node::Number(number) => Ok(Node::Number(*number)),
-            Node::Text(text) => Ok(Node::Text(text.copy(alloc)?)),
-            Node::Truth(truth) => Ok(Node::Truth(*truth)),
-            Node::Priority => Ok(Node::Priority),
-            Node::Initiator => Ok(Node::Initiator),
-            Node::Part(side, name) => Ok(Node::Part(*side, name.copy(alloc)?)),
-            Node::IsSet(side, name) => Ok(Node::IsSet(*side, name.copy(alloc)?)),
-            Node::Count(count) => Ok(Node::Count(*count)),
-            Node::CountText(part, text) => {
-                Ok(Node::CountText(part.copy(alloc)?, text.copy(alloc)?))
-            }
-            Node::CountTrue(part) => Ok(Node::CountTrue(part.copy(alloc)?)),
-            Node::Brackets(inner) => Ok(Node::Brackets(Box::new(alloc, inner.copy(alloc)?)?)),
-            Node::Negative(operand) => Ok(Node::Negative(Box::new(alloc, operand.copy(alloc)?)?)),
-            Node::Not(operand) => Ok(Node::Not(Box::new(alloc, operand.copy(alloc)?)?)),
-            Node::Binary(operator, left, right) => {
-                let left = Box::new(alloc, left.copy(alloc)?)?;
-                Ok(Node::Binary(*operator, left, Box::new(alloc, right.copy(alloc)?)?))
-            }
-            Node::If(test, then, other) => {
-                let test = Box::new(alloc, test.copy(alloc)?)?;
-                let then = Box::new(alloc, then.copy(alloc)?)?;
-                Ok(Node::If(test, then, Box::new(alloc, other.copy(alloc)?)?))
-            }
-        }
-    }
 }

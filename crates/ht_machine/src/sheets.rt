@@ -5,7 +5,7 @@ ghost use Rattle.ht_tree.specs.Plans.{no_plan};
 ghost use Rattle.ht_tree.specs.Soundness.{IsSoundRow};
 
 use crate::naming::{comments_of, name_or_none, names_of, parts_of};
-use ht_base::{Ids, Memory, Sheet, TaskId};
+use ht_base::{Ids, Memory, Names, Sheet, TaskId};
 use ht_tree::{Plan, Row, Tables, sub_tasks};
 use std::alloc::Global;
 
@@ -21,6 +21,7 @@ pub(crate) fn sheet(
     requires nothing { nothing.now ≡ no_plan }
     ensures { IfOk result (λ s. s ≡ spec.sheet_of tables.now.tables row.now) }
 {
+    let roles = role_names(alloc, tables, row)?;
     let subs = subs_of(alloc, tables, nothing, row.task)?;
     let people = tables.people();
     let parent = match row.parent {
@@ -28,11 +29,11 @@ pub(crate) fn sheet(
         None => None,
     };
     Ok(Sheet {
-        administrators: names_of(alloc, people, &row.administrators)?,
+        administrators: roles.administrators,
         by_group: row.by_group,
         comments: comments_of(alloc, people, &row.comments)?,
         created: row.created,
-        excluded_owners: names_of(alloc, people, &row.excluded_owners)?,
+        excluded_owners: roles.excluded_owners,
         fault: row.fault,
         initiator: people.name(row.initiator),
         input: parts_of(alloc, people, &row.input)?,
@@ -41,15 +42,38 @@ pub(crate) fn sheet(
         output: parts_of(alloc, people, &row.output)?,
         owner: name_or_none(people, row.owner),
         parent,
-        potential_owners: names_of(alloc, people, &row.potential_owners)?,
+        potential_owners: roles.potential_owners,
         priority: row.priority,
-        stakeholders: names_of(alloc, people, &row.stakeholders)?,
+        stakeholders: roles.stakeholders,
         started: row.started,
         state: row.state,
         subs,
         task: row.task,
         until: row.until,
         waits: row.waits,
+    })
+}
+
+// The names of the persons of each role.
+#[derive(Drop)]
+struct RoleNames {
+    administrators: Names,
+    excluded_owners: Names,
+    potential_owners: Names,
+    stakeholders: Names,
+}
+
+fn role_names(alloc: Global, tables: &Tables, row: &Row) -> Result<RoleNames, Memory>
+    requires { IsSoundRow tables.now.tables row.now }
+    ensures { let s = spec.sheet_of tables.now.tables row.now in
+        IfOk result (λ r. r ≡ record { administrators = s.administrators; excluded_owners = s.excluded_owners; potential_owners = s.potential_owners; stakeholders = s.stakeholders }) }
+{
+    let people = tables.people();
+    Ok(RoleNames {
+        administrators: names_of(alloc, people, &row.administrators)?,
+        excluded_owners: names_of(alloc, people, &row.excluded_owners)?,
+        potential_owners: names_of(alloc, people, &row.potential_owners)?,
+        stakeholders: names_of(alloc, people, &row.stakeholders)?,
     })
 }
 

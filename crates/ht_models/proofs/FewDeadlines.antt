@@ -1,11 +1,11 @@
 -- How many deadlines a model has.
-use Rattle.std.proofs.Common.{◌≡◌, ◌+◌, ◌<◌, ◌≤◌, ◌∙◌, ℕ, true, List, [], ◌∷◌, Some, All, ap, arith, filter, get_or, if◌then◌else◌, length, lt-ltb, map, option_map, refl, inl, inr}
+use Rattle.std.proofs.Common.{◌≡◌, ◌+◌, ◌<◌, ◌≤◌, ◌∙◌, ℕ, List, [], ◌∷◌, Some, All, ap, arith, filter, get_or, if◌then◌else◌, length, lt-ltb, map, option_map, refl, inl, inr}
 use Rattle.std.specs.Prelude.{slice_get}
 use Rattle.std.specs.List.{AllZip, count_by}
 use Rattle.std.proofs.lemmas.Bool.{cases_lt, or_left, or_right}
 use Rattle.std.proofs.lemmas.List.{length-map}
 use Rattle.std.proofs.lemmas.List.Sums.{length-filter}
-use Rattle.std.proofs.lemmas.Option.{get_or_from_slice_get, slice_get-get_or, slice_get-map, slice_get_read}
+use Rattle.std.proofs.lemmas.Option.{slice_get-get_or, slice_get-map, slice_get_read}
 use Rattle.ht_models.specs.declared.deadlines.DeadlineKind.{DeadlineKind}
 use Rattle.ht_models.specs.declared.deadlines.DeadlineKind.TheVariants.{Start, Completion}
 use Rattle.ht_models.specs.declared.model.Model.{Model}
@@ -13,7 +13,7 @@ use Rattle.ht_models.specs.declared.models.Models.TheInside.{Inside}
 use Rattle.ht_models.specs.Deadlines.{DeadlineText}
 use Rattle.ht_models.specs.Expressions.{declared}
 use Rattle.ht_models.specs.Kept.{IsKept}
-use Rattle.ht_models.specs.Limits.{holds_too_much, is_completion, is_start}
+use Rattle.ht_models.specs.Limits.{is_completion, is_start}
 use Rattle.ht_models.specs.Model.{ModelOf}
 use Rattle.ht_models.specs.ModelEntries.{ModelEntry}
 use Rattle.ht_models.specs.Reading.{IsDeadline, IsModel}

@@ -1,6 +1,6 @@
 -- Models whose tasks need no owner reassign none.
-use Rattle.std.proofs.Common.{◌≡◌, ◌∙◌, ℕ, false, true, List, Option, Some, None, ap, sym}
-use Rattle.std.specs.Prelude.{is_some, not, slice_get}
+use Rattle.std.proofs.Common.{◌≡◌, ◌∙◌, ℕ, false, true, List, Option, Some, None, sym}
+use Rattle.std.specs.Prelude.{is_some, slice_get}
 use Rattle.std.specs.List.{AllZip, list_any}
 use Rattle.std.proofs.lemmas.Bool.{false_from_ne_true, or_left, or_right}
 use Rattle.ht_expr.specs.Kinds.{Declared}

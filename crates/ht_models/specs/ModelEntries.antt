@@ -56,30 +56,118 @@ pub record ModelEntry : Type 0 where
   pub deadlines : List DeadlineText
   pub finishes : List FinishText
 
-abbrev pub model_entry :
-    List ℕ → Option (List ℕ) → Bool → Bool → Option Delegation → Option (List ℕ)
-    → Option (List ℕ) → Option (List ℕ) → Option (List ℕ) → Option (List ℕ)
-    → Composition → Trigger → Trigger
-    → List Part → List Part → List SubEntry → List DeadlineText → List FinishText → ModelEntry
-model_entry name priority skipable owner_required delegation delegatees potential_owners excluded_owners administrators stakeholders composition instantiation completion input output subs deadlines finishes = record {
+-- It is read in four parts, of which each has some of its keys.
+
+-- which task it is, and whose
+pub record Heading : Type 0 where
+  pub name : List ℕ
+  pub priority : Option (List ℕ)
+  pub skipable : Bool
+  pub owner_required : Bool
+  pub delegation : Option Delegation
+  pub delegatees : Option (List ℕ)
+
+abbrev pub heading : List ℕ → Option (List ℕ) → Bool → Bool → Option Delegation → Option (List ℕ) → Heading
+heading name priority skipable owner_required delegation delegatees = record {
   name = name;
   priority = priority;
   skipable = skipable;
   owner_required = owner_required;
   delegation = delegation;
   delegatees = delegatees;
+}
+
+abbrev pub heading_in : Members → Option Heading
+heading_in ms =
+    option_map heading (required named (codes "name") ms)
+    also optional as_str (codes "priority") ms
+    also otherwise false as_bool (codes "skipable") ms
+    also otherwise true as_bool (codes "ownerRequired") ms
+    also optional (word_of delegations) (codes "delegation") ms
+    also optional as_str (codes "delegatees") ms
+
+-- who has to do with it
+pub record RoleTexts : Type 0 where
+  pub potential_owners : Option (List ℕ)
+  pub excluded_owners : Option (List ℕ)
+  pub administrators : Option (List ℕ)
+  pub stakeholders : Option (List ℕ)
+
+abbrev pub role_texts : Option (List ℕ) → Option (List ℕ) → Option (List ℕ) → Option (List ℕ) → RoleTexts
+role_texts potential_owners excluded_owners administrators stakeholders = record {
   potential_owners = potential_owners;
   excluded_owners = excluded_owners;
   administrators = administrators;
   stakeholders = stakeholders;
+}
+
+abbrev pub roles_in : Members → Option RoleTexts
+roles_in ms =
+    option_map role_texts (optional as_str (codes "potentialOwners") ms)
+    also optional as_str (codes "excludedOwners") ms
+    also optional as_str (codes "administrators") ms
+    also optional as_str (codes "stakeholders") ms
+
+-- its sub tasks, and when it ends by them
+pub record SubTexts : Type 0 where
+  pub composition : Composition
+  pub instantiation : Trigger
+  pub completion : Trigger
+  pub subs : List SubEntry
+  pub finishes : List FinishText
+
+abbrev pub sub_texts : Composition → Trigger → Trigger → List SubEntry → List FinishText → SubTexts
+sub_texts composition instantiation completion subs finishes = record {
   composition = composition;
   instantiation = instantiation;
   completion = completion;
-  input = input;
-  output = output;
   subs = subs;
-  deadlines = deadlines;
   finishes = finishes;
+}
+
+abbrev pub subs_in : Members → Option SubTexts
+subs_in ms =
+    option_map sub_texts (otherwise Sequential (word_of compositions) (codes "composition") ms)
+    also otherwise Manual (word_of triggers) (codes "instantiation") ms
+    also otherwise Manual (word_of triggers) (codes "completion") ms
+    also otherwise [] (list_of sub_of) (codes "sub") ms
+    also otherwise [] (list_of finish_of) (codes "finish") ms
+
+-- what it is given, what it gives, and what is due
+pub record DataTexts : Type 0 where
+  pub input : List Part
+  pub output : List Part
+  pub deadlines : List DeadlineText
+
+abbrev pub data_texts : List Part → List Part → List DeadlineText → DataTexts
+data_texts input output deadlines = record { input = input; output = output; deadlines = deadlines }
+
+abbrev pub data_in : Members → Option DataTexts
+data_in ms =
+    option_map data_texts (otherwise [] (list_of part_of) (codes "input") ms)
+    also otherwise [] (list_of part_of) (codes "output") ms
+    also otherwise [] (list_of deadline_of) (codes "deadline") ms
+
+abbrev pub model_entry : Heading → RoleTexts → SubTexts → DataTexts → ModelEntry
+model_entry h r s d = record {
+  name = h.name;
+  priority = h.priority;
+  skipable = h.skipable;
+  owner_required = h.owner_required;
+  delegation = h.delegation;
+  delegatees = h.delegatees;
+  potential_owners = r.potential_owners;
+  excluded_owners = r.excluded_owners;
+  administrators = r.administrators;
+  stakeholders = r.stakeholders;
+  composition = s.composition;
+  instantiation = s.instantiation;
+  completion = s.completion;
+  input = d.input;
+  output = d.output;
+  subs = s.subs;
+  deadlines = d.deadlines;
+  finishes = s.finishes;
 }
 
 abbrev pub entry_keys : List (List ℕ)
@@ -90,25 +178,7 @@ entry_keys =
     ∷ codes "input" ∷ codes "output" ∷ codes "sub" ∷ codes "deadline" ∷ codes "finish" ∷ []
 
 abbrev pub entry_values : Members → Option ModelEntry
-entry_values ms =
-    option_map model_entry (required named (codes "name") ms)
-    also optional as_str (codes "priority") ms
-    also otherwise false as_bool (codes "skipable") ms
-    also otherwise true as_bool (codes "ownerRequired") ms
-    also optional (word_of delegations) (codes "delegation") ms
-    also optional as_str (codes "delegatees") ms
-    also optional as_str (codes "potentialOwners") ms
-    also optional as_str (codes "excludedOwners") ms
-    also optional as_str (codes "administrators") ms
-    also optional as_str (codes "stakeholders") ms
-    also otherwise Sequential (word_of compositions) (codes "composition") ms
-    also otherwise Manual (word_of triggers) (codes "instantiation") ms
-    also otherwise Manual (word_of triggers) (codes "completion") ms
-    also otherwise [] (list_of part_of) (codes "input") ms
-    also otherwise [] (list_of part_of) (codes "output") ms
-    also otherwise [] (list_of sub_of) (codes "sub") ms
-    also otherwise [] (list_of deadline_of) (codes "deadline") ms
-    also otherwise [] (list_of finish_of) (codes "finish") ms
+entry_values ms = option_map model_entry (heading_in ms) also roles_in ms also subs_in ms also data_in ms
 
 -- delegatees are given exactly with the delegation other
 abbrev pub is_other : Option Delegation → Bool

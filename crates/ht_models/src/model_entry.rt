@@ -79,11 +79,11 @@ pub struct ModelEntry {
 }
 
 impl Model for ModelEntry {
-    ghost use Rattle.ht_models.specs.ModelEntries.{ModelEntry as Entry, model_entry};
+    ghost use Rattle.ht_models.specs.ModelEntries.{ModelEntry as Entry, data_texts, heading, model_entry, role_texts, sub_texts};
 
     ghost Value = { Entry };
 
-    ghost view = { λ m. model_entry m.name m.priority m.skipable m.owner_required m.delegation m.delegatees m.potential_owners m.excluded_owners m.administrators m.stakeholders m.composition m.instantiation m.completion m.input.items m.output.items m.subs.items m.deadlines.items m.finishes.items };
+    ghost view = { λ m. model_entry (heading m.name m.priority m.skipable m.owner_required m.delegation m.delegatees) (role_texts m.potential_owners m.excluded_owners m.administrators m.stakeholders) (sub_texts m.composition m.instantiation m.completion m.subs.items m.finishes.items) (data_texts m.input.items m.output.items m.deadlines.items) };
 }
 
 impl Shape for ModelEntry {
@@ -127,24 +127,112 @@ fn values_in(alloc: Global, table: &Table) -> Result<ModelEntry, Misfit>
     ensures ok { IfOk result (λ entry. spec.entry_values (table_view table.now) ≡ Some entry) }
     ensures misfit { IfErr result (λ e. e ≡ Misfit.Shape → spec.entry_values (table_view table.now) ≡ None) }
 {
+    let heading = heading_in(alloc, table)?;
+    let roles = roles_in(alloc, table)?;
+    let subs = subs_in(alloc, table)?;
+    let data = data_in(alloc, table)?;
     Ok(ModelEntry {
+        name: heading.name,
+        priority: heading.priority,
+        skipable: heading.skipable,
+        owner_required: heading.owner_required,
+        delegation: heading.delegation,
+        delegatees: heading.delegatees,
+        potential_owners: roles.potential_owners,
+        excluded_owners: roles.excluded_owners,
+        administrators: roles.administrators,
+        stakeholders: roles.stakeholders,
+        composition: subs.composition,
+        instantiation: subs.instantiation,
+        completion: subs.completion,
+        input: data.input,
+        output: data.output,
+        subs: subs.subs,
+        deadlines: data.deadlines,
+        finishes: subs.finishes,
+    })
+}
+
+#[derive(Drop)]
+struct Heading {
+    name: Name,
+    priority: Option<Txt>,
+    skipable: bool,
+    owner_required: bool,
+    delegation: Option<Delegation>,
+    delegatees: Option<Txt>,
+}
+
+fn heading_in(alloc: Global, table: &Table) -> Result<Heading, Misfit>
+    ensures ok { IfOk result (λ h. spec.heading_in (table_view table.now) ≡ Some (spec.heading h.name h.priority h.skipable h.owner_required h.delegation h.delegatees)) }
+    ensures misfit { IfErr result (λ e. e ≡ Misfit.Shape → spec.heading_in (table_view table.now) ≡ None) }
+{
+    Ok(Heading {
         name: required(alloc, table, "name")?,
         priority: optional(alloc, table, "priority")?,
         skipable: otherwise(alloc, table, "skipable", false)?,
         owner_required: otherwise(alloc, table, "ownerRequired", true)?,
         delegation: word_if_any(table, "delegation", &DELEGATIONS)?,
         delegatees: optional(alloc, table, "delegatees")?,
+    })
+}
+
+#[derive(Drop)]
+struct RoleTexts {
+    potential_owners: Option<Txt>,
+    excluded_owners: Option<Txt>,
+    administrators: Option<Txt>,
+    stakeholders: Option<Txt>,
+}
+
+fn roles_in(alloc: Global, table: &Table) -> Result<RoleTexts, Misfit>
+    ensures ok { IfOk result (λ r. spec.roles_in (table_view table.now) ≡ Some (spec.role_texts r.potential_owners r.excluded_owners r.administrators r.stakeholders)) }
+    ensures misfit { IfErr result (λ e. e ≡ Misfit.Shape → spec.roles_in (table_view table.now) ≡ None) }
+{
+    Ok(RoleTexts {
         potential_owners: optional(alloc, table, "potentialOwners")?,
         excluded_owners: optional(alloc, table, "excludedOwners")?,
         administrators: optional(alloc, table, "administrators")?,
         stakeholders: optional(alloc, table, "stakeholders")?,
+    })
+}
+
+#[derive(Drop)]
+struct SubTexts {
+    composition: Composition,
+    instantiation: Trigger,
+    completion: Trigger,
+    subs: Vec<SubEntry>,
+    finishes: Vec<FinishText>,
+}
+
+fn subs_in(alloc: Global, table: &Table) -> Result<SubTexts, Misfit>
+    ensures ok { IfOk result (λ s. spec.subs_in (table_view table.now) ≡ Some (spec.sub_texts s.composition s.instantiation s.completion s.subs.items s.finishes.items)) }
+    ensures misfit { IfErr result (λ e. e ≡ Misfit.Shape → spec.subs_in (table_view table.now) ≡ None) }
+{
+    Ok(SubTexts {
         composition: word_or(table, "composition", Composition::Sequential, &COMPOSITIONS)?,
         instantiation: word_or(table, "instantiation", Trigger::Manual, &TRIGGERS)?,
         completion: word_or(table, "completion", Trigger::Manual, &TRIGGERS)?,
+        subs: list(alloc, table, "sub")?,
+        finishes: list(alloc, table, "finish")?,
+    })
+}
+
+#[derive(Drop)]
+struct DataTexts {
+    input: Vec<Part>,
+    output: Vec<Part>,
+    deadlines: Vec<DeadlineText>,
+}
+
+fn data_in(alloc: Global, table: &Table) -> Result<DataTexts, Misfit>
+    ensures ok { IfOk result (λ d. spec.data_in (table_view table.now) ≡ Some (spec.data_texts d.input.items d.output.items d.deadlines.items)) }
+    ensures misfit { IfErr result (λ e. e ≡ Misfit.Shape → spec.data_in (table_view table.now) ≡ None) }
+{
+    Ok(DataTexts {
         input: list(alloc, table, "input")?,
         output: list(alloc, table, "output")?,
-        subs: list(alloc, table, "sub")?,
         deadlines: list(alloc, table, "deadline")?,
-        finishes: list(alloc, table, "finish")?,
     })
 }
