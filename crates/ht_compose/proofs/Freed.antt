@@ -104,9 +104,13 @@ module _ (u : TablesOf) (sound : IsSound u) (task : ℕ) where
       go true = ap (λ (k : ℕ). Check k ∷ []) number
       go false = refl
 
-  pub all_to_check : (old new : List TaskId) (id : TaskId) (k last : ℕ) → id.0 ≡ task → IsLastBelow u task last → k ≤ task → k ≤ length u.rows → tasks_checked old ++ freed_to u task k ≡ freed_to u task last → new ≡ old ++ id ∷ [] → tasks_checked new ≡ checks_of task u.rows
-  all_to_check old new id k last number below low within before is =
-      let all : tasks_checked old ≡ checks (freed_tasks task u.rows) = sym (append-nil (tasks_checked old)) ∙ ap (λ (l : List Item). tasks_checked old ++ l) (sym (none_before k low within)) ∙ before ∙ all_before last below in
+  -- once the walk is through
+  pub all_freed : (ids : List TaskId) (k last : ℕ) → IsLastBelow u task last → k ≤ task → k ≤ length u.rows → tasks_checked ids ++ freed_to u task k ≡ freed_to u task last → tasks_checked ids ≡ checks (freed_tasks task u.rows)
+  all_freed ids k last below low within before = sym (append-nil (tasks_checked ids)) ∙ ap (λ (l : List Item). tasks_checked ids ++ l) (sym (none_before k low within)) ∙ before ∙ all_before last below
+
+  -- and the task behind them
+  pub then_itself : (old new : List TaskId) (id : TaskId) → id.0 ≡ task → new ≡ old ++ id ∷ [] → tasks_checked old ≡ checks (freed_tasks task u.rows) → tasks_checked new ≡ checks_of task u.rows
+  then_itself old new id number is all =
       ap tasks_checked is
       ∙ map-append (λ id. Check id.0) old (id ∷ [])
       ∙ ap (λ (l : List Item). l ++ Check id.0 ∷ []) all

@@ -2,11 +2,12 @@
 use Rattle.std.proofs.Common.{◌≡◌, ℕ, ◌-◌, ◌<◌, ◌≤◌, ◌==◌, nat_lt, zero, suc, Bool, true, false, List, [], ◌∷◌, length, Option, Some, None, option_map, refl, sym, ap, ◌∙◌, subst, if◌then◌else◌, eq-eqb, arith}
 use Rattle.std.proofs.lemmas.Bool.{eqb-true}
 use Rattle.std.proofs.lemmas.Bool.Decides.{nat_tests}
+use Rattle.std.specs.Option.{option_map_or}
 use Rattle.std.specs.Prelude.{slice_get}
 use Rattle.ht_compose.specs.declared.reaching.Reach.{Reach}
 use Rattle.ht_compose.specs.declared.reaching.Reach.TheVariants as reach
 use Rattle.ht_compose.specs.Families.{is_above}
-use Rattle.ht_compose.specs.Reaching.{Ends, IsLastBelow, IsTask, Reaches, all_reached, reached, reached_behind}
+use Rattle.ht_compose.specs.Reaching.{Ends, IsLastBelow, IsTask, Reaches, all_reached, changes, reached, reached_behind}
 use Rattle.ht_compose.proofs.Chains.{leads_alike, none_lower}
 use Rattle.ht_compose.proofs.Reached.{reached_standing}
 use Rattle.ht_tree.specs.declared.row.Row.{Row}
@@ -55,6 +56,12 @@ reached_alike (reach.Close end) xs ys a task row = rw (leads_alike row.task.0 xs
 reached_alike reach.Skip xs ys a task row = rw (leads_alike row.task.0 xs ys a task row.parent) refl
 reached_alike reach.Hold xs ys a task row = rw (leads_alike row.task.0 xs ys a task row.parent) refl
 reached_alike reach.Free xs ys a task row = rw (leads_alike row.task.0 xs ys a task row.parent) refl
+
+changes_alike : (what : Reach) (xs ys : List Row) → Alike xs ys → (task : ℕ) (row : Row) → changes what xs task row ≡ changes what ys task row
+changes_alike (reach.Close end) xs ys a task row = rw (leads_alike row.task.0 xs ys a task row.parent) refl
+changes_alike reach.Skip xs ys a task row = rw (leads_alike row.task.0 xs ys a task row.parent) refl
+changes_alike reach.Hold xs ys a task row = rw (leads_alike row.task.0 xs ys a task row.parent) refl
+changes_alike reach.Free xs ys a task row = rw (leads_alike row.task.0 xs ys a task row.parent) refl
 
 module _ (u : TablesOf) (sound : IsSound u) (task : ℕ) (what : Reach) (ends : Ends what) where
   abbrev f : Row → Row
@@ -178,6 +185,16 @@ module _ (u : TablesOf) (sound : IsSound u) (task : ℕ) (what : Reach) (ends : 
       ∙ ap (λ (l : List Row). with_rows u l) (one_more j row its.1) in
       let P : TablesOf → Type 0 = λ x. Goes t old new u x in
       subst P after (goes_then t old mid new u v _ going step.goes)
+
+  -- and is changed as it would have been at the start
+  pub changes_yet : (t : TablesOf) (old mid : PlanOf) (j : ℕ) → suc j ≤ length u.rows → Going t old mid (suc j) → option_map_or (changes what (planned t mid).rows task) (task_row (planned t mid) (suc j)) false ≡ option_map_or (changes what u.rows task) (task_row u (suc j)) false
+  changes_yet t old mid j within going =
+      let its = some_at u.rows j (omega arith) in
+      let row = its.0 in
+      ap (λ (x : TablesOf). option_map_or (changes what x.rows task) (task_row x (suc j)) false) going.to
+      ∙ ap (λ (o : Option Row). option_map_or (changes what (reached_behind (suc j) what u.rows task) task) o false) (next_row (suc j) row its.1)
+      ∙ sym (changes_alike what u.rows (reached_behind (suc j) what u.rows task) (behind_alike (suc j)) task row)
+      ∙ ap (λ (o : Option Row). option_map_or (changes what u.rows task) o false) (sym its.1)
 
   pub done : (t : TablesOf) (old new : PlanOf) → 1 ≤ task → Going t old new (task - 1) → Goes t old new u (with_rows u (all_reached what u.rows task))
   done t old new low going = let P : List Row → Type 0 = λ l. Goes t old new u (with_rows u l) in subst P (all_done low) going

@@ -1,5 +1,5 @@
 -- What reaches tasks below another, row by row, and plans that go over the rows from the last one on.
-use Rattle.std.specs.Prelude.{◌≡◌, ℕ, ◌==◌, ◌≤◌, ◌<◌, nat_lt, Bool, false, not, List, length, map, Some, IsTrue, if◌then◌else◌}
+use Rattle.std.specs.Prelude.{◌≡◌, ℕ, ◌==◌, ◌≤◌, ◌<◌, nat_lt, Bool, false, not, ◌&&◌, ◌||◌, List, length, map, Some, IsTrue, if◌then◌else◌}
 use Rattle.ht_base.specs.declared.state.State.{State}
 use Rattle.ht_base.specs.declared.state.State.TheVariants.{Obsolete}
 use Rattle.ht_base.specs.State.{contains_state, is_final}
@@ -36,6 +36,13 @@ reached (reach.Close end) rows task row = if row.task.0 == task then ended end r
 reached reach.Skip rows task row = if is_above rows task row then ended Obsolete row else row
 reached reach.Hold rows task row = if is_above rows task row then held row else row
 reached reach.Free rows task row = if is_above rows task row then freed row else row
+
+-- whether it changes the row
+abbrev pub changes : Reach → List Row → ℕ → Row → Bool
+changes (reach.Close end) rows task row = (row.task.0 == task || is_above rows task row) && not (is_final row.state)
+changes reach.Skip rows task row = is_above rows task row && not (is_final row.state)
+changes reach.Hold rows task row = is_above rows task row && contains_state opened row.state
+changes reach.Free rows task row = is_above rows task row && is_suspended row.state
 
 -- a task ends only in a final state
 abbrev pub Ends : Reach → Type 0

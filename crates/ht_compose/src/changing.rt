@@ -2,7 +2,7 @@ ghost use Rattle.std.specs.Prelude.{◌≡◌, true};
 ghost use Rattle.ht_base.specs.State.{contains_state};
 ghost use Rattle.ht_compose.specs.Downward as downward;
 ghost use Rattle.ht_compose.specs.Reaching as spec;
-ghost use Rattle.ht_compose.specs.Reaching.{reached};
+ghost use Rattle.ht_compose.specs.Reaching.{changes, reached};
 ghost use Rattle.ht_rules.specs.States.{opened};
 ghost use Rattle.ht_tree.specs.Plans.{IsPlanOf, planned};
 ghost use Rattle.ht_tree.specs.Soundness.{is_suspended};
@@ -22,7 +22,8 @@ pub(crate) fn change_of(
     row: &Row,
 ) -> Change
     requires { IsPlanOf tables.now.tables plan.now }
-    ensures { spec.changed result row.now ≡ reached reach (planned tables.now.tables plan.now).rows task.0 row.now }
+    ensures row { spec.changed result row.now ≡ reached reach (planned tables.now.tables plan.now).rows task.0 row.now }
+    ensures touches { spec.touches result (row.now).state ≡ changes reach (planned tables.now.tables plan.now).rows task.0 row.now }
 {
     if let Reach::Close(end) = reach {
         if row.task == task {

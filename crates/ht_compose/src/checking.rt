@@ -35,6 +35,9 @@ pub(crate) fn check(
         return Ok(Vec::new(alloc));
     };
     let model = tables.models().model(row.model);
+    if model.finishes.is_empty() {
+        return Ok(Vec::new(alloc));
+    }
     if !may_finish(row, model) {
         return Ok(Vec::new(alloc));
     }

@@ -1,5 +1,5 @@
 ghost use Rattle.std.specs.Prelude.{◌≡◌, OnOk, IsTrue, OnErr};
-ghost use Rattle.ht_compose.specs.Downward.{closing, freeing, holding, skipping};
+ghost use Rattle.ht_compose.specs.Downward.{closing, holding, skipping};
 ghost use Rattle.ht_compose.specs.Reaching.{IsTask};
 ghost use Rattle.ht_base.specs.State.{is_final};
 ghost use Rattle.ht_tree.specs.Plans.{Goes, IsPlanOf, planned};
@@ -23,24 +23,6 @@ pub fn hold(alloc: Global, tables: &Tables, plan: &mut Plan, task: TaskId) -> Re
     ensures marked { OnErr result (plan.new.marked ≡ plan.old.marked) }
 {
     spread(alloc, tables, plan, task, Reach::Hold)
-}
-
-/// Plans that every suspended task below this one returns to its state before, with no end of its
-/// suspension. After want of memory the plan holds some of it.
-pub(crate) fn free_below(
-    alloc: Global,
-    tables: &Tables,
-    plan: &mut Plan,
-    task: TaskId,
-) -> Result<(), Memory>
-    requires plan { IsPlanOf tables.now.tables plan.old }
-    requires sound { IsSound (planned tables.now.tables plan.old) }
-    requires there { IsTask (planned tables.now.tables plan.old) task.0 }
-    ensures goes { OnOk result (Goes tables.now.tables plan.old plan.new (planned tables.now.tables plan.old) (with_rows (planned tables.now.tables plan.old) (freeing task.0 (planned tables.now.tables plan.old).rows))) }
-    ensures sound { OnOk result (IsSound (planned tables.now.tables plan.new)) }
-    ensures marked { OnErr result (plan.new.marked ≡ plan.old.marked) }
-{
-    spread(alloc, tables, plan, task, Reach::Free)
 }
 
 /// Plans that every task below this one that hasn't ended is obsolete. After want of memory the plan holds

@@ -24,6 +24,9 @@ pub fn gather(alloc: Global, tables: &Tables, plan: &mut Plan, task: TaskId) -> 
         unreachable!()
     };
     let model = tables.models().model(row.model);
+    if model.finishes.is_empty() {
+        return Ok(());
+    }
     if model.completion == Trigger::Automatic {
         return Ok(());
     }

@@ -1,7 +1,9 @@
-ghost use Rattle.std.specs.Prelude.{◌≡◌, OnOk, OnErr};
-ghost use Rattle.ht_compose.specs.Reaching.{Ends, IsLastBelow, IsTask, Reaches, ReachesAll};
+ghost use Rattle.std.specs.Prelude.{◌≡◌, IfOk, OnErr, OnOk, false};
+ghost use Rattle.std.specs.Option.{option_map_or};
+ghost use Rattle.ht_compose.specs.Reaching.{Ends, IsLastBelow, IsTask, Reaches, ReachesAll, changes};
 ghost use Rattle.ht_tree.specs.Plans.{IsPlanOf, planned};
 ghost use Rattle.ht_tree.specs.Soundness.{IsSound};
+ghost use Rattle.ht_tree.specs.Tables.{task_row};
 
 use crate::changing::{change_of, changed, touches};
 use crate::reaching::Reach;
@@ -50,18 +52,19 @@ pub(crate) fn last_below(tables: &Tables, plan: &Plan, task: TaskId) -> u32
     }
 }
 
-// Plans what comes of one row.
-fn reach_one(
+// Plans what comes of one row, and tells whether it changes.
+pub(crate) fn reach_one(
     alloc: Global,
     tables: &Tables,
     plan: &mut Plan,
     task: TaskId,
     reach: Reach,
     id: TaskId,
-) -> Result<(), Memory>
+) -> Result<bool, Memory>
     requires plan { IsPlanOf tables.now.tables plan.old }
     requires there { IsTask (planned tables.now.tables plan.old) id.0 }
     ensures reaches { OnOk result (Reaches tables.now.tables plan.old plan.new task.0 reach id.0) }
+    ensures changes { IfOk result (λ changed. changed ≡ option_map_or (changes reach (planned tables.now.tables plan.old).rows task.0) (task_row (planned tables.now.tables plan.old) id.0) false) }
     ensures marked { OnErr result (plan.new.marked ≡ plan.old.marked) }
 {
     let Some(row) = plan.row(tables, id) else {
@@ -69,9 +72,9 @@ fn reach_one(
     };
     let change = change_of(tables, plan, task, reach, row);
     if !touches(change, row.state) {
-        return Ok(());
+        return Ok(false);
     }
     let row = plan.take(alloc, tables, id)?;
     plan.put(tables, changed(row, change))?;
-    Ok(())
+    Ok(true)
 }

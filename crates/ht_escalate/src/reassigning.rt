@@ -7,16 +7,16 @@ ghost use Rattle.ht_expr.specs.Assignments.{is_individual};
 ghost use Rattle.ht_expr.specs.Shown as tree;
 ghost use Rattle.ht_models.specs.Kinded.{Assigns, Ends, parts_of};
 ghost use Rattle.ht_models.specs.Shown as shown;
-ghost use Rattle.ht_tree.specs.Creating.{seen_in};
+ghost use Rattle.ht_tree.specs.Creating.{seen_in, sees};
 ghost use Rattle.ht_tree.specs.Plans.{planned};
 ghost use Rattle.ht_tree.specs.Tables.{directory};
 
 use crate::triggering::is_triggered;
 use ht_base::{Memory, Persons, State};
-use ht_expr::Assign;
+use ht_expr::{Assign, Env};
 use ht_models::{Deadline, Model};
 use ht_people::except;
-use ht_tree::{Plan, Row, Tables, resolve};
+use ht_tree::{Plan, Row, Tables, resolve_seen};
 use std::alloc::Global;
 
 /// To whom a task is given, and whether by a group.
@@ -34,16 +34,18 @@ pub(crate) fn new_owners(
     row: &Row,
     model: &Model,
     deadline: &Deadline,
+    view: &mut Option<Env>,
 ) -> Result<Option<Owners>, Memory>
     requires seen { IsSeen tables.now.tables plan.now row.now model.now }
     requires kinds { Ends (parts_of model.now.input.items model.now.output.items) deadline.now }
+    requires view { IfSome view.old (λ e. e ≡ sees (planned tables.now.tables plan.now).rows row.now) }
     ensures { let s = seen_in (shown.model_of model.now) (planned tables.now.tables plan.now).rows row.now in
         IfOk result (λ owners. owners ≡ seeing.owners_of (directory tables.now.tables) s row.now (spec.first_reassignment s (shown.deadline_of deadline.now))) }
 {
     for escalation in &deadline.escalations {
         if let Some(assign) = &escalation.reassign {
-            if is_triggered(alloc, tables, plan, row, model, escalation)? {
-                return Ok(Some(owners_by(alloc, tables, plan, row, model, assign)?));
+            if is_triggered(alloc, tables, plan, row, model, escalation, view)? {
+                return Ok(Some(owners_by(alloc, tables, plan, row, model, assign, view)?));
             }
         }
     }
@@ -58,14 +60,16 @@ fn owners_by(
     row: &Row,
     model: &Model,
     assign: &Assign,
+    view: &mut Option<Env>,
 ) -> Result<Owners, Memory>
     requires seen { IsSeen tables.now.tables plan.now row.now model.now }
     requires kinds { Assigns (parts_of model.now.input.items model.now.output.items) assign.now }
+    requires view { IfSome view.old (λ e. e ≡ sees (planned tables.now.tables plan.now).rows row.now) }
     ensures { let s = seen_in (shown.model_of model.now) (planned tables.now.tables plan.now).rows row.now in
         let a = tree.shown assign.now in
         IfOk result (λ owners. owners ≡ seeing.owners_by (directory tables.now.tables) s row.now a) }
 {
-    let found = resolve(alloc, tables, plan, row, assign)?;
+    let found = resolve_seen(alloc, tables, plan, row, assign, view)?;
     Ok(Owners {
         persons: except(alloc, &found, &row.excluded_owners)?,
         by_group: !assign.individual(),

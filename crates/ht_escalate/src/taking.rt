@@ -33,8 +33,9 @@ pub fn deadline(
     };
     let model = tables.models().model(row.model);
     let deadline = &model.deadlines[place as usize];
-    let notices = notices_of(alloc, tables, plan, row, model, deadline, at)?;
-    let owners = new_owners(alloc, tables, plan, row, model, deadline)?;
+    let mut view = None;
+    let notices = notices_of(alloc, tables, plan, row, model, deadline, at, &mut view)?;
+    let owners = new_owners(alloc, tables, plan, row, model, deadline, &mut view)?;
     let row = plan.take(alloc, tables, task)?;
     plan.put(tables, taken_row(row, owners, place)?)?;
     notify_all(plan, notices)

@@ -6,6 +6,7 @@ mod Counting
 mod DueRows
 mod DuesInStep
 mod Families
+mod FewSubs
 mod Fitting
 mod HeldGiven
 mod InPlace

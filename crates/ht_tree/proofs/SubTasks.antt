@@ -3,7 +3,7 @@ use Rattle.std.proofs.Common.{◌≡◌, ℕ, ◌+◌, ◌<◌, ◌≤◌, ◌==
 use Rattle.std.proofs.lemmas.Bool.{eqb-true}
 use Rattle.std.proofs.lemmas.List.{append-nil, length-map}
 use Rattle.std.proofs.lemmas.List.Elements.{filter-append}
-use Rattle.std.proofs.lemmas.Option.{get_or_from_slice_get, slice_get-map}
+use Rattle.std.proofs.lemmas.Option.{get_or_from_slice_get, slice_get-map, slice_get_within}
 use Rattle.std.specs.Option.{option_and_then, option_map_or}
 use Rattle.std.specs.Prelude.{option_map, slice_get}
 use Rattle.ht_base.specs.declared.task_id.TaskId.{TaskId}
@@ -19,7 +19,7 @@ use Rattle.ht_tree.proofs.Rows.{filtered_at, some_at, take_next, taken_at}
 -- ---- among any rows
 
 -- the parent of a sub task
-parent_of_sub : (task : ℕ) (row : Row) → is_sub_of task row ≡ true → (p : TaskId × ℕ) × (row.parent ≡ Some p) × (p.0.0 ≡ task)
+pub parent_of_sub : (task : ℕ) (row : Row) → is_sub_of task row ≡ true → (p : TaskId × ℕ) × (row.parent ≡ Some p) × (p.0.0 ≡ task)
 parent_of_sub task row is = go row.parent refl is
   where
     go : (o : Option (TaskId × ℕ)) → row.parent ≡ o → option_map_or (λ (p : TaskId × ℕ). p.0.0 == task) o false ≡ true → (p : TaskId × ℕ) × (row.parent ≡ Some p) × (p.0.0 ≡ task)
@@ -72,28 +72,30 @@ module _ (u : TablesOf) (sound : IsSound u) where
   of_entry : (k : ℕ) (row : Row) → row_at k u.rows ≡ Some row → (p : TaskId × ℕ) → row.parent ≡ Some p → IsOfEntry u.models u.rows row.model p
   of_entry k row at p under = let P : Option (TaskId × ℕ) → Type 0 = λ o. IfSome o (IsOfEntry u.models u.rows row.model) in subst P under ((sound.families).entries k row at)
 
-  -- a task whose model has no sub entries has no sub task
-  pub no_sub_task : (task : ℕ) (above : Row) (m : ModelOf) → task_row u task ≡ Some above → model_of u above ≡ Some m → m.subs ≡ [] → (k : ℕ) (row : Row) → row_at k u.rows ≡ Some row → (p : TaskId × ℕ) → row.parent ≡ Some p → p.0.0 ≡ task → ⊥
-  no_sub_task task above m there of_model none k row at p under is =
+  -- a sub task is of one of the entries of its parent's model
+  pub entry_there : (task : ℕ) (above : Row) (m : ModelOf) → task_row u task ≡ Some above → model_of u above ≡ Some m → (k : ℕ) (row : Row) → row_at k u.rows ≡ Some row → (p : TaskId × ℕ) → row.parent ≡ Some p → p.0.0 ≡ task → p.1 < length m.subs
+  entry_there task above m there of_model k row at p under is =
       let e = of_entry k row at p under in
       let one : Some e.above ≡ Some above = sym e.there ∙ ap (λ (n : ℕ). row_at n u.rows) is ∙ there in
       let same : e.above ≡ above = cc in
       let known : slice_get u.models (e.above).model ≡ Some m = ap (λ (r : Row). slice_get u.models r.model) same ∙ of_model in
-      let of_entry : model_of_entry u.models (e.above).model p.1 ≡ None =
-      ap (λ (o : Option ModelOf). option_map (λ (s : SubEntry). s.model) (option_and_then (λ (x : ModelOf). slice_get x.subs p.1) o)) known
-      ∙ ap (λ (l : List SubEntry). option_map (λ (s : SubEntry). s.model) (slice_get l p.1)) none in
+      let of_entry : model_of_entry u.models (e.above).model p.1 ≡ option_map (λ (s : SubEntry). s.model) (slice_get m.subs p.1) =
+      ap (λ (o : Option ModelOf). option_map (λ (s : SubEntry). s.model) (option_and_then (λ (x : ModelOf). slice_get x.subs p.1) o)) known in
       let its = some_at u.models row.model ((sound.rows_sound k row at).filed).model in
-      none_named (sym of_entry ∙ e.named ∙ ap (λ (o : Option ModelOf). option_map (λ (x : ModelOf). x.name) o) its.1)
+      there_at (slice_get m.subs p.1) refl (sym of_entry ∙ e.named ∙ ap (λ (o : Option ModelOf). option_map (λ (x : ModelOf). x.name) o) its.1)
     where
-      none_named : {n : List ℕ} → None ≡ Some n → ⊥
-      none_named h = cc
+      there_at : {n : List ℕ} (o : Option SubEntry) → slice_get m.subs p.1 ≡ o → option_map (λ (s : SubEntry). s.model) o ≡ Some n → p.1 < length m.subs
+      there_at None is named = absurd cc
+      there_at (Some s) is named = slice_get_within m.subs p.1 s is
 
-  pub none_without_entries : (task : ℕ) (above : Row) (m : ModelOf) → task_row u task ≡ Some above → model_of u above ≡ Some m → m.subs ≡ [] → sub_tasks task u.rows ≡ []
-  none_without_entries task above m there of_model none = no_subs task u.rows (λ i row at is.
-      let p = parent_of_sub task row is in
-      no_sub_task task above m there of_model none (suc i) row at p.0 p.1 p.2)
+  -- a task whose model has no sub entries has no sub task
+  pub no_sub_task : (task : ℕ) (above : Row) (m : ModelOf) → task_row u task ≡ Some above → model_of u above ≡ Some m → m.subs ≡ [] → (k : ℕ) (row : Row) → row_at k u.rows ≡ Some row → (p : TaskId × ℕ) → row.parent ≡ Some p → p.0.0 ≡ task → ⊥
+  no_sub_task task above m there of_model none k row at p under is =
+      let low = entry_there task above m there of_model k row at p under is in
+      let count = ap (λ (l : List SubEntry). length l) none in
+      absurd (omega arith)
 
-  -- nor has one that isn't there
+  -- nor has a task that isn't there
   pub none_of_none : (task : ℕ) → task_row u task ≡ None → sub_tasks task u.rows ≡ []
   none_of_none task gone = no_subs task u.rows (λ i row at is.
       let p = parent_of_sub task row is in

@@ -1,4 +1,4 @@
-ghost use Rattle.std.specs.Prelude.{◌≡◌, ◌<◌, [], IfOk, IfSome, IsTrue, length, map, option_map};
+ghost use Rattle.std.specs.Prelude.{◌≡◌, ◌<◌, [], IfOk, IfSome, IsTrue, OnOk, Some, length, map, option_map};
 ghost use Rattle.ht_expr.specs.Assignments.{group, part, user};
 ghost use Rattle.ht_expr.specs.Environment.{has_parts};
 ghost use Rattle.ht_expr.specs.Kinds.{Declared};
@@ -94,6 +94,28 @@ pub fn resolve(
     requires assign { IfSome (model_of tables.now.tables row.now) (λ m. Assigns (parts_of m.input m.output) assign.now) }
     ensures { IfOk result (λ persons. IfSome (model_of tables.now.tables row.now) (λ m. persons ≡ resolved (directory tables.now.tables) (seen_in m (planned tables.now.tables plan.now).rows row.now) (shown assign.now))) }
 {
+    let mut seen = None;
+    resolve_seen(alloc, tables, plan, row, assign, &mut seen)
+}
+
+/// The same, for several assignments of one row: its environment is made once, where the first looks at
+/// a value.
+pub fn resolve_seen(
+    alloc: Global,
+    tables: &Tables,
+    plan: &Plan,
+    row: &Row,
+    assign: &Assign,
+    seen: &mut Option<Env>,
+) -> Result<Persons, Memory>
+    requires plan { IsPlanOf tables.now.tables plan.now }
+    requires sound { IsSound (planned tables.now.tables plan.now) }
+    requires row { Fits tables.now.tables row.now }
+    requires assign { IfSome (model_of tables.now.tables row.now) (λ m. Assigns (parts_of m.input m.output) assign.now) }
+    requires seen { IfSome seen.old (λ e. e ≡ sees (planned tables.now.tables plan.now).rows row.now) }
+    ensures persons { IfOk result (λ persons. IfSome (model_of tables.now.tables row.now) (λ m. persons ≡ resolved (directory tables.now.tables) (seen_in m (planned tables.now.tables plan.now).rows row.now) (shown assign.now))) }
+    ensures seen { OnOk result (IfSome seen.new (λ e. e ≡ sees (planned tables.now.tables plan.now).rows row.now)) }
+{
     if assign.is_plain() {
         return found(
             alloc,
@@ -102,8 +124,31 @@ pub fn resolve(
             assign,
         );
     }
-    let env = env(alloc, tables, plan, row)?;
-    found(alloc, tables.people(), &env, assign)
+    see(alloc, tables, plan, row, seen)?;
+    match seen {
+        Some(env) => found(alloc, tables.people(), env, assign),
+        None => unreachable!(),
+    }
+}
+
+/// Makes the environment of a row, where it isn't made yet.
+pub fn see(
+    alloc: Global,
+    tables: &Tables,
+    plan: &Plan,
+    row: &Row,
+    seen: &mut Option<Env>,
+) -> Result<(), Memory>
+    requires plan { IsPlanOf tables.now.tables plan.now }
+    requires sound { IsSound (planned tables.now.tables plan.now) }
+    requires row { Fits tables.now.tables row.now }
+    requires seen { IfSome seen.old (λ e. e ≡ sees (planned tables.now.tables plan.now).rows row.now) }
+    ensures { OnOk result (seen.new ≡ Some (sees (planned tables.now.tables plan.now).rows row.now)) }
+{
+    if seen.is_none() {
+        *seen = Some(env(alloc, tables, plan, row)?);
+    }
+    Ok(())
 }
 
 // For an assignment that looks at no value, so that none is copied.

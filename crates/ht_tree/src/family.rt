@@ -1,4 +1,4 @@
-ghost use Rattle.std.specs.Prelude.{◌≡◌, [], IfOk, false, map};
+ghost use Rattle.std.specs.Prelude.{◌≡◌, ◌≤◌, IfOk, length, map};
 ghost use Rattle.ht_tree.specs.Families as spec;
 ghost use Rattle.ht_tree.specs.Plans.{IsPlanOf, planned};
 ghost use Rattle.ht_tree.specs.Soundness.{IsSound};
@@ -8,8 +8,8 @@ use ht_base::{Memory, TaskId};
 use std::alloc::Global;
 
 /// The numbers of the sub tasks as they would be after the plan, in ascending order (WS-HumanTask 1.1,
-/// 4.7). Where the task's model has sub entries, the rows of all tasks behind the task are looked at:
-/// each costs at most a logarithm of the number of the plan's rows.
+/// 4.7). The rows of the tasks behind the task are looked at until as many are found as its model has sub
+/// entries: each costs at most a logarithm of the number of the plan's rows.
 pub fn sub_tasks(
     alloc: Global,
     tables: &Tables,
@@ -20,11 +20,12 @@ pub fn sub_tasks(
     requires sound { IsSound (planned tables.now.tables plan.now) }
     ensures { IfOk result (λ ids. ids.items ≡ map (λ r. r.task) (spec.sub_tasks task.0 (planned tables.now.tables plan.now).rows)) }
 {
+    let most = most_subs(tables, plan, task);
     let mut found = Vec::new(alloc);
-    if !has_entries(tables, plan, task) {
-        return Ok(found);
-    }
     for before in task.0..plan.rows(tables) {
+        if found.len() == most {
+            return Ok(found);
+        }
         let Some(row) = plan.row(tables, TaskId(before + 1)) else {
             unreachable!()
         };
@@ -35,15 +36,15 @@ pub fn sub_tasks(
     Ok(found)
 }
 
-// Whether the task's model has sub entries. Where it has none, the task has no sub tasks.
-fn has_entries(tables: &Tables, plan: &Plan, task: TaskId) -> bool
+// The number of sub entries of the task's model: of each there is one sub task at most.
+fn most_subs(tables: &Tables, plan: &Plan, task: TaskId) -> usize
     requires plan { IsPlanOf tables.now.tables plan.now }
     requires sound { IsSound (planned tables.now.tables plan.now) }
-    ensures { result ≡ false → spec.sub_tasks task.0 (planned tables.now.tables plan.now).rows ≡ [] }
+    ensures { length (spec.sub_tasks task.0 (planned tables.now.tables plan.now).rows) ≤ result }
 {
     match plan.row(tables, task) {
-        Some(row) => !tables.models().model(row.model).subs.is_empty(),
-        None => false,
+        Some(row) => tables.models().model(row.model).subs.len(),
+        None => 0,
     }
 }
 

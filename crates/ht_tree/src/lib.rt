@@ -23,7 +23,7 @@ mod tables;
 mod taken;
 
 pub use activating::{owner_by, state_by};
-pub use assigning::{env, env_with, resolve};
+pub use assigning::{env, env_with, resolve, resolve_seen, see};
 pub use changed_dues::{dues_after, dues_behind, is_due};
 pub use comments::{Comment, Comments};
 pub use creating::{CreateRefusal, create};

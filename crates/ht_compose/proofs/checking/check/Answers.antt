@@ -1,4 +1,6 @@
-use Rattle.std.proofs.Common.{◌≡◌, List, [], map, Option, None, ap, sym, subst, ◌∙◌, ℕ}
+use Rattle.std.proofs.Common.{rules, ◌≡◌, List, [], length, map, vec_len, Option, None, ap, sym, subst, ◌∙◌, ℕ}
+use Rattle.std.proofs.lemmas.Bool.{eqb-true}
+use Rattle.std.proofs.lemmas.List.{length-map, nil_from_length}
 use Rattle.std.proofs.lemmas.Result.{IfOk-weaker}
 use Rattle.ht_base.specs.declared.values.Values.{Values}
 use Rattle.ht_compose.specs.declared.item.Item.{Item as Task}
@@ -8,7 +10,7 @@ use Rattle.ht_compose.specs.Items.{has_sub_ended}
 use Rattle.ht_compose.specs.Items.Item.{Check}
 use Rattle.ht_compose.specs.Running.{item_of}
 use Rattle.ht_compose.proofs.Acted.{IsTaken, acts_as_before, model_there}
-use Rattle.ht_compose.proofs.CheckedRows.{IsFound, acts_finished, checks, found, may_not, no_task, not_ended, not_finished, output_fits, output_next, sound_between, still_task}
+use Rattle.ht_compose.proofs.CheckedRows.{IsFound, acts_finished, checks, found, may_not, no_task, none_chosen, not_ended, not_finished, output_fits, output_next, sound_between, still_task}
 use Rattle.ht_compose.proofs.SubRows.{ended_among_them}
 use Rattle.ht_compose.proofs.checking.check.Goals as goal
 use Rattle.ht_models.specs.Model.{ModelOf}
@@ -24,6 +26,20 @@ returns-in_default-clause-acts c = λ at.
     acts_as_before t c.args.plan.now at (Check c.args.task.0) c.new.result.items [] c.requires.plan c.requires.sound
     (no_task u c.args.task.0 c.in_default.ensures.value)
     (ap (λ (l : List Task). map item_of l) c.new.ensures.items)
+
+pub returns-then-is_empty-clause-acts : goal.returns-then-is_empty-clause-acts
+returns-then-is_empty-clause-acts c = λ at.
+    let t = c.args.tables.now.tables in
+    let u = planned t c.args.plan.now in
+    let row = c.in-Some.row.now in
+    let m : ModelOf = shown.model_of c.model-model.result.now in
+    let fs = c.model-model.result.now.finishes in
+    let count : vec_len fs ≡ length fs.items = search rules in
+    let all : length m.finishes ≡ length fs.items = length-map fs.items shown.finish_of in
+    let empty : vec_len fs ≡ 0 = eqb-true (vec_len fs) 0 (sym c.is_empty.ensures ∙ c.if-is_empty.true) in
+    acts_as_before t c.args.plan.now at (Check c.args.task.0) c.new-then-is_empty.result.items [] c.requires.plan c.requires.sound
+    (not_finished u c.args.task.0 row m (sym c.in-Some.ensures.value) (model_there u row c.models.result.now m c.models.ensures.value c.model-model.ensures.value) (none_chosen u.rows m row (nil_from_length m.finishes (all ∙ sym count ∙ empty))))
+    (ap (λ (l : List Task). map item_of l) c.new-then-is_empty.ensures.items)
 
 pub returns-then-not-may_finish-clause-acts : goal.returns-then-not-may_finish-clause-acts
 returns-then-not-may_finish-clause-acts c = λ at.

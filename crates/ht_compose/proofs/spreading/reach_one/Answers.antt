@@ -11,7 +11,7 @@ use Rattle.ht_tree.specs.Tables.{task_row, with_row}
 pub returns-then-not-touches-clause-reaches : goal.returns-then-not-touches-clause-reaches
 returns-then-not-touches-clause-reaches c =
     let t = c.args.tables.now.tables in
-    left_alone t c.args.plan.now c.args.task.0 c.args.reach c.args.id.0 c.in-Some.row.now c.change_of-change.result c.requires.plan c.requires.there (sym c.in-Some.ensures.value) c.change_of-change.ensures (sym c.touches.ensures ∙ c.if-not-touches.true)
+    left_alone t c.args.plan.now c.args.task.0 c.args.reach c.args.id.0 c.in-Some.row.now c.change_of-change.result c.requires.plan c.requires.there (sym c.in-Some.ensures.value) c.change_of-change.ensures.row (sym c.touches.ensures ∙ c.if-not-touches.true)
 
 pub put-requires-clause-next : goal.put-requires-clause-next
 put-requires-clause-next c =
@@ -33,4 +33,4 @@ returns-clause-reaches c =
     let same : c.in-Some.row.now ≡ c.in_ok-row.row = one (task_row u c.args.id.0) c.in-Some.row.now c.in_ok-row.row (sym c.in-Some.ensures.value) c.in_ok-row.ensures.row in
     let C : Row → Type 0 = λ r. changed c.change_of-change.result r ≡ reached c.args.reach u.rows c.args.task.0 r in
     let G : Row → Type 0 = λ r. Goes t taken c.put.new.self (planned t taken) (with_row (planned t taken) r) in
-    put_reached t c.args.plan.now taken c.args.task.0 c.args.reach c.args.id.0 c.in_ok-row.row c.change_of-change.result c.requires.there c.in_ok-row.ensures.row c.in_ok-row.ensures.lends c.put.new.self (subst C same c.change_of-change.ensures) (subst G c.changed.ensures c.in_ok-put.ensures.goes)
+    put_reached t c.args.plan.now taken c.args.task.0 c.args.reach c.args.id.0 c.in_ok-row.row c.change_of-change.result c.requires.there c.in_ok-row.ensures.row c.in_ok-row.ensures.lends c.put.new.self (subst C same c.change_of-change.ensures.row) (subst G c.changed.ensures c.in_ok-put.ensures.goes)

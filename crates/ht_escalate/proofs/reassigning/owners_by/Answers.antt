@@ -12,8 +12,8 @@ use Rattle.ht_tree.specs.Plans.{planned}
 use Rattle.ht_tree.specs.Tables.{directory, model_of}
 use Rattle.ht_tree.proofs.PublicLaws.{sound_row_fits}
 
-pub resolve-requires-clause-row : goal.resolve-requires-clause-row
-resolve-requires-clause-row c =
+pub resolve_seen-requires-clause-row : goal.resolve_seen-requires-clause-row
+resolve_seen-requires-clause-row c =
     let t = c.args.tables.now.tables in
     let row = c.args.row.now in
     sound_row_fits t.models (length t.people.persons) row (c.requires.seen.sound.rows_sound row.task.0 row c.requires.seen.there)
@@ -27,6 +27,6 @@ returns c =
     let m : ModelOf = shown.model_of c.args.model.now in
     let s : Sight = seen_in m rows row in
     let found : c.in_ok-found.found ≡ resolved (directory t) s a =
-    of_this (λ (x : ModelOf). c.in_ok-found.found ≡ resolved (directory t) (seen_in x rows row) a) (model_of t row) m c.requires.seen.model c.in_ok-found.ensures in
+    of_this (λ (x : ModelOf). c.in_ok-found.found ≡ resolved (directory t) (seen_in x rows row) a) (model_of t row) m c.requires.seen.model c.in_ok-found.ensures.persons in
     let persons = owners_are (directory t) s row a c.in_ok-found.found c.in_ok-except.field-0 found c.in_ok-except.ensures.ascends c.in_ok-except.ensures.set in
     same_owners c.in_ok-except.field-0 (new_owners (directory t) s row a) (not c.individual.result) (not (is_individual a)) persons (ap not c.individual.ensures)

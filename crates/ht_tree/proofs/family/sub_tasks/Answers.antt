@@ -1,5 +1,5 @@
-use Rattle.std.proofs.Common.{◌≡◌, ℕ, ◌+◌, suc, List, [], ◌∷◌, ◌++◌, map, take, Some, ap, sym, ◌∙◌, arith}
-use Rattle.std.proofs.lemmas.List.{map-append}
+use Rattle.std.proofs.Common.{◌≡◌, ℕ, ◌+◌, suc, List, [], ◌∷◌, ◌++◌, length, map, take, Some, ap, sym, ◌∙◌, arith}
+use Rattle.std.proofs.lemmas.List.{length-map, map-append}
 use Rattle.std.proofs.lemmas.Option.{none-some}
 use Rattle.std.specs.Prelude.{slice_get}
 use Rattle.ht_base.specs.declared.task_id.TaskId.{TaskId}
@@ -8,6 +8,7 @@ use Rattle.ht_tree.specs.Families.{sub_tasks}
 use Rattle.ht_tree.specs.Plans.{planned}
 use Rattle.ht_tree.specs.Rows.{row_at}
 use Rattle.ht_tree.proofs.Rows.{some_at}
+use Rattle.ht_tree.proofs.FewSubs.{all_found}
 use Rattle.ht_tree.proofs.SubTasks.{no_more, none_before, one_more}
 use Rattle.ht_tree.proofs.family.sub_tasks.Goals as goal
 use Rattle.ht_tree.proofs.family.sub_tasks.Goals.{then-is_sub_of+in_ok-push, else-is_sub_of}
@@ -19,6 +20,16 @@ pub loop-before-init : goal.loop-before-init
 loop-before-init c =
     let u = planned c.args.tables.now.tables c.args.plan.now in
     c.new-found.ensures.items ∙ ap ids (sym (none_before u c.requires.sound c.args.task.0))
+
+pub returns-then-len-most : goal.returns-then-len-most
+returns-then-len-most c =
+    let rows = (planned c.args.tables.now.tables c.args.plan.now).rows in
+    let task = c.args.task.0 in
+    let found = c.loop-before.invariant in
+    let count : length c.loop-before.found.items ≡ length (sub_tasks task (take c.loop-before.before rows)) = ap (λ (l : List TaskId). length l) found ∙ length-map (sub_tasks task (take c.loop-before.before rows)) (λ r. r.task) in
+    let most = c.most_subs-most.ensures in
+    let reached = c.if-len-most.true in
+    found ∙ ap ids (all_found task c.loop-before.before rows (omega arith))
 
 pub unreachable-requires : goal.unreachable-requires
 unreachable-requires c =

@@ -19,7 +19,7 @@ use Rattle.ht_tree.proofs.Plain.{resolved_same}
 use Rattle.ht_tree.proofs.Rows.{some_at}
 use Rattle.ht_tree.proofs.Seeing.{row_seen}
 use Rattle.ht_tree.proofs.Selecting.{if_ok}
-use Rattle.ht_tree.proofs.assigning.resolve.Goals as goal
+use Rattle.ht_tree.proofs.assigning.resolve_seen.Goals as goal
 
 of_model : {A : Type 0} (P : A → Type 0) (o : Option A) (x : A) → o ≡ Some x → IfSome o P → P x
 of_model {A = A} P o x at p = let Q : Option A → Type 0 = λ y. IfSome y P in subst Q at p
@@ -42,8 +42,8 @@ found-requires-clause-kinds c =
     let env = c.env_without_values in
     (kinds, of_model (λ x. Assigns (parts_of x.input x.output) c.args.assign.now) (model_of t row) m.0 m.1 c.requires.assign, no_values kinds env.result env.ensures.input env.ensures.output)
 
-pub returns-then-is_plain : goal.returns-then-is_plain
-returns-then-is_plain c =
+pub returns-then-is_plain-clause-persons : goal.returns-then-is_plain-clause-persons
+returns-then-is_plain-clause-persons c =
     let t = c.args.tables.now.tables in
     let row = c.args.row.now in
     let a = c.args.assign.now in
@@ -60,29 +60,33 @@ returns-then-is_plain c =
     ∙ resolved_same (directory t) (sight (parts_of m.input m.output) env) (seen_in m rows row) c.env_without_values.ensures.initiator (shown a) plain) in
     if_ok F Q c.found.result at c.found.ensures
 
-pub found-requires-2-clause-kinds : goal.found-requires-2-clause-kinds
-found-requires-2-clause-kinds c =
+-- what was seen
+seen_is : {e f : Env} {o : Option Env} → o ≡ Some e → o ≡ Some f → e ≡ f
+seen_is is made = cc
+
+pub found-requires-in-Some-clause-kinds : goal.found-requires-in-Some-clause-kinds
+found-requires-in-Some-clause-kinds c =
     let t = c.args.tables.now.tables in
     let row = c.args.row.now in
     let m = some_at t.models row.model c.requires.row.filed.model in
     let kinds = parts_of (m.0).input (m.0).output in
     let held = of_model (λ x. IsHeldBy (length t.people.persons) x row.input row.output row.taken) (slice_get t.models row.model) m.0 m.1 c.requires.row.held in
     let S : Env → Type 0 = λ e. IsTrue (has_parts kinds e) in
-    (kinds, of_model (λ x. Assigns (parts_of x.input x.output) c.args.assign.now) (model_of t row) m.0 m.1 c.requires.assign, subst S (sym c.in_ok-env.ensures) (row_seen m.0 (length t.people.persons) row held))
+    (kinds, of_model (λ x. Assigns (parts_of x.input x.output) c.args.assign.now) (model_of t row) m.0 m.1 c.requires.assign, subst S (sym (seen_is c.in-Some.is c.in_ok-see.ensures)) (row_seen m.0 (length t.people.persons) row held))
 
-pub returns : goal.returns
-returns c =
+pub returns-clause-persons : goal.returns-clause-persons
+returns-clause-persons c =
     let t = c.args.tables.now.tables in
     let row = c.args.row.now in
     let a = c.args.assign.now in
     let rows = (planned t c.args.plan.now).rows in
-    let d = c.people-2.result.now in
-    let env = c.in_ok-env.env in
+    let d = c.people-in-Some.result.now in
+    let env = c.in-Some.env in
     let Q : List ℕ → Type 0 = λ persons. IfSome (model_of t row) (λ m. persons ≡ resolved (directory t) (seen_in m rows row) (shown a)) in
     let F : List ℕ → Type 0 = λ persons. (kinds : Declared) → Assigns kinds a → persons ≡ resolved d (sight kinds env) (shown a) in
     let at : (persons : List ℕ) → F persons → Q persons =
     λ persons each. for_model rows row a (directory t) persons (model_of t row) c.requires.assign (λ m fits.
     each (parts_of m.input m.output) fits
-    ∙ ap (λ (x : DirectoryOf). resolved x (sight (parts_of m.input m.output) env) (shown a)) c.people-2.ensures
-    ∙ ap (λ (e : Env). resolved (directory t) (sight (parts_of m.input m.output) e) (shown a)) c.in_ok-env.ensures) in
-    if_ok F Q c.found-2.result at c.found-2.ensures
+    ∙ ap (λ (x : DirectoryOf). resolved x (sight (parts_of m.input m.output) env) (shown a)) c.people-in-Some.ensures
+    ∙ ap (λ (e : Env). resolved (directory t) (sight (parts_of m.input m.output) e) (shown a)) (seen_is c.in-Some.is c.in_ok-see.ensures)) in
+    if_ok F Q c.found-in-Some.result at c.found-in-Some.ensures
