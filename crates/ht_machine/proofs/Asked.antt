@@ -15,7 +15,7 @@ use Rattle.ht_machine.specs.declared.sending.Sending.{Sending}
 use Rattle.ht_machine.specs.Commands.{ActsOn, AfterEffect, BehindGate, Comes, DoesOn, MakesEntry, accepted, refused}
 use Rattle.ht_machine.specs.Deciding.{AsksAs, NamesOwner, Shows}
 use Rattle.ht_machine.specs.Gate.{Gate, gate, opens, shuts}
-use Rattle.ht_machine.specs.Planning.{Does, IsAsked, IsReady, Leaves, PlansAsk, PlansNew, record_of}
+use Rattle.ht_machine.specs.Planning.{Does, IsAsked, IsReady, Makes, PlansAsk, PlansNew, record_of}
 use Rattle.ht_machine.specs.Sending.{IsSent, answer_of, keeping_reply, slot_of, with_reply}
 use Rattle.ht_owner.specs.Effects.{Effect, does, effect, refuses}
 use Rattle.ht_tree.specs.declared.slot.Kept.{Kept}
@@ -23,12 +23,12 @@ use Rattle.ht_tree.specs.declared.slot.Slot.{Slot}
 use Rattle.ht_tree.specs.Plans.{ChangesOf, IsPlanOf, PlanOf, planned, slots_after}
 use Rattle.ht_tree.specs.Slots.{IsNamedBy, IsSoundReply}
 use Rattle.ht_tree.specs.Soundness.{IsSound}
-use Rattle.ht_tree.specs.Tables.{TablesOf, at_moment, directory}
-use Rattle.ht_tree.proofs.PublicLaws.{keeping_fits, keeping_planned, slot_sound, sound_at, within}
+use Rattle.ht_tree.specs.Tables.{TablesOf, directory}
+use Rattle.ht_tree.proofs.PublicLaws.{keeping_fits, keeping_planned, slot_sound, within}
 
 -- where nothing more changes
-pub stays_leaves : (t : TablesOf) (p : PlanOf) → IsPlanOf t p → IsSound (planned t p) → Leaves t p None (planned t p)
-stays_leaves t p fit sound = record { fits = fit; makes = refl; sound = sound; later = omega arith }
+pub stays : (t : TablesOf) (p : PlanOf) → IsPlanOf t p → IsSound (planned t p) → Makes t p None (planned t p)
+stays t p fit sound = record { fits = fit; makes = refl; sound = sound; later = omega arith; within = sound.last_within }
 
 pub none_found : {A : Type 0} (o : Option A) → ((x : A) → o ≡ Some x → ⊥) → o ≡ None
 none_found None other = refl
@@ -114,13 +114,14 @@ module _ (t : TablesOf) (p q : PlanOf) (person : ℕ) (a : Ask) (ready : IsReady
         let names_task = named (planned t p) person a.at.0 a.task a.command.now v about.0 (length u.rows) came.comes is.task place in
         let kept : IsSound (W u) = with_reply_sound u person a.retry op a.task reply made known is.retry names_task (reply_is_sound u about.0 reply made shows names) in
         record {
-          after = at_moment (W v) a.at.0;
+          after = W v;
           asks = (accepted v about.0, came.comes, (reply, subst A (came.goes).to shows, refl, refl, refl));
-          leaves = record {
+          makes = record {
             fits = keeping_reply_fits t q person a.retry op a.task reply (came.goes).fits;
-            makes = ap (λ (x : TablesOf). at_moment x a.at.0) (keeping_reply_planned t q person a.retry op a.task reply fresh ∙ ap W (came.goes).to);
-            sound = sound_at (W v) a.at.0 (let K : TablesOf → Type 0 = λ x. IsSound (W x) in subst K (came.goes).to kept) is.within;
+            makes = keeping_reply_planned t q person a.retry op a.task reply fresh ∙ ap W (came.goes).to;
+            sound = let K : TablesOf → Type 0 = λ x. IsSound (W x) in subst K (came.goes).to kept;
             later = later;
+            within = is.within;
           };
         }
 
@@ -131,11 +132,11 @@ module _ (t : TablesOf) (p q : PlanOf) (person : ℕ) (a : Ask) (ready : IsReady
       is
       ∙ ap (λ (m : ChangesOf). let x : PlanOf = record { changes = m; marked = m } in x) (same ∙ ready.marked)
       ∙ ap (λ (m : ChangesOf). let x : PlanOf = record { changes = p.changes; marked = m } in x) (sym ready.marked) in
-      let L : PlanOf → Type 0 = λ x. Leaves t x None (planned t p) in
+      let M : PlanOf → Type 0 = λ x. Makes t x None (planned t p) in
       record {
         after = planned t p;
         asks = (refused why, comes, ((refl, refl), refl));
-        leaves = subst L (sym once_more) (stays_leaves t p ready.fits ready.sound);
+        makes = subst M (sym once_more) (stays t p ready.fits ready.sound);
       }
 
 -- ---- any command
@@ -156,5 +157,5 @@ module _ (t : TablesOf) (p : PlanOf) (a : Ask) (op : Op) (sending : Sending) (na
   idle_asked answer asks = record {
     after = planned t p;
     asks = record { sending = sending; sent = known; asks = asks };
-    leaves = stays_leaves t p ready.fits ready.sound;
+    makes = stays t p ready.fits ready.sound;
   }

@@ -1,38 +1,62 @@
 -- What comes of a create.
-use Rattle.std.proofs.Common.{◌≡◌, ℕ, ◌+◌, List, [], ◌∷◌, length, Option, None, Some, Ok, Err, refl, ap, sym, subst, ◌∙◌, Bool, if◌then◌else◌, eq-eqb, arith}
+use Rattle.std.proofs.Common.{◌≡◌, ℕ, ◌+◌, List, [], ◌∷◌, length, Option, None, Some, Ok, Err, refl, ap, sym, subst, ◌∙◌, Bool, true, if◌then◌else◌, eq-eqb, arith}
+use Rattle.std.proofs.lemmas.Bool.{false_from_ne_true}
+use Rattle.std.proofs.lemmas.Bool.Decides.{nat_tests}
+use Rattle.std.specs.Option.{option_and_then}
+use Rattle.std.specs.Prelude.{is_some}
 use Rattle.ht_base.specs.declared.moment.Moment.{Moment}
 use Rattle.ht_base.specs.declared.parts.Parts.{Parts}
 use Rattle.ht_base.specs.declared.reply.Limit.TheVariants.{Tasks}
 use Rattle.ht_base.specs.declared.reply.Refusal.{Refusal}
 use Rattle.ht_base.specs.declared.reply.Refusal.TheVariants as refusal
+use Rattle.ht_base.specs.declared.reply.Unknown.TheVariants as unknown
 use Rattle.ht_base.specs.declared.task_id.TaskId.{TaskId}
 use Rattle.ht_base.specs.declared.values.Values.{Values}
 use Rattle.ht_compose.specs.Items.Item.{Activate}
 use Rattle.ht_compose.specs.Reaching.{IsTask}
 use Rattle.ht_compose.specs.Running.{Runs}
-use Rattle.ht_machine.specs.Commands.{ActivatesUnless, Creates, CreatesAt, CreatesNamed, CreatesOf, CreatesUnless, Outcome, accepted, new_task, refused, why_not_created}
+use Rattle.ht_machine.specs.Commands.{ActivatesUnless, Creates, first_of, is_full, limit_at, new_task, place_named, refused, refused_input, too_many, unknown_model, why_not, why_not_created}
 use Rattle.ht_machine.specs.Planning.{Does, Finds, IsActivated, Tries, refusal_of}
 use Rattle.ht_models.specs.Model.{ModelOf}
+use Rattle.ht_owner.specs.declared.refusal.ActRefusal.TheVariants as act
 use Rattle.ht_tree.specs.declared.creating.CreateRefusal.{CreateRefusal}
 use Rattle.ht_tree.specs.declared.creating.CreateRefusal.TheVariants as create
 use Rattle.ht_tree.specs.Creating.{IsFull, new_row}
 use Rattle.ht_tree.specs.Plans.{Goes, IsNext, PlanOf, planned}
 use Rattle.ht_tree.specs.Rows.{row_at}
-use Rattle.ht_tree.specs.Tables.{TablesOf, directory, model_at, model_named, with_row}
+use Rattle.ht_tree.specs.Tables.{TablesOf, directory, model_at, with_row}
 use Rattle.ht_tree.proofs.PublicLaws.{goes_then, row_at-put_in}
 
 -- ---- the model that is found
 
-at_place : (t u : TablesOf) (caller moment place : ℕ) (input : Parts) (waits : Option Moment) (named : Option (List ℕ)) (o : Outcome) → t.models ≡ u.models → Finds t named (Ok place) → CreatesAt u caller moment place input waits o → Creates u caller moment named input waits o
-at_place t u caller moment place input waits None o same finds creates = let P : ℕ → Type 0 = λ k. CreatesAt u caller moment k input waits o in subst P finds creates
-at_place t u caller moment place input waits (Some name) o same finds creates =
-    let found : model_named u name ≡ Some place = ap (λ (ms : List ModelOf). model_named (record u { models = ms }) name) (sym same) ∙ finds in
-    let P : Option ℕ → Type 0 = λ k. CreatesNamed u caller moment name input waits k o in
-    subst P (sym found) creates
+place_is : (u : TablesOf) (named : Option (List ℕ)) (place : ℕ) → Finds u named (Ok place) → place_named u named ≡ Some place
+place_is u None place finds = ap Some (sym finds)
+place_is u (Some name) place finds = finds
 
--- where nothing speaks against it
-unless_none : (u : TablesOf) (caller moment place : ℕ) (input : Parts) (waits : Option Moment) (m : ModelOf) (o : Outcome) → why_not_created (directory u) m input ≡ None → CreatesOf u caller moment place input waits m o → CreatesUnless u caller moment place input waits m (why_not_created (directory u) m input) o
-unless_none u caller moment place input waits m o none creates = let P : Option Refusal → Type 0 = λ why. CreatesUnless u caller moment place input waits m why o in subst P (sym none) creates
+known : (u : TablesOf) (named : Option (List ℕ)) (place : ℕ) → Finds u named (Ok place) → unknown_model u named ≡ None
+known u None place finds = refl
+known u (Some name) place finds = ap (λ (o : Option ℕ). if is_some o then None else Some (refusal.Unknown (unknown.Model name))) finds
+
+-- what speaks against it then
+why_of : (u : TablesOf) (named : Option (List ℕ)) (place : ℕ) (input : Parts) (m : ModelOf) → Finds u named (Ok place) → model_at u place ≡ Some m → why_not u named input ≡ first_of (None ∷ why_not_created (directory u) m input ∷ limit_at u place ∷ [])
+why_of u named place input m finds at =
+    let its = place_is u named place finds in
+    ap (λ (o : Option Refusal). first_of (o ∷ refused_input u named input ∷ too_many u named ∷ [])) (known u named place finds)
+    ∙ ap (λ (o : Option ℕ). first_of (None ∷ option_and_then (λ x. why_not_created (directory u) x input) (option_and_then (model_at u) o) ∷ option_and_then (limit_at u) o ∷ [])) its
+    ∙ ap (λ (o : Option ModelOf). first_of (None ∷ option_and_then (λ x. why_not_created (directory u) x input) o ∷ limit_at u place ∷ [])) at
+
+not_full : (u : TablesOf) (place : ℕ) → (IsFull u place → ⊥) → limit_at u place ≡ None
+not_full u place room = ap (λ (b : Bool). if b then Some (refusal.Limit Tasks) else None) (false_from_ne_true (is_full u place) (λ full. room (grind (arith, nat_tests))))
+
+it_is_full : (u : TablesOf) (place : ℕ) → IsFull u place → limit_at u place ≡ Some (refusal.Limit Tasks)
+it_is_full u place full = let yes : is_full u place ≡ true = grind (arith, nat_tests) in ap (λ (b : Bool). if b then Some (refusal.Limit Tasks) else None) yes
+
+-- no model has the name
+pub not_found : (u : TablesOf) (named : Option (List ℕ)) (input : Parts) (other : Refusal) → Finds u named (Err (act.Refused other)) → why_not u named input ≡ Some other
+not_found u None input other finds = absurd finds
+not_found u (Some name) input other finds =
+    ap (λ (o : Option ℕ). first_of ((if is_some o then None else Some (refusal.Unknown (unknown.Model name))) ∷ refused_input u (Some name) input ∷ too_many u (Some name) ∷ [])) finds.0
+    ∙ ap Some (sym finds.1)
 
 -- ---- it is created, and activated
 
@@ -56,7 +80,15 @@ created t old mid new caller at place input waits named m task finds is fine roo
     let A : TablesOf → Type 0 = λ x. ActivatesUnless at waits task.0 x w in
     record {
       after = w;
-      comes = at_place t u caller at.0 place input waits named (accepted w task.0) refl finds (m, is, unless_none u caller at.0 place input waits m (accepted w task.0) fine (room, number, subst A first.to plans.activates));
+      comes = (
+        why_of u named place input m finds is ∙ ap (λ (o : Option Refusal). first_of (None ∷ o ∷ limit_at u place ∷ [])) fine ∙ ap (λ (o : Option Refusal). first_of (None ∷ None ∷ o ∷ [])) (not_full u place room),
+        place,
+        m,
+        place_is u named place finds,
+        is,
+        number,
+        subst A first.to plans.activates,
+      );
       goes = goes_then t old mid new u u1 w first plans.goes;
       sound = λ sound. plans.sound;
       row = plans.row;
@@ -71,16 +103,19 @@ activated t old new at task there runs =
 
 -- ---- or there are too many tasks
 
-pub not_created : (t u : TablesOf) (caller moment place : ℕ) (input : Parts) (waits : Option Moment) (named : Option (List ℕ)) (m : ModelOf) → t.models ≡ u.models → Finds t named (Ok place) → model_at u place ≡ Some m → why_not_created (directory u) m input ≡ None → IsFull u place → Creates u caller moment named input waits (refused (refusal.Limit Tasks))
-not_created t u caller moment place input waits named m same finds at fine full = at_place t u caller moment place input waits named (refused (refusal.Limit Tasks)) same finds (m, at, unless_none u caller moment place input waits m (refused (refusal.Limit Tasks)) fine (full, refl))
+not_created : (u : TablesOf) (place : ℕ) (input : Parts) (named : Option (List ℕ)) (m : ModelOf) → Finds u named (Ok place) → model_at u place ≡ Some m → why_not_created (directory u) m input ≡ None → IsFull u place → why_not u named input ≡ Some (refusal.Limit Tasks)
+not_created u place input named m finds at fine full =
+    why_of u named place input m finds at
+    ∙ ap (λ (o : Option Refusal). first_of (None ∷ o ∷ limit_at u place ∷ [])) fine
+    ∙ ap (λ (o : Option Refusal). first_of (None ∷ None ∷ o ∷ [])) (it_is_full u place full)
 
 pub refused_create : (t : TablesOf) (old new : PlanOf) (caller moment place : ℕ) (input : Parts) (waits : Option Moment) (named : Option (List ℕ)) (m : ModelOf) (why : CreateRefusal) → Finds t named (Ok place) → model_at t place ≡ Some m → why_not_created (directory t) m input ≡ None → (why ≡ create.TaskLimit → IsFull (planned t old) place) → new ≡ old → Tries t old new (Creates (planned t old) caller moment named input waits) (Err (refusal_of why))
 refused_create t old new caller moment place input waits named m create.Memory finds at fine full same = tt
-refused_create t old new caller moment place input waits named m create.TaskLimit finds at fine full same = (not_created t (planned t old) caller moment place input waits named m refl finds at fine (full refl), ap (λ (p : PlanOf). p.marked) same)
+refused_create t old new caller moment place input waits named m create.TaskLimit finds at fine full same = (not_created (planned t old) place input named m finds at fine (full refl), ap (λ (p : PlanOf). p.marked) same)
 
 -- ---- or its model can't be used yet
 
 pub spoken_against : (t : TablesOf) (old : PlanOf) (caller moment place : ℕ) (input : Parts) (waits : Option Moment) (named : Option (List ℕ)) (m : ModelOf) (why : Refusal) → Finds t named (Ok place) → model_at t place ≡ Some m → why_not_created (directory t) m input ≡ Some why → Creates (planned t old) caller moment named input waits (refused why)
 spoken_against t old caller moment place input waits named m why finds at against =
-    let P : Option Refusal → Type 0 = λ w. CreatesUnless (planned t old) caller moment place input waits m w (refused why) in
-    at_place t (planned t old) caller moment place input waits named (refused why) refl finds (m, at, subst P (sym against) refl)
+    let u = planned t old in
+    why_of u named place input m finds at ∙ ap (λ (o : Option Refusal). first_of (None ∷ o ∷ limit_at u place ∷ [])) against

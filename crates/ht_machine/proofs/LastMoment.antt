@@ -2,15 +2,12 @@
 use Rattle.std.proofs.Common.{◌≡◌, ℕ, zero, suc, List, [], ◌∷◌, Option, None, Some, if◌then◌else◌, refl, ap, ◌∙◌}
 use Rattle.ht_base.specs.declared.event.Command.{Command}
 use Rattle.ht_base.specs.declared.event.Command.TheVariants as command
-use Rattle.ht_base.specs.declared.event.Event.{Event}
-use Rattle.ht_base.specs.declared.event.Event.TheVariants.{Ask, Read, Turn}
 use Rattle.ht_base.specs.declared.moment.Moment.{Moment}
 use Rattle.ht_base.specs.declared.operation.Op.{Op}
 use Rattle.ht_base.specs.declared.parts.Parts.{Parts}
 use Rattle.ht_base.specs.declared.record.Record.{Record}
 use Rattle.ht_base.specs.declared.record.Record.TheVariants.{Asked}
 use Rattle.ht_base.specs.declared.reply.Answer.{Answer}
-use Rattle.ht_base.specs.declared.reply.Refusal.{Refusal}
 use Rattle.ht_base.specs.declared.retry.Retry.{Retry}
 use Rattle.ht_base.specs.declared.task_id.TaskId.{TaskId}
 use Rattle.ht_base.specs.Events.{op_of}
@@ -25,8 +22,8 @@ use Rattle.ht_escalate.proofs.PublicLaws.{takes_at_moment}
 use Rattle.ht_machine.specs.declared.sending.Sending.{Sending}
 use Rattle.ht_machine.specs.declared.sending.Sending.TheVariants as sending
 use Rattle.ht_machine.specs.declared.sending.Sending.TheVariants.{New, Answered}
-use Rattle.ht_machine.specs.Commands.{ActivatesUnless, ActsOn, AfterEffect, BehindGate, Comes, Creates, CreatesAt, CreatesNamed, CreatesOf, CreatesUnless, DoesOn, GathersFirst, HasEffect, MakesEntry, Outcome, accepted, new_task, refused, waits_until, why_not_created}
-use Rattle.ht_machine.specs.Deciding.{AsksAs, Leads, Settles}
+use Rattle.ht_machine.specs.Commands.{ActivatesUnless, ActsOn, AfterEffect, BehindGate, Comes, Creates, DoesOn, GathersFirst, HasEffect, MakesEntry, Outcome, accepted, new_task, refused, waits_until}
+use Rattle.ht_machine.specs.Deciding.{Asks, AsksAs, Settles}
 use Rattle.ht_machine.specs.Following.{Spreads}
 use Rattle.ht_machine.specs.Gate.{Gate, gate, opens, shuts}
 use Rattle.ht_machine.specs.Sending.{with_reply}
@@ -39,7 +36,7 @@ use Rattle.ht_owner.specs.declared.follow.Follow.TheVariants.{Began, Freed, Held
 use Rattle.ht_owner.specs.Effects.{Effect, does, effect, refuses}
 use Rattle.ht_tree.specs.declared.row.Row.{Row}
 use Rattle.ht_tree.specs.declared.slot.Kept.{Kept}
-use Rattle.ht_tree.specs.Tables.{TablesOf, at_moment, directory, model_named, with_row}
+use Rattle.ht_tree.specs.Tables.{TablesOf, at_moment, directory, with_row}
 
 module _ (last : ℕ) where
   abbrev with_last : TablesOf → TablesOf
@@ -92,24 +89,9 @@ module _ (last : ℕ) where
     abbrev now : Moment
     now = record { 0 = moment }
 
-    of_model : (place : ℕ) (input : Parts) (waits : Option Moment) (m : ModelOf) (o : Outcome) → CreatesOf u caller moment place input waits m o → CreatesOf (with_last u) caller moment place input waits m (then_with_last o)
-    of_model place input waits m (accepted v task) (room, is, act) = (room, is, activates now waits task (with_row u (new_task u caller moment place input waits m)) v act)
-    of_model place input waits m (refused why) is = is
-
-    unless : (place : ℕ) (input : Parts) (waits : Option Moment) (m : ModelOf) (why : Option Refusal) (o : Outcome) → CreatesUnless u caller moment place input waits m why o → CreatesUnless (with_last u) caller moment place input waits m why (then_with_last o)
-    unless place input waits m None o is = of_model place input waits m o is
-    unless place input waits m (Some why) o is = ap then_with_last is
-
-    at_place : (place : ℕ) (input : Parts) (waits : Option Moment) (o : Outcome) → CreatesAt u caller moment place input waits o → CreatesAt (with_last u) caller moment place input waits (then_with_last o)
-    at_place place input waits o (m, listed, is) = (m, listed, unless place input waits m (why_not_created (directory u) m input) o is)
-
-    named : (name : List ℕ) (input : Parts) (waits : Option Moment) (place : Option ℕ) (o : Outcome) → CreatesNamed u caller moment name input waits place o → CreatesNamed (with_last u) caller moment name input waits place (then_with_last o)
-    named name input waits None o is = ap then_with_last is
-    named name input waits (Some place) o is = at_place place input waits o is
-
     creates : (model : Option (List ℕ)) (input : Parts) (waits : Option Moment) (o : Outcome) → Creates u caller moment model input waits o → Creates (with_last u) caller moment model input waits (then_with_last o)
-    creates None input waits o is = at_place 0 input waits o is
-    creates (Some name) input waits o is = named name input waits (model_named u name) o is
+    creates model input waits (accepted v task) (fine, place, m, at, of, number, act) = (fine, place, m, at, of, number, activates now waits task (with_row u (new_task u caller moment place input waits m)) v act)
+    creates model input waits (refused why) is = is
 
     makes : (task : ℕ) (name : List ℕ) (entry : Option ℕ) (o : Outcome) → MakesEntry u moment task name entry o → MakesEntry (with_last u) moment task name entry (then_with_last o)
     makes task name None o is = ap then_with_last is
@@ -149,22 +131,20 @@ module _ (last : ℕ) where
   abbrev Meets : (TablesOf → Type 0) → TablesOf → Type 0
   Meets Left after = (other : TablesOf) × Left other × (with_last after ≡ with_last other)
 
-  settles : (u : TablesOf) (moment person : ℕ) (retry : Option Retry) (op : Op) (task : TaskId) (asked : Record) (o : Outcome) (left : Option Record) (answer : Answer) (after : TablesOf) → Settles u moment person retry op task asked o left answer after → Meets (Settles (with_last u) moment person retry op task asked (then_with_last o) left answer) after
-  settles u moment person retry op task asked (accepted v about) left answer after (reply, shows, kept, is, told) =
-      let other = at_moment (with_reply (with_last v) person retry op task reply) moment in
+  settles : (u : TablesOf) (person : ℕ) (retry : Option Retry) (op : Op) (task : TaskId) (asked : Record) (o : Outcome) (left : Option Record) (answer : Answer) (after : TablesOf) → Settles u person retry op task asked o left answer after → Meets (Settles (with_last u) person retry op task asked (then_with_last o) left answer) after
+  settles u person retry op task asked (accepted v about) left answer after (reply, shows, kept, is, told) =
+      let other = with_reply (with_last v) person retry op task reply in
       (other, (reply, shows, kept, refl, told), ap with_last is ∙ replied v person retry op task reply)
-  settles u moment person retry op task asked (refused why) left answer after ((none, is), told) = (with_last u, ((none, refl), told), ap with_last is)
+  settles u person retry op task asked (refused why) left answer after ((none, is), told) = (with_last u, ((none, refl), told), ap with_last is)
 
   asks_as : (u : TablesOf) (moment : ℕ) (retry : Option Retry) (task : TaskId) (c : Command) (asked : Record) (known : Sending) (left : Option Record) (answer : Answer) (after : TablesOf) → AsksAs u moment retry task c asked known left answer after → Meets (AsksAs (with_last u) moment retry task c asked known left answer) after
   asks_as u moment retry task c asked (New person) left answer after (o, is, settled) =
-      let found = settles u moment person retry (op_of c) task asked o left answer after settled in
+      let found = settles u person retry (op_of c) task asked o left answer after settled in
       (found.0, (then_with_last o, comes u person moment task.0 c o is, found.1), found.2)
   asks_as u moment retry task c asked (Answered reply) left answer after ((none, is), told) = (with_last u, ((none, refl), told), ap with_last is)
   asks_as u moment retry task c asked (sending.Refused why) left answer after ((none, is), told) = (with_last u, ((none, refl), told), ap with_last is)
 
-  pub leads_with_last : (u : TablesOf) (moment : ℕ) (e : Event) (left : Option Record) (answer : Answer) (after : TablesOf) → Leads u moment e left answer after → Meets (Leads (with_last u) moment e left answer) after
-  leads_with_last u moment (Turn at) left answer after ((none, is), told) = (with_last u, ((none, refl), told), ap with_last is)
-  leads_with_last u moment (Read caller what) left answer after ((none, is), told) = (with_last u, ((none, refl), told), ap with_last is)
-  leads_with_last u moment (Ask at caller retry task c) left answer after asks =
+  pub asks_with_last : (u : TablesOf) (moment : ℕ) (caller : List ℕ) (retry : Option Retry) (task : TaskId) (c : Command) (left : Option Record) (answer : Answer) (after : TablesOf) → Asks u moment caller retry task c left answer after → Meets (Asks (with_last u) moment caller retry task c left answer) after
+  asks_with_last u moment caller retry task c left answer after asks =
       let found = asks_as u moment retry task c (Asked (record { 0 = moment }) caller retry task c) asks.sending left answer after asks.asks in
       (found.0, record { sending = asks.sending; sent = asks.sent; asks = found.1 }, found.2)

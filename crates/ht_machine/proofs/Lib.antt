@@ -8,11 +8,13 @@ mod Filtered
 mod Firsts
 mod Followed
 mod LastMoment
+mod Left
 mod MadeByHand
 mod OldAndNew
 mod OneOutcome
 mod OneTurn
 mod PartsShown
+pub mod PublicLaws
 mod Remembering
 mod Rows
 mod StillTaken

@@ -9,13 +9,12 @@ use Rattle.ht_base.specs.declared.parts.Parts.{Parts}
 use Rattle.ht_base.specs.declared.record.Record.{Record}
 use Rattle.ht_base.specs.declared.record.Record.TheVariants.{Asked}
 use Rattle.ht_base.specs.declared.reply.Answer.{Answer}
-use Rattle.ht_base.specs.declared.reply.Refusal.{Refusal}
 use Rattle.ht_base.specs.declared.reply.Reply.{Reply}
 use Rattle.ht_base.specs.declared.operation.Op.{Op}
 use Rattle.ht_base.specs.declared.retry.Retry.{Retry}
 use Rattle.ht_base.specs.declared.task_id.TaskId.{TaskId}
 use Rattle.ht_base.specs.Events.{op_of}
-use Rattle.ht_machine.specs.Commands.{ActivatesUnless, ActsOn, AfterEffect, BehindGate, Comes, Creates, CreatesAt, CreatesNamed, CreatesOf, CreatesUnless, DoesOn, GathersFirst, HasEffect, MakesEntry, Outcome, accepted, new_task, refused, waits_until, why_not_created}
+use Rattle.ht_machine.specs.Commands.{ActivatesUnless, ActsOn, AfterEffect, BehindGate, Comes, Creates, DoesOn, GathersFirst, HasEffect, MakesEntry, Outcome, accepted, new_task, place_named, refused, waits_until, why_not}
 use Rattle.ht_compose.proofs.PublicLaws.{determined, one_end, one_gathered}
 use Rattle.ht_compose.specs.Agenda.{Ends}
 use Rattle.ht_compose.specs.ByHand.{IsEntryOf, entry_of}
@@ -26,7 +25,7 @@ use Rattle.ht_compose.specs.Items.Item.{Activate, Begin, Close, Make}
 use Rattle.ht_machine.specs.declared.sending.Sending.{Sending}
 use Rattle.ht_machine.specs.declared.sending.Sending.TheVariants as sending
 use Rattle.ht_machine.specs.declared.sending.Sending.TheVariants.{New, Answered}
-use Rattle.ht_machine.specs.Deciding.{AsksAs, Decides, DecidesAt, Leads, Settles, Shows, after_with, done, effective, left_with}
+use Rattle.ht_machine.specs.Deciding.{Asks, AsksAs, Behind, Decides, Doing, Rests, Settles, Shows, done, effective, kept_at, left_with}
 use Rattle.ht_machine.specs.Gate.{Gate, gate, opens, shuts}
 use Rattle.ht_machine.specs.Following.{Spreads}
 use Rattle.ht_machine.specs.Sending.{ByCaller, ByLast, BySlot, answer_of, with_reply}
@@ -42,7 +41,7 @@ use Rattle.ht_people.specs.Directory.{find}
 use Rattle.ht_tree.specs.declared.row.Row.{Row}
 use Rattle.ht_tree.specs.declared.slot.Kept.{Kept}
 use Rattle.ht_tree.specs.declared.slot.Slot.{Slot}
-use Rattle.ht_tree.specs.Tables.{TablesOf, at_moment, device_slot, directory, model_at, model_named, model_of, task_row, with_row, with_rows}
+use Rattle.ht_tree.specs.Tables.{TablesOf, device_slot, directory, model_at, model_of, task_row, with_row, with_rows}
 
 both : (u v : TablesOf) (m n : ℕ) → u ≡ v → m ≡ n → accepted u m ≡ accepted v n
 both u v m n e f = ap (λ x. accepted x m) e ∙ ap (λ k. accepted v k) f
@@ -58,33 +57,21 @@ same_activation : (at : Moment) (waits : Option Moment) (task : ℕ) (u v w : Ta
 same_activation at None task u v w a b = same_end at u v w (Activate task ∷ []) a b
 same_activation at (Some m) task u v w a b = a ∙ sym b
 
-same_new : (u : TablesOf) (caller moment place : ℕ) (input : Parts) (waits : Option Moment) (m : ModelOf) (o p : Outcome) → CreatesOf u caller moment place input waits m o → CreatesOf u caller moment place input waits m p → o ≡ p
-same_new u caller moment place input waits m (accepted v j) (accepted w k) a b =
-    let task : j ≡ k = a.1 ∙ sym b.1 in
-    let u1 = with_row u (new_task u caller moment place input waits m) in
-    let A : ℕ → Type 0 = λ n. ActivatesUnless (record { 0 = moment }) waits n u1 v in
-    both v w j k (same_activation (record { 0 = moment }) waits k u1 v w (subst A task a.2) b.2) task
-same_new u caller moment place input waits m (accepted v j) (refused why) a b = absurd (a.0 b.0)
-same_new u caller moment place input waits m (refused why) (accepted w k) a b = absurd (b.0 a.0)
-same_new u caller moment place input waits m (refused why) (refused other) a b = ap refused (a.1 ∙ sym b.1)
-
-same_unless : (u : TablesOf) (caller moment place : ℕ) (input : Parts) (waits : Option Moment) (m : ModelOf) (why : Option Refusal) (o p : Outcome) → CreatesUnless u caller moment place input waits m why o → CreatesUnless u caller moment place input waits m why p → o ≡ p
-same_unless u caller moment place input waits m None o p a b = same_new u caller moment place input waits m o p a b
-same_unless u caller moment place input waits m (Some why) o p a b = a ∙ sym b
-
-same_at : (u : TablesOf) (caller moment place : ℕ) (input : Parts) (waits : Option Moment) (o p : Outcome) → CreatesAt u caller moment place input waits o → CreatesAt u caller moment place input waits p → o ≡ p
-same_at u caller moment place input waits o p (m, at, a) (n, found, b) =
-    let same = one (model_at u place) m n at found in
-    let P : ModelOf → Type 0 = λ x. CreatesUnless u caller moment place input waits x (why_not_created (directory u) x input) o in
-    same_unless u caller moment place input waits n (why_not_created (directory u) n input) o p (subst P same a) b
+not_both : {A : Type 0} {o : Option A} {x : A} → o ≡ None → o ≡ Some x → ⊥
+not_both none some = cc
 
 same_create : (u : TablesOf) (caller moment : ℕ) (name : Option (List ℕ)) (input : Parts) (waits : Option Moment) (o p : Outcome) → Creates u caller moment name input waits o → Creates u caller moment name input waits p → o ≡ p
-same_create u caller moment None input waits o p a b = same_at u caller moment 0 input waits o p a b
-same_create u caller moment (Some name) input waits o p a b = at (model_named u name) a b
-  where
-    at : (k : Option ℕ) → CreatesNamed u caller moment name input waits k o → CreatesNamed u caller moment name input waits k p → o ≡ p
-    at None a b = a ∙ sym b
-    at (Some place) a b = same_at u caller moment place input waits o p a b
+same_create u caller moment name input waits (accepted v j) (accepted w k) (fine, place, m, at, of, number, act) (fine_too, q, n, at_too, of_too, number_too, act_too) =
+    let same_place = one (place_named u name) place q at at_too in
+    let same_model = one (model_at u q) m n (ap (λ (x : ℕ). model_at u x) (sym same_place) ∙ of) of_too in
+    let task : j ≡ k = number ∙ sym number_too in
+    let now : Moment = record { 0 = moment } in
+    let A : ℕ → ℕ → ModelOf → Type 0 = λ i x y. ActivatesUnless now waits i (with_row u (new_task u caller moment x input waits y)) v in
+    let first : A k q n = subst (λ (y : ModelOf). A k q y) same_model (subst (λ (x : ℕ). A k x m) same_place (subst (λ (i : ℕ). A i place m) task act)) in
+    both v w j k (same_activation now waits k (with_row u (new_task u caller moment q input waits n)) v w first act_too) task
+same_create u caller moment name input waits (accepted v j) (refused why) a b = absurd (not_both a.0 b)
+same_create u caller moment name input waits (refused why) (accepted w k) a b = absurd (not_both b.0 a)
+same_create u caller moment name input waits (refused why) (refused other) a b = ap refused (one (why_not u name input) why other a b)
 
 -- ---- the other commands
 
@@ -190,31 +177,32 @@ pub record AreSame (k l : Option Record) (a b : Answer) (u v : TablesOf) : Type 
   pub answer : a ≡ b
   pub after : u ≡ v
 
-same_settled : (t : TablesOf) (moment person : ℕ) (retry : Option Retry) (op : Op) (task : TaskId) (asked : Record) (o : Outcome) (k l : Option Record) (a b : Answer) (u v : TablesOf) → Settles t moment person retry op task asked o k a u → Settles t moment person retry op task asked o l b v → AreSame k l a b u v
-same_settled t moment person retry op task asked (accepted w about) k l a b u v s r =
+same_settled : (t : TablesOf) (person : ℕ) (retry : Option Retry) (op : Op) (task : TaskId) (asked : Record) (o : Outcome) (k l : Option Record) (a b : Answer) (u v : TablesOf) → Settles t person retry op task asked o k a u → Settles t person retry op task asked o l b v → AreSame k l a b u v
+same_settled t person retry op task asked (accepted w about) k l a b u v s r =
     let reply = same_reply_of w about s.0 r.0 s.1 r.1 in
     record {
       left = s.2 ∙ sym r.2;
       answer = s.4 ∙ ap answer_of reply ∙ sym r.4;
-      after = s.3 ∙ ap (λ (x : Kept). at_moment (with_reply w person retry op task x) moment) reply ∙ sym r.3;
+      after = s.3 ∙ ap (λ (x : Kept). with_reply w person retry op task x) reply ∙ sym r.3;
     }
-same_settled t moment person retry op task asked (refused why) k l a b u v s r = record { left = s.0.0 ∙ sym r.0.0; answer = s.1 ∙ sym r.1; after = s.0.1 ∙ sym r.0.1 }
+same_settled t person retry op task asked (refused why) k l a b u v s r = record { left = s.0.0 ∙ sym r.0.0; answer = s.1 ∙ sym r.1; after = s.0.1 ∙ sym r.0.1 }
 
 same_asks : (t : TablesOf) (moment : ℕ) (retry : Option Retry) (task : TaskId) (c : Command) (asked : Record) (known : Sending) (k l : Option Record) (a b : Answer) (u v : TablesOf) → AsksAs t moment retry task c asked known k a u → AsksAs t moment retry task c asked known l b v → AreSame k l a b u v
 same_asks t moment retry task c asked (New person) k l a b u v s r =
-    let P : Outcome → Type 0 = λ o. Settles t moment person retry (op_of c) task asked o k a u in
-    same_settled t moment person retry (op_of c) task asked r.0 k l a b u v (subst P (same_outcome t person moment task.0 c s.0 r.0 s.1 r.1) s.2) r.2
+    let P : Outcome → Type 0 = λ o. Settles t person retry (op_of c) task asked o k a u in
+    same_settled t person retry (op_of c) task asked r.0 k l a b u v (subst P (same_outcome t person moment task.0 c s.0 r.0 s.1 r.1) s.2) r.2
 same_asks t moment retry task c asked (Answered reply) k l a b u v s r = record { left = s.0.0 ∙ sym r.0.0; answer = s.1 ∙ sym r.1; after = s.0.1 ∙ sym r.0.1 }
 same_asks t moment retry task c asked (sending.Refused why) k l a b u v s r = record { left = s.0.0 ∙ sym r.0.0; answer = s.1 ∙ sym r.1; after = s.0.1 ∙ sym r.0.1 }
 
-pub same_led : (t : TablesOf) (moment : ℕ) (e : Event) (k l : Option Record) (a b : Answer) (u v : TablesOf) → Leads t moment e k a u → Leads t moment e l b v → AreSame k l a b u v
-same_led t moment (Turn at) k l a b u v s r = record { left = s.0.0 ∙ sym r.0.0; answer = s.1 ∙ sym r.1; after = s.0.1 ∙ sym r.0.1 }
-same_led t moment (Ask at caller retry task c) k l a b u v s r =
+pub same_asked : (t : TablesOf) (moment : ℕ) (caller : List ℕ) (retry : Option Retry) (task : TaskId) (c : Command) (k l : Option Record) (a b : Answer) (u v : TablesOf) → Asks t moment caller retry task c k a u → Asks t moment caller retry task c l b v → AreSame k l a b u v
+same_asked t moment caller retry task c k l a b u v s r =
     let asked = Asked (record { 0 = moment }) caller retry task c in
     let P : Sending → Type 0 = λ x. AsksAs t moment retry task c asked x k a u in
     let one_only = same_sending t (op_of c) task retry (find caller (directory t)) s.sending r.sending s.sent r.sent in
     same_asks t moment retry task c asked r.sending k l a b u v (subst P one_only s.asks) r.asks
-same_led t moment (Read caller what) k l a b u v s r = record { left = s.0.0 ∙ sym r.0.0; answer = s.1 ∙ sym r.1; after = s.0.1 ∙ sym r.0.1 }
+
+same_rest : (t : TablesOf) (k l : Option Record) (a b : Answer) (u v : TablesOf) → Rests t k a u → Rests t l b v → AreSame k l a b u v
+same_rest t k l a b u v s r = record { left = s.0.0 ∙ sym r.0.0; answer = s.1 ∙ sym r.1; after = s.0.1 ∙ sym r.0.1 }
 
 -- the record left, the reply and the tables after are the same
 pub record IsOne (k l : Option Record) (r s : Reply) (u v : TablesOf) : Type 0 where
@@ -225,26 +213,23 @@ pub record IsOne (k l : Option Record) (r s : Reply) (u v : TablesOf) : Type 0 w
 same_reply : (r s : Reply) → r.taken ≡ s.taken → r.answer ≡ s.answer → r ≡ s
 same_reply r s taken answer = λ i. record { taken = taken i; answer = answer i }
 
-same_at_moment : (t : TablesOf) (moment : ℕ) (e : Event) (k l : Option Record) (r s : Reply) (u v : TablesOf) → DecidesAt t moment e k r u → DecidesAt t moment e l s v → IsOne k l r s u v
-same_at_moment t moment e k l r s u v a b =
+-- where what is done has one outcome
+same_behind : (t : TablesOf) (moment : ℕ) (Does : Doing) (k l : Option Record) (r s : Reply) (u v : TablesOf) → ((w : TablesOf) (m n : Option Record) (a b : Answer) (x y : TablesOf) → Does w m a x → Does w n b y → AreSame m n a b x y) → Behind t moment Does k r u → Behind t moment Does l s v → IsOne k l r s u v
+same_behind t moment Does k l r s u v one a b =
     let turn = one_turn moment t a.turned b.turned a.dues b.dues a.turn b.turn in
     let n : length a.dues ≡ length b.dues = ap (λ (ds : List Due). length ds) turn.dues in
-    let L : TablesOf → Type 0 = λ w. Leads w moment e a.own r.answer a.acted in
-    let led = same_led b.turned moment e a.own b.own r.answer s.answer a.acted b.acted (subst L turn.after a.leads) b.leads in
+    let D : TablesOf → Type 0 = λ w. Does w a.own r.answer a.acted in
+    let done = one b.turned a.own b.own r.answer s.answer a.acted b.acted (subst D turn.after a.does) b.does in
+    let left = a.left_is ∙ ap (λ (x : ℕ). left_with moment x a.own) n ∙ ap (λ (o : Option Record). left_with moment (length b.dues) o) done.left ∙ sym b.left_is in
     record {
-      left = a.left_is ∙ ap (λ (x : ℕ). left_with moment x a.own) n ∙ ap (λ (o : Option Record). left_with moment (length b.dues) o) led.left ∙ sym b.left_is;
-      reply = same_reply r s (a.taken ∙ n ∙ sym b.taken) led.answer;
-      after =
-          a.after_is
-          ∙ ap (λ (x : ℕ). after_with moment x a.own a.acted) n
-          ∙ ap (λ (o : Option Record). after_with moment (length b.dues) o a.acted) led.left
-          ∙ ap (λ (w : TablesOf). after_with moment (length b.dues) b.own w) led.after
-          ∙ sym b.after_is;
+      left = left;
+      reply = same_reply r s (a.taken ∙ n ∙ sym b.taken) done.answer;
+      after = a.after_is ∙ ap (λ (o : Option Record). kept_at o a.acted) left ∙ ap (λ (w : TablesOf). kept_at l w) done.after ∙ sym b.after_is;
     }
 
 pub same : (t : TablesOf) (e : Event) (k l : Option Record) (r s : Reply) (u v : TablesOf) → Decides t e k r u → Decides t e l s v → IsOne k l r s u v
-same t (Turn at) k l r s u v a b = same_at_moment t (effective t at.0) (Turn at) k l r s u v a b
-same t (Ask at caller retry task c) k l r s u v a b = same_at_moment t (effective t at.0) (Ask at caller retry task c) k l r s u v a b
-same t (Read caller what) k l r s u v a b =
-    let led = same_led t t.last (Read caller what) k l r.answer s.answer u v a.1 b.1 in
-    record { left = led.left; reply = same_reply r s (a.0 ∙ sym b.0) led.answer; after = led.after }
+same t (Turn at) k l r s u v a b = same_behind t (effective t at.0) Rests k l r s u v same_rest a b
+same t (Ask at caller retry task c) k l r s u v a b =
+    let moment = effective t at.0 in
+    same_behind t moment (λ w. Asks w moment caller retry task c) k l r s u v (λ w m n x y p q. same_asked w moment caller retry task c m n x y p q) a b
+same t (Read caller what) k l r s u v a b = record { left = a.0.0 ∙ sym b.0.0; reply = a.1 ∙ sym b.1; after = a.0.1 ∙ sym b.0.1 }

@@ -6,14 +6,12 @@ use Rattle.ht_base.specs.declared.event.Command.TheVariants as command
 use Rattle.ht_base.specs.declared.event.Event.{Event}
 use Rattle.ht_base.specs.declared.event.Event.TheVariants.{Ask, Read, Turn}
 use Rattle.ht_base.specs.declared.operation.Op.{Op}
-use Rattle.ht_base.specs.declared.parts.Parts.{Parts}
 use Rattle.ht_base.specs.declared.record.Record.{Record}
 use Rattle.ht_base.specs.declared.record.Record.TheVariants.{Asked}
 use Rattle.ht_base.specs.declared.reply.Answer.{Answer}
 use Rattle.ht_base.specs.declared.reply.Answer.TheVariants.{Refused}
 use Rattle.ht_base.specs.declared.moment.Moment.{Moment}
 use Rattle.ht_base.specs.declared.reply.Reply.{Reply}
-use Rattle.ht_base.specs.declared.reply.Refusal.{Refusal}
 use Rattle.ht_base.specs.declared.reply.Refusal.TheVariants as refusal
 use Rattle.ht_base.specs.declared.retry.Retry.{Retry}
 use Rattle.ht_base.specs.declared.task_id.TaskId.{TaskId}
@@ -22,8 +20,8 @@ use Rattle.ht_base.specs.Ordered.{AscendBy}
 use Rattle.ht_machine.specs.declared.sending.Sending.{Sending}
 use Rattle.ht_machine.specs.declared.sending.Sending.TheVariants as sending
 use Rattle.ht_machine.specs.declared.sending.Sending.TheVariants.{New, Answered}
-use Rattle.ht_machine.specs.Commands.{ActivatesUnless, ActsOn, AfterEffect, BehindGate, Comes, CreatesAt, CreatesNamed, CreatesUnless, DoesOn, GathersFirst, HasEffect, MakesEntry, Outcome, accepted, new_task, refused, waits_until, why_not_created}
-use Rattle.ht_machine.specs.Deciding.{AsksAs, Decides, DecidesAt, IsIdle, Leads, Settles, after_with, effective, left_with}
+use Rattle.ht_machine.specs.Commands.{ActivatesUnless, ActsOn, AfterEffect, BehindGate, Comes, DoesOn, GathersFirst, HasEffect, MakesEntry, Outcome, accepted, new_task, refused, waits_until}
+use Rattle.ht_machine.specs.Deciding.{Asks, AsksAs, Behind, Decides, Doing, IsIdle, Rests, Settles, effective, kept_at, left_with}
 use Rattle.ht_machine.specs.Gate.{Gate, gate, opens, shuts}
 use Rattle.ht_machine.specs.History.{History, IsHistory, IsStep}
 use Rattle.ht_machine.specs.Once.{ActsOnce, IsAccepted, IsLast, IsOf, IsRepeat, IsSame, IsSince, IsTurnAlone, Remembers}
@@ -42,7 +40,7 @@ use Rattle.ht_people.specs.Directory.{find}
 use Rattle.ht_tree.specs.declared.slot.Kept.{Kept}
 use Rattle.ht_tree.specs.declared.slot.Slot.{Slot}
 use Rattle.ht_tree.specs.Slots.{slot_cmp, slot_in, slots_with}
-use Rattle.ht_tree.specs.Tables.{TablesOf, at_moment, device_slot, directory, model_named, with_row, with_rows}
+use Rattle.ht_tree.specs.Tables.{TablesOf, device_slot, directory, with_row, with_rows}
 use Rattle.ht_tree.proofs.PublicLaws.{new_slot_found, other_slot_found, slot_is, slots_with_ascend}
 
 -- ---- one event
@@ -81,14 +79,14 @@ record LedOnce (u : TablesOf) (e : Event) (own : Option Record) (answer : Answer
   reused : (s : Slot) → IsLast u s → IsOf u s s.number e → (IsSame s e → ⊥) → IsIdle u own acted × (answer ≡ Refused (refusal.NumberReused s.number))
   stale : (s : Slot) (number : ℕ) → IsLast u s → number < s.number → IsOf u s number e → IsIdle u own acted × (answer ≡ Refused (refusal.NumberStale s.number))
 
-led_once : (u : TablesOf) (moment : ℕ) (at : Moment) (caller : List ℕ) (retry : Option Retry) (task : TaskId) (c : Command) (own : Option Record) (answer : Answer) (acted : TablesOf) → Leads u moment (Ask at caller retry task c) own answer acted → LedOnce u (Ask at caller retry task c) own answer acted
-led_once u moment at caller retry task c own answer acted leads =
+led_once : (u : TablesOf) (moment : ℕ) (at : Moment) (caller : List ℕ) (retry : Option Retry) (task : TaskId) (c : Command) (own : Option Record) (answer : Answer) (acted : TablesOf) → Asks u moment caller retry task c own answer acted → LedOnce u (Ask at caller retry task c) own answer acted
+led_once u moment at caller retry task c own answer acted asks =
     let asked = Asked (record { 0 = moment }) caller retry task c in
-    let known = leads.sending in
+    let known = asks.sending in
     record {
-      again = λ s last of same. again_of u moment caller retry task c moment asked own answer acted s known (by_last u moment caller retry task c s s.number known last of leads.sent) same leads.asks;
-      reused = λ s last of differ. reused_of u moment caller retry task c moment asked own answer acted s known (by_last u moment caller retry task c s s.number known last of leads.sent) differ leads.asks;
-      stale = λ s number last low of. stale_of u moment caller retry task c moment asked own answer acted s number known low (by_last u moment caller retry task c s number known last of leads.sent) leads.asks;
+      again = λ s last of same. again_of u moment caller retry task c moment asked own answer acted s known (by_last u moment caller retry task c s s.number known last of asks.sent) same asks.asks;
+      reused = λ s last of differ. reused_of u moment caller retry task c moment asked own answer acted s known (by_last u moment caller retry task c s s.number known last of asks.sent) differ asks.asks;
+      stale = λ s number last low of. stale_of u moment caller retry task c moment asked own answer acted s number known low (by_last u moment caller retry task c s number known last of asks.sent) asks.asks;
     }
 
 -- what a turn keeps
@@ -104,7 +102,7 @@ of_kept t u s number (Turn at) keeps of = absurd of
 of_kept t u s number (Read caller what) keeps of = absurd of
 
 -- a command that does nothing itself
-turn_alone : (t : TablesOf) (at : Moment) (caller : List ℕ) (retry : Option Retry) (task : TaskId) (c : Command) (left : Option Record) (reply : Reply) (after : TablesOf) → (d : DecidesAt t (effective t at.0) (Ask at caller retry task c) left reply after) → IsIdle d.turned d.own d.acted → IsTurnAlone t (Ask at caller retry task c) left after
+turn_alone : (t : TablesOf) (at : Moment) (caller : List ℕ) (retry : Option Retry) (task : TaskId) (c : Command) (left : Option Record) (reply : Reply) (after : TablesOf) → (d : Decides t (Ask at caller retry task c) left reply after) → IsIdle d.turned d.own d.acted → IsTurnAlone t (Ask at caller retry task c) left after
 turn_alone t at caller retry task c left reply after d idle =
     let moment = effective t at.0 in
     record {
@@ -112,14 +110,14 @@ turn_alone t at caller retry task c left reply after d idle =
       dues = d.dues;
       turn = d.turn;
       left_is = d.left_is ∙ ap (λ (o : Option Record). left_with moment (length d.dues) o) idle.0;
-      after_is = d.after_is ∙ ap (λ (o : Option Record). after_with moment (length d.dues) o d.acted) idle.0 ∙ ap (λ (w : TablesOf). after_with moment (length d.dues) None w) idle.1;
+      after_is = d.after_is ∙ ap (λ (w : TablesOf). kept_at left w) idle.1;
     }
 
 pub acts_once : (t : TablesOf) (e : Event) (left : Option Record) (reply : Reply) (after : TablesOf) → Decides t e left reply after → ActsOnce t e left reply.answer after
 acts_once t (Ask at caller retry task c) left reply after d =
     let moment = effective t at.0 in
     let keeps = turn_keeps moment t d.turned d.dues d.turn in
-    let led = led_once d.turned moment at caller retry task c d.own reply.answer d.acted d.leads in
+    let led = led_once d.turned moment at caller retry task c d.own reply.answer d.acted d.does in
     let e = Ask at caller retry task c in
     record {
       again = λ s last of same. let told = led.again s (last_kept t d.turned s keeps last) (of_kept t d.turned s s.number e keeps of) same in (turn_alone t at caller retry task c left reply after d told.0, told.1);
@@ -145,13 +143,6 @@ ends_keep at u v is ends = ap (λ (x : TablesOf). x.slots) (ends_rows at u v is 
 new_keeps : (at : Moment) (waits : Option Moment) (task : ℕ) (u v : TablesOf) → ActivatesUnless at waits task u v → v.slots ≡ u.slots
 new_keeps at None task u v is = ends_keep at u v (Activate task ∷ []) is
 new_keeps at (Some m) task u v is = ap (λ (x : TablesOf). x.slots) is
-
-create_keeps : (u : TablesOf) (caller moment place : ℕ) (input : Parts) (waits : Option Moment) (v : TablesOf) (about : ℕ) → CreatesAt u caller moment place input waits (accepted v about) → v.slots ≡ u.slots
-create_keeps u caller moment place input waits v about made = at (why_not_created (directory u) made.0 input) made.2
-  where
-    at : (why : Option Refusal) → CreatesUnless u caller moment place input waits made.0 why (accepted v about) → v.slots ≡ u.slots
-    at None is = new_keeps (record { 0 = moment }) waits about (with_row u (new_task u caller moment place input waits made.0)) v is.2
-    at (Some why) is = absurd cc
 
 effect_keeps : (u : TablesOf) (moment task : ℕ) (e : Effect) (v : TablesOf) (about : ℕ) → AfterEffect u moment task e (accepted v about) → v.slots ≡ u.slots
 effect_keeps u moment task (does row Began) v about a = ends_keep (record { 0 = moment }) (with_row u row) v (Begin task ∷ []) a.0
@@ -186,12 +177,9 @@ acts_keeps u caller moment task c v about = at (gate u (op_of c) caller task)
     at (shuts why) a = absurd cc
 
 comes_keeps : (u : TablesOf) (caller moment task : ℕ) (c : Command) (v : TablesOf) (about : ℕ) → Comes u caller moment task c (accepted v about) → v.slots ≡ u.slots
-comes_keeps u caller moment task (command.Create None input activate_at) v about comes = create_keeps u caller moment 0 input (waits_until moment activate_at) v about comes
-comes_keeps u caller moment task (command.Create (Some name) input activate_at) v about comes = at (model_named u name) comes
-  where
-    at : (k : Option ℕ) → CreatesNamed u caller moment name input (waits_until moment activate_at) k (accepted v about) → v.slots ≡ u.slots
-    at None is = absurd cc
-    at (Some place) is = create_keeps u caller moment place input (waits_until moment activate_at) v about is
+comes_keeps u caller moment task (command.Create name input activate_at) v about (fine, place, m, at, of, number, act) =
+    let waits = waits_until moment activate_at in
+    new_keeps (record { 0 = moment }) waits about (with_row u (new_task u caller moment place input waits m)) v act
 comes_keeps u caller moment task c v about comes = acts_keeps u caller moment task c v about comes
 
 -- ---- from one state to the next
@@ -267,10 +255,10 @@ module _ (t : TablesOf) (person : ℕ) (op : Op) (task : TaskId) (r : Retry) (re
         ordered = ordered;
       }
 
-slots_after : (t v : TablesOf) (moment person : ℕ) (retry : Option Retry) (op : Op) (task : TaskId) (reply : Kept) (s : Slot) → v.slots ≡ t.slots → ByNumber t person op task retry (New person) → IsSince s t → IsSince s (at_moment (with_reply v person retry op task reply) moment)
-slots_after t v moment person None op task reply s same new h = by_slots s t (at_moment v moment) same h
-slots_after t v moment person (Some r) op task reply s same new h =
-    with_new t person op task r reply s (at_moment (with_reply v person (Some r) op task reply) moment) h new (ap (λ (l : List Slot). slots_with l (slot_of person r op task reply)) same)
+slots_after : (t v : TablesOf) (person : ℕ) (retry : Option Retry) (op : Op) (task : TaskId) (reply : Kept) (s : Slot) → v.slots ≡ t.slots → ByNumber t person op task retry (New person) → IsSince s t → IsSince s (with_reply v person retry op task reply)
+slots_after t v person None op task reply s same new h = by_slots s t v same h
+slots_after t v person (Some r) op task reply s same new h =
+    with_new t person op task r reply s (with_reply v person (Some r) op task reply) h new (ap (λ (l : List Slot). slots_with l (slot_of person r op task reply)) same)
 
 module _ (s : Slot) (t : TablesOf) where
   idle_since : (after : TablesOf) → after ≡ t → IsSince s t → IsSince s after
@@ -279,34 +267,30 @@ module _ (s : Slot) (t : TablesOf) where
   asks_since : (moment : ℕ) (caller : List ℕ) (retry : Option Retry) (task : TaskId) (c : Command) (asked : Record) (known : Sending) (left : Option Record) (answer : Answer) (after : TablesOf) → IsSent t caller retry (op_of c) task known → AsksAs t moment retry task c asked known left answer after → IsSince s t → IsSince s after
   asks_since moment caller retry task c asked (New person) left answer after sent asks h = at asks.0 asks.1 asks.2
     where
-      at : (o : Outcome) → Comes t person moment task.0 c o → Settles t moment person retry (op_of c) task asked o left answer after → IsSince s after
+      at : (o : Outcome) → Comes t person moment task.0 c o → Settles t person retry (op_of c) task asked o left answer after → IsSince s after
       at (accepted v about) comes settles =
           subst (IsSince s) (sym settles.3)
-          (slots_after t v moment person retry (op_of c) task settles.0 s (comes_keeps t person moment task.0 c v about comes) (new_number t (op_of c) task retry (find caller (directory t)) person sent) h)
+          (slots_after t v person retry (op_of c) task settles.0 s (comes_keeps t person moment task.0 c v about comes) (new_number t (op_of c) task retry (find caller (directory t)) person sent) h)
       at (refused why) comes settles = idle_since after settles.0.1 h
   asks_since moment caller retry task c asked (Answered reply) left answer after sent asks h = idle_since after asks.0.1 h
   asks_since moment caller retry task c asked (sending.Refused why) left answer after sent asks h = idle_since after asks.0.1 h
 
-  leads_since : (moment : ℕ) (e : Event) (own : Option Record) (answer : Answer) (acted : TablesOf) → Leads t moment e own answer acted → IsSince s t → IsSince s acted
-  leads_since moment (Ask at caller retry task c) own answer acted leads h = asks_since moment caller retry task c (Asked (record { 0 = moment }) caller retry task c) leads.sending own answer acted leads.sent leads.asks h
-  leads_since moment (Turn at) own answer acted leads h = idle_since acted leads.0.1 h
-  leads_since moment (Read caller what) own answer acted leads h = idle_since acted leads.0.1 h
+with_since : (s : Slot) (left : Option Record) (acted : TablesOf) → IsSince s acted → IsSince s (kept_at left acted)
+with_since s left acted h = by_slots s acted (kept_at left acted) refl h
 
-with_since : (s : Slot) (moment n : ℕ) (own : Option Record) (acted : TablesOf) → IsSince s acted → IsSince s (after_with moment n own acted)
-with_since s moment n (Some k) acted h = h
-with_since s moment zero None acted h = h
-with_since s moment (suc n) None acted h = by_slots s acted (at_moment acted moment) refl h
-
-at_since : (s : Slot) (t : TablesOf) (moment : ℕ) (e : Event) (left : Option Record) (reply : Reply) (after : TablesOf) → DecidesAt t moment e left reply after → IsSince s t → IsSince s after
-at_since s t moment e left reply after d h =
+-- what a turn and what is done behind it leave
+behind_since : (s : Slot) (t : TablesOf) (moment : ℕ) (Does : Doing) (left : Option Record) (reply : Reply) (after : TablesOf) → ((u v : TablesOf) (own : Option Record) (answer : Answer) → Does u own answer v → IsSince s u → IsSince s v) → Behind t moment Does left reply after → IsSince s t → IsSince s after
+behind_since s t moment Does left reply after each d h =
     let turned = by_slots s t d.turned (slots_kept t d.turned (turn_keeps moment t d.turned d.dues d.turn)) h in
-    let acted = leads_since s d.turned moment e d.own reply.answer d.acted d.leads turned in
-    subst (IsSince s) (sym d.after_is) (with_since s moment (length d.dues) d.own d.acted acted)
+    subst (IsSince s) (sym d.after_is) (with_since s left d.acted (each d.turned d.acted d.own reply.answer d.does turned))
 
 decides_since : (s : Slot) (t : TablesOf) (e : Event) (left : Option Record) (reply : Reply) (after : TablesOf) → Decides t e left reply after → IsSince s t → IsSince s after
-decides_since s t (Ask at caller retry task c) left reply after d h = at_since s t (effective t at.0) (Ask at caller retry task c) left reply after d h
-decides_since s t (Turn at) left reply after d h = at_since s t (effective t at.0) (Turn at) left reply after d h
-decides_since s t (Read caller what) left reply after d h = leads_since s t t.last (Read caller what) left reply.answer after d.1 h
+decides_since s t (Ask at caller retry task c) left reply after d h =
+    let moment = effective t at.0 in
+    let asked = Asked (record { 0 = moment }) caller retry task c in
+    behind_since s t moment (λ u. Asks u moment caller retry task c) left reply after (λ u v own answer asks since. asks_since s u moment caller retry task c asked asks.sending own answer v asks.sent asks.asks since) d h
+decides_since s t (Turn at) left reply after d h = behind_since s t (effective t at.0) Rests left reply after (λ u v own answer rests since. idle_since s u v rests.0.1 since) d h
+decides_since s t (Read caller what) left reply after d h = idle_since s t after d.0.1 h
 
 step_since : (s : Slot) (t : TablesOf) (e : Event) (reply : Reply) (after : TablesOf) → IsStep t e reply after → IsSince s t → IsSince s after
 step_since s t e reply after (inl d) h = decides_since s t e d.0 reply after d.1 h
@@ -314,7 +298,7 @@ step_since s t e reply after (inr none) h = idle_since s t after none.1 h
 
 -- ---- a command that is accepted
 
-settled_is_kept : (t : TablesOf) (moment person : ℕ) (caller : List ℕ) (r : Retry) (task : TaskId) (c : Command) (asked kept : Record) (o : Outcome) (answer : Answer) (after : TablesOf) → AscendBy slot_cmp t.slots → IsSent t caller (Some r) (op_of c) task (New person) → Comes t person moment task.0 c o → Settles t moment person (Some r) (op_of c) task asked o (Some kept) answer after → (s : Slot) × IsAccepted t caller r task c answer s × IsSince s after
+settled_is_kept : (t : TablesOf) (moment person : ℕ) (caller : List ℕ) (r : Retry) (task : TaskId) (c : Command) (asked kept : Record) (o : Outcome) (answer : Answer) (after : TablesOf) → AscendBy slot_cmp t.slots → IsSent t caller (Some r) (op_of c) task (New person) → Comes t person moment task.0 c o → Settles t person (Some r) (op_of c) task asked o (Some kept) answer after → (s : Slot) × IsAccepted t caller r task c answer s × IsSince s after
 settled_is_kept t moment person caller r task c asked kept (accepted v about) answer after up sent comes settles =
     let slot = slot_of person r (op_of c) task settles.0 in
     let same = comes_keeps t person moment task.0 c v about comes in
@@ -348,12 +332,12 @@ is_kept t at moment caller r task c reply after up d =
     let ordered : AscendBy slot_cmp (d.turned).slots = subst (AscendBy slot_cmp) (sym (slots_kept t d.turned keeps)) up in
     let kept = Asked moment caller (Some r) task c in
     let own = its_own now (length d.dues) d.own moment caller (Some r) task c d.left_is in
-    let P : Option Record → Type 0 = λ o. AsksAs d.turned now (Some r) task c (Asked (record { 0 = now }) caller (Some r) task c) (d.leads).sending o reply.answer d.acted in
-    let found = accepted_is_kept d.turned now caller r task c (Asked (record { 0 = now }) caller (Some r) task c) kept (d.leads).sending reply.answer d.acted ordered (d.leads).sent (subst P own (d.leads).asks) in
+    let P : Option Record → Type 0 = λ o. AsksAs d.turned now (Some r) task c (Asked (record { 0 = now }) caller (Some r) task c) (d.does).sending o reply.answer d.acted in
+    let found = accepted_is_kept d.turned now caller r task c (Asked (record { 0 = now }) caller (Some r) task c) kept (d.does).sending reply.answer d.acted ordered (d.does).sent (subst P own (d.does).asks) in
     let is = found.1 in (
       found.0,
       record { person = ap (λ (w : TablesOf). find caller (directory w)) (sym keeps) ∙ is.person; device = is.device; number = is.number; op = is.op; task_is = is.task_is; reply = is.reply },
-      subst (IsSince found.0) (sym d.after_is) (with_since found.0 now (length d.dues) d.own d.acted found.2),
+      subst (IsSince found.0) (sym d.after_is) (with_since found.0 (Some kept) d.acted found.2),
     )
 
 -- ---- a history

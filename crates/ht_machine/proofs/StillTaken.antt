@@ -39,8 +39,8 @@ use Rattle.ht_escalate.specs.Escalating.{taken_row}
 use Rattle.ht_machine.specs.declared.sending.Sending.{Sending}
 use Rattle.ht_machine.specs.declared.sending.Sending.TheVariants as sending
 use Rattle.ht_machine.specs.declared.sending.Sending.TheVariants.{New, Answered}
-use Rattle.ht_machine.specs.Commands.{ActivatesUnless, ActsOn, AfterEffect, BehindGate, Comes, Creates, CreatesAt, CreatesNamed, CreatesOf, CreatesUnless, DoesOn, GathersFirst, HasEffect, MakesEntry, Outcome, accepted, new_task, refused, waits_until, why_not_created}
-use Rattle.ht_machine.specs.Deciding.{AsksAs, Decides, DecidesAt, Leads, Settles, after_with, effective}
+use Rattle.ht_machine.specs.Commands.{ActivatesUnless, ActsOn, AfterEffect, BehindGate, Comes, Creates, DoesOn, GathersFirst, HasEffect, MakesEntry, Outcome, accepted, new_task, refused, waits_until}
+use Rattle.ht_machine.specs.Deciding.{Asks, AsksAs, Behind, Decides, Doing, Rests, Settles, effective}
 use Rattle.ht_machine.specs.Following.{Spreads}
 use Rattle.ht_machine.specs.Gate.{Gate, gate, opens, shuts}
 use Rattle.ht_machine.specs.Sending.{with_reply}
@@ -64,7 +64,7 @@ use Rattle.ht_tree.specs.declared.slot.Kept.{Kept}
 use Rattle.ht_tree.specs.Plans.{IsNext}
 use Rattle.ht_tree.specs.RowDues.{first_due}
 use Rattle.ht_tree.specs.Rows.{row_at}
-use Rattle.ht_tree.specs.Tables.{TablesOf, at_moment, directory, model_named, task_row, with_row, with_rows}
+use Rattle.ht_tree.specs.Tables.{TablesOf, directory, task_row, with_row, with_rows}
 
 -- each task is there still, and what was taken of it is so
 record StillTaken (u v : TablesOf) : Type 0 where
@@ -224,27 +224,12 @@ refuses_it : (u : TablesOf) (o : Outcome) (why : Refusal) → o ≡ refused why 
 refuses_it u o why is = subst (Accepts u) (sym is) tt
 
 module _ (u : TablesOf) (caller moment : ℕ) (numbered : AreNumbered u.rows) where
-  of_model : (place : ℕ) (input : Parts) (waits : Option Moment) (m : ModelOf) (o : Outcome) → CreatesOf u caller moment place input waits m o → Accepts u o
-  of_model place input waits m (accepted v task) (room, is, act) =
+  creates : (model : Option (List ℕ)) (input : Parts) (waits : Option Moment) (o : Outcome) → Creates u caller moment model input waits o → Accepts u o
+  creates model input waits (accepted v task) (fine, place, m, at, of, number, act) =
       let row = new_task u caller moment place input waits m in
       let first = put_new u numbered row refl in
       further u (with_row u row) v first (activates (with_row u row) first.numbered (record { 0 = moment }) waits task v act)
-  of_model place input waits m (refused why) is = tt
-
-  of_model_unless : (place : ℕ) (input : Parts) (waits : Option Moment) (m : ModelOf) (why : Option Refusal) (o : Outcome) → CreatesUnless u caller moment place input waits m why o → Accepts u o
-  of_model_unless place input waits m None o is = of_model place input waits m o is
-  of_model_unless place input waits m (Some why) o is = refuses_it u o why is
-
-  at_place : (place : ℕ) (input : Parts) (waits : Option Moment) (o : Outcome) → CreatesAt u caller moment place input waits o → Accepts u o
-  at_place place input waits o (m, listed, is) = of_model_unless place input waits m (why_not_created (directory u) m input) o is
-
-  named : (name : List ℕ) (input : Parts) (waits : Option Moment) (place : Option ℕ) (o : Outcome) → CreatesNamed u caller moment name input waits place o → Accepts u o
-  named name input waits None o is = refuses_it u o _ is
-  named name input waits (Some place) o is = at_place place input waits o is
-
-  creates : (model : Option (List ℕ)) (input : Parts) (waits : Option Moment) (o : Outcome) → Creates u caller moment model input waits o → Accepts u o
-  creates None input waits o is = at_place 0 input waits o is
-  creates (Some name) input waits o is = named name input waits (model_named u name) o is
+  creates model input waits (refused why) is = tt
 
   makes : (task : ℕ) (name : List ℕ) (entry : Option ℕ) (o : Outcome) → MakesEntry u moment task name entry o → Accepts u o
   makes task name None o is = refuses_it u o _ is
@@ -358,17 +343,15 @@ is_taken by u v task place (d ∷ ds) numbered (on {v = w} first takes rest) amo
 
 -- ---- events
 
-replied_still : (u v : TablesOf) (person : ℕ) (retry : Option Retry) (op : Op) (task : TaskId) (reply : Kept) (moment : ℕ) → StillTaken u v → StillTaken u (at_moment (with_reply v person retry op task reply) moment)
-replied_still u v person None op task reply moment is = record { there = is.there; numbered = is.numbered }
-replied_still u v person (Some r) op task reply moment is = record { there = is.there; numbered = is.numbered }
+replied_still : (u v : TablesOf) (person : ℕ) (retry : Option Retry) (op : Op) (task : TaskId) (reply : Kept) → StillTaken u v → StillTaken u (with_reply v person retry op task reply)
+replied_still u v person None op task reply is = is
+replied_still u v person (Some r) op task reply is = record { there = is.there; numbered = is.numbered }
 
-leads_still : (u : TablesOf) (moment : ℕ) (e : Event) (left : Option Record) (answer : Answer) (after : TablesOf) → AreNumbered u.rows → Leads u moment e left answer after → StillTaken u after
-leads_still u moment (Turn at) left answer after numbered ((none, is), told) = unchanged u numbered after is
-leads_still u moment (Read caller what) left answer after numbered ((none, is), told) = unchanged u numbered after is
-leads_still u moment (Ask at caller retry task c) left answer after numbered asks = go asks.sending asks.asks
+asked_still : (u : TablesOf) (moment : ℕ) (caller : List ℕ) (retry : Option Retry) (task : TaskId) (c : Command) (left : Option Record) (answer : Answer) (after : TablesOf) → AreNumbered u.rows → Asks u moment caller retry task c left answer after → StillTaken u after
+asked_still u moment caller retry task c left answer after numbered asks = go asks.sending asks.asks
   where
-    settles : (person : ℕ) (o : Outcome) → Accepts u o → Settles u moment person retry (op_of c) task (Asked (record { 0 = moment }) caller retry task c) o left answer after → StillTaken u after
-    settles person (accepted v about) kept (reply, shows, left_is, is, told) = subst (StillTaken u) (sym is) (replied_still u v person retry (op_of c) task reply moment kept)
+    settles : (person : ℕ) (o : Outcome) → Accepts u o → Settles u person retry (op_of c) task (Asked (record { 0 = moment }) caller retry task c) o left answer after → StillTaken u after
+    settles person (accepted v about) kept (reply, shows, left_is, is, told) = subst (StillTaken u) (sym is) (replied_still u v person retry (op_of c) task reply kept)
     settles person (refused why) kept ((none, is), told) = unchanged u numbered after is
 
     go : (known : Sending) → AsksAs u moment retry task c (Asked (record { 0 = moment }) caller retry task c) known left answer after → StillTaken u after
@@ -376,18 +359,16 @@ leads_still u moment (Ask at caller retry task c) left answer after numbered ask
     go (Answered reply) ((none, is), told) = unchanged u numbered after is
     go (sending.Refused why) ((none, is), told) = unchanged u numbered after is
 
-after_still : (u v : TablesOf) (moment n : ℕ) (own : Option Record) → StillTaken u v → StillTaken u (after_with moment n own v)
-after_still u v moment n (Some k) is = is
-after_still u v moment zero None is = is
-after_still u v moment (suc n) None is = record { there = is.there; numbered = is.numbered }
-
-decided_still : (t : TablesOf) (moment : ℕ) (e : Event) (left : Option Record) (r : Reply) (after : TablesOf) → AreNumbered t.rows → DecidesAt t moment e left r after → StillTaken t after
-decided_still t moment e left r after numbered d =
+behind_still : (t : TablesOf) (moment : ℕ) (Does : Doing) (left : Option Record) (r : Reply) (after : TablesOf) → ((u v : TablesOf) (own : Option Record) (answer : Answer) → AreNumbered u.rows → Does u own answer v → StillTaken u v) → AreNumbered t.rows → Behind t moment Does left r after → StillTaken t after
+behind_still t moment Does left r after each numbered d =
     let turned = takings_still moment t d.turned d.dues numbered (d.turn).takings in
-    let acted = leads_still d.turned moment e d.own r.answer d.acted turned.numbered d.leads in
-    subst (StillTaken t) (sym d.after_is) (after_still t d.acted moment (length d.dues) d.own (further t d.turned d.acted turned acted))
+    let acted = each d.turned d.acted d.own r.answer turned.numbered d.does in
+    let both = further t d.turned d.acted turned acted in
+    subst (StillTaken t) (sym d.after_is) (record { there = both.there; numbered = both.numbered })
 
 pub stays_taken : (t : TablesOf) (e : Event) (left : Option Record) (r : Reply) (after : TablesOf) (task place : ℕ) → AreNumbered t.rows → Decides t e left r after → WasTaken t task place → WasTaken after task place
-stays_taken t (Turn at) left r after task place numbered d taken = still t after task place (decided_still t (effective t at.0) (Turn at) left r after numbered d) taken
-stays_taken t (Ask at caller retry id c) left r after task place numbered d taken = still t after task place (decided_still t (effective t at.0) (Ask at caller retry id c) left r after numbered d) taken
-stays_taken t (Read caller what) left r after task place numbered d taken = still t after task place (leads_still t t.last (Read caller what) left r.answer after numbered d.1) taken
+stays_taken t (Turn at) left r after task place numbered d taken = still t after task place (behind_still t (effective t at.0) Rests left r after (λ u v own answer low rests. unchanged u low v rests.0.1) numbered d) taken
+stays_taken t (Ask at caller retry id c) left r after task place numbered d taken =
+    let moment = effective t at.0 in
+    still t after task place (behind_still t moment (λ u. Asks u moment caller retry id c) left r after (λ u v own answer low asks. asked_still u moment caller retry id c own answer v low asks) numbered d) taken
+stays_taken t (Read caller what) left r after task place numbered ((none, is), told) taken = still t after task place (unchanged t numbered after is) taken

@@ -18,13 +18,13 @@ use Rattle.ht_machine.specs.declared.sending.Sending.{Sending}
 use Rattle.ht_machine.specs.declared.sending.Sending.TheVariants as sending
 use Rattle.ht_machine.specs.declared.sending.Sending.TheVariants.{New, Answered}
 use Rattle.ht_machine.specs.Commands.{Outcome, accepted, refused}
-use Rattle.ht_machine.specs.Deciding.{AsksAs, Decides, DecidesAt, Leads, Settles, after_with, effective}
+use Rattle.ht_machine.specs.Deciding.{Asks, AsksAs, Behind, Decides, Doing, Rests, Settles, effective, kept_at, last_after, left_with}
 use Rattle.ht_machine.specs.History.{History, IsHistory, IsStep}
 use Rattle.ht_machine.specs.Timer.{AreAlike, AddsTurns, HadMemory, IsTimely, NeverFall, answers_of, events_of, is_command, moment_of_last, moment_after}
 use Rattle.ht_machine.specs.Timer.AddsTurns.{both, none as alone, turn as added}
 use Rattle.ht_machine.specs.Turning.{IsTurn}
-use Rattle.ht_machine.proofs.LastMoment.{leads_with_last, turn_with_last}
-use Rattle.ht_machine.proofs.OneOutcome.{same_led}
+use Rattle.ht_machine.proofs.LastMoment.{asks_with_last, turn_with_last}
+use Rattle.ht_machine.proofs.OneOutcome.{same_asked}
 use Rattle.ht_machine.proofs.OneTurn.{one_turn, turn_keeps}
 use Rattle.ht_machine.proofs.TurnsApart.{turn_then}
 use Rattle.ht_tree.specs.Tables.{TablesOf, at_moment}
@@ -62,60 +62,74 @@ turned_meet f g h s t turned after ds up meet turn same n es fs u v low high a b
 
 -- ---- what an event leaves
 
-bare_after : (moment n : ℕ) (own : Option Record) (u : TablesOf) → bare (after_with moment n own u) ≡ bare u
-bare_after moment n (Some k) u = refl
-bare_after moment zero None u = refl
-bare_after moment (suc n) None u = refl
-
-low_after : (moment n : ℕ) (own : Option Record) (u : TablesOf) → u.last ≤ moment → (after_with moment n own u).last ≤ moment
-low_after moment n (Some k) u low = low
-low_after moment zero None u low = low
-low_after moment (suc n) None u low = omega arith
-
 same_last : (u v : TablesOf) → v ≡ u → v.last ≡ u.last
 same_last u v is = ap (λ (t : TablesOf). t.last) is
 
-low_settled : (u : TablesOf) (moment person : ℕ) (c : Command) (retry : Option Retry) (task : TaskId) (asked : Record) (o : Outcome) (left : Option Record) (answer : Answer) (after : TablesOf) → u.last ≤ moment → Settles u moment person retry (op_of c) task asked o left answer after → after.last ≤ moment
-low_settled u moment person c retry task asked (accepted v about) left answer after low (reply, shows, kept, is, told) = let last = same_last _ after is in omega arith
-low_settled u moment person c retry task asked (refused why) left answer after low ((none, is), told) = let last = same_last u after is in omega arith
+-- what leaves no record, leaves the last moment
+no_record : (u : TablesOf) (moment : ℕ) (own : Option Record) (acted : TablesOf) → u.last ≤ moment → own ≡ None → acted ≡ u → last_after acted own ≤ moment
+no_record u moment own acted low none is =
+    let last = same_last u acted is in
+    subst (λ (o : Option Record). last_after acted o ≤ moment) (sym none) (omega arith)
 
-low_led : (u : TablesOf) (moment : ℕ) (e : Event) (left : Option Record) (answer : Answer) (after : TablesOf) → u.last ≤ moment → Leads u moment e left answer after → after.last ≤ moment
-low_led u moment (Turn at) left answer after low ((none, is), told) = let last = same_last u after is in omega arith
-low_led u moment (Read caller what) left answer after low ((none, is), told) = let last = same_last u after is in omega arith
-low_led u moment (Ask at caller retry task c) left answer after low asks = go asks.sending asks.asks
+low_rests : (u : TablesOf) (moment : ℕ) (own : Option Record) (answer : Answer) (acted : TablesOf) → u.last ≤ moment → Rests u own answer acted → last_after acted own ≤ moment
+low_rests u moment own answer acted low ((none, is), told) = no_record u moment own acted low none is
+
+low_asks : (u : TablesOf) (moment : ℕ) (caller : List ℕ) (retry : Option Retry) (task : TaskId) (c : Command) (own : Option Record) (answer : Answer) (acted : TablesOf) → u.last ≤ moment → Asks u moment caller retry task c own answer acted → last_after acted own ≤ moment
+low_asks u moment caller retry task c own answer acted low asks = go asks.sending asks.asks
   where
-    go : (known : Sending) → AsksAs u moment retry task c (Asked (record { 0 = moment }) caller retry task c) known left answer after → after.last ≤ moment
-    go (New person) (o, comes, settles) = low_settled u moment person c retry task (Asked (record { 0 = moment }) caller retry task c) o left answer after low settles
-    go (Answered reply) ((none, is), told) = let last = same_last u after is in omega arith
-    go (sending.Refused why) ((none, is), told) = let last = same_last u after is in omega arith
+    settled : (person : ℕ) (o : Outcome) → Settles u person retry (op_of c) task (Asked (record { 0 = moment }) caller retry task c) o own answer acted → last_after acted own ≤ moment
+    settled person (accepted v about) (reply, shows, kept, is, told) = subst (λ (k : Option Record). last_after acted k ≤ moment) (sym kept) (omega arith)
+    settled person (refused why) ((none, is), told) = no_record u moment own acted low none is
 
-low_decided : (t : TablesOf) (moment : ℕ) (e : Event) (left : Option Record) (r : Reply) (after : TablesOf) → t.last ≤ moment → DecidesAt t moment e left r after → after.last ≤ moment
-low_decided t moment e left r after low d =
+    go : (known : Sending) → AsksAs u moment retry task c (Asked (record { 0 = moment }) caller retry task c) known own answer acted → last_after acted own ≤ moment
+    go (New person) (o, comes, settles) = settled person o settles
+    go (Answered reply) ((none, is), told) = no_record u moment own acted low none is
+    go (sending.Refused why) ((none, is), told) = no_record u moment own acted low none is
+
+low_left : (moment n : ℕ) (own : Option Record) (acted : TablesOf) → last_after acted own ≤ moment → last_after acted (left_with moment n own) ≤ moment
+low_left moment n (Some k) acted low = low
+low_left moment zero None acted low = low
+low_left moment (suc n) None acted low = omega arith
+
+low_behind : (t : TablesOf) (moment : ℕ) (Does : Doing) (left : Option Record) (r : Reply) (after : TablesOf) → ((u acted : TablesOf) (own : Option Record) (answer : Answer) → u.last ≤ moment → Does u own answer acted → last_after acted own ≤ moment) → t.last ≤ moment → Behind t moment Does left r after → after.last ≤ moment
+low_behind t moment Does left r after each low d =
     let turned : (d.turned).last ≡ t.last = ap (λ (w : TablesOf). w.last) (turn_keeps moment t d.turned d.dues d.turn) in
-    let acted = low_led d.turned moment e d.own r.answer d.acted (omega arith) d.leads in
-    let rest = low_after moment (length d.dues) d.own d.acted acted in
-    let last = same_last _ after d.after_is in
+    let acted = each d.turned d.acted d.own r.answer (omega arith) d.does in
+    let L : Option Record → Type 0 = λ k. last_after d.acted k ≤ moment in
+    let kept : last_after d.acted left ≤ moment = subst L (sym d.left_is) (low_left moment (length d.dues) d.own d.acted acted) in
+    let last = same_last (kept_at left d.acted) after d.after_is in
     omega arith
 
+low_turned : (t : TablesOf) (moment : ℕ) (left : Option Record) (r : Reply) (after : TablesOf) → t.last ≤ moment → Behind t moment Rests left r after → after.last ≤ moment
+low_turned t moment left r after low d = low_behind t moment Rests left r after (λ u acted own answer up rests. low_rests u moment own answer acted up rests) low d
+
 -- a Turn event leaves what its turn leaves
-turned_by : (t : TablesOf) (moment : ℕ) (at : Moment) (left : Option Record) (r : Reply) (after : TablesOf) → (d : DecidesAt t moment (Turn at) left r after) → bare after ≡ bare d.turned
-turned_by t moment at left r after d = ap bare d.after_is ∙ bare_after moment (length d.dues) d.own d.acted ∙ ap bare d.leads.0.1
+turned_by : (t : TablesOf) (moment : ℕ) (left : Option Record) (r : Reply) (after : TablesOf) → (d : Behind t moment Rests left r after) → bare after ≡ bare d.turned
+turned_by t moment left r after d = ap bare d.after_is ∙ ap bare d.does.0.1
 
 -- a command on tables that turns bring together
 pub record IsSameAsk (r q : Reply) (u v : TablesOf) : Type 0 where
   pub answer : r.answer ≡ q.answer
   pub after : bare u ≡ bare v
 
-same_ask : (f g : ℕ) (s t : TablesOf) (moment : ℕ) (e : Event) (k l : Option Record) (r q : Reply) (u v : TablesOf) → f ≤ moment → g ≤ moment → Meet f g s t → DecidesAt s moment e k r u → DecidesAt t moment e l q v → IsSameAsk r q u v
-same_ask f g s t moment e k l r q u v low low_too meet a b =
-    let turned = meet moment a.dues b.dues (bare a.turned) (bare b.turned) low low_too (bare_turn moment s a.turned a.dues a.turn) (bare_turn moment t b.turned b.dues b.turn) in
-    let x = leads_with_last 0 a.turned moment e a.own r.answer a.acted a.leads in
-    let y = leads_with_last 0 b.turned moment e b.own q.answer b.acted b.leads in
-    let L : TablesOf → Type 0 = λ w. Leads w moment e a.own r.answer x.0 in
-    let same = same_led (bare b.turned) moment e a.own b.own r.answer q.answer x.0 y.0 (subst L turned x.1) y.1 in
-    let first : bare u ≡ bare x.0 = ap bare a.after_is ∙ bare_after moment (length a.dues) a.own a.acted ∙ x.2 in
-    let second : bare v ≡ bare y.0 = ap bare b.after_is ∙ bare_after moment (length b.dues) b.own b.acted ∙ y.2 in
-    record { answer = same.answer; after = first ∙ ap bare same.after ∙ sym second }
+-- a command as it acts at a moment
+abbrev AsksAt : TablesOf → ℕ → List ℕ → Option Retry → TaskId → Command → Option Record → Reply → TablesOf → Type 0
+AsksAt t moment caller retry task c left r after = Behind t moment (λ u. Asks u moment caller retry task c) left r after
+
+module _ (moment : ℕ) (caller : List ℕ) (retry : Option Retry) (task : TaskId) (c : Command) where
+  low_asked : (t : TablesOf) (left : Option Record) (r : Reply) (after : TablesOf) → t.last ≤ moment → AsksAt t moment caller retry task c left r after → after.last ≤ moment
+  low_asked t left r after low d = low_behind t moment (λ u. Asks u moment caller retry task c) left r after (λ u acted own answer up asks. low_asks u moment caller retry task c own answer acted up asks) low d
+
+  same_ask : (f g : ℕ) (s t : TablesOf) (k l : Option Record) (r q : Reply) (u v : TablesOf) → f ≤ moment → g ≤ moment → Meet f g s t → AsksAt s moment caller retry task c k r u → AsksAt t moment caller retry task c l q v → IsSameAsk r q u v
+  same_ask f g s t k l r q u v low low_too meet a b =
+      let turned = meet moment a.dues b.dues (bare a.turned) (bare b.turned) low low_too (bare_turn moment s a.turned a.dues a.turn) (bare_turn moment t b.turned b.dues b.turn) in
+      let x = asks_with_last 0 a.turned moment caller retry task c a.own r.answer a.acted a.does in
+      let y = asks_with_last 0 b.turned moment caller retry task c b.own q.answer b.acted b.does in
+      let L : TablesOf → Type 0 = λ w. Asks w moment caller retry task c a.own r.answer x.0 in
+      let same = same_asked (bare b.turned) moment caller retry task c a.own b.own r.answer q.answer x.0 y.0 (subst L turned x.1) y.1 in
+      let first : bare u ≡ bare x.0 = ap bare a.after_is ∙ x.2 in
+      let second : bare v ≡ bare y.0 = ap bare b.after_is ∙ y.2 in
+      record { answer = same.answer; after = first ∙ ap bare same.after ∙ sym second }
 
 -- ---- histories
 
@@ -143,7 +157,7 @@ timed f s (e ∷ es) (step, legal) (plenty, memory) (up, moments) = at e.event s
     at : {g : ℕ} {u : TablesOf} → (x : Event) → IsStep s x e.reply e.after → f ≤ moment_after f x → Timed (moment_after f x) e.after (without_turns (events_of es)) (answers_of es) g u → Timed f s (without_turns (x ∷ events_of es)) (map (λ k. (k.reply).answer) (if is_command x then e ∷ commands else commands)) g u
     at (Turn moment) (inl (left, d)) up rest = turn up d rest
     at (Ask moment caller retry task c) (inl (left, d)) up rest = ask up d rest
-    at {g = g} {u = u} (Read caller what) (inl (left, (taken, ((none, is), told)))) up rest =
+    at {g = g} {u = u} (Read caller what) (inl (left, ((none, is), told))) up rest =
         let T : TablesOf → Type 0 = λ x. Timed f x (without_turns (events_of es)) (answers_of es) g u in
         read (subst T is rest)
     at x (inr (short, is)) up rest = absurd (plenty short)
@@ -151,9 +165,14 @@ timed f s (e ∷ es) (step, legal) (plenty, memory) (up, moments) = at e.event s
 at_own : (t : TablesOf) (n : ℕ) → t.last ≤ n → effective t n ≡ n
 at_own t n low = omega arith
 
-at_its_moment : (t : TablesOf) (n : ℕ) (e : Event) (left : Option Record) (r : Reply) (after : TablesOf) → t.last ≤ n → DecidesAt t (effective t n) e left r after → DecidesAt t n e left r after
-at_its_moment t n e left r after low d =
-    let D : ℕ → Type 0 = λ m. DecidesAt t m e left r after in
+rests_at : (t : TablesOf) (n : ℕ) (left : Option Record) (r : Reply) (after : TablesOf) → t.last ≤ n → Behind t (effective t n) Rests left r after → Behind t n Rests left r after
+rests_at t n left r after low d =
+    let D : ℕ → Type 0 = λ m. Behind t m Rests left r after in
+    subst D (at_own t n low) d
+
+asks_at : (t : TablesOf) (n : ℕ) (caller : List ℕ) (retry : Option Retry) (task : TaskId) (c : Command) (left : Option Record) (r : Reply) (after : TablesOf) → t.last ≤ n → AsksAt t (effective t n) caller retry task c left r after → AsksAt t n caller retry task c left r after
+asks_at t n caller retry task c left r after low d =
+    let D : ℕ → Type 0 = λ m. AsksAt t m caller retry task c left r after in
     subst D (at_own t n low) d
 
 -- the turns of a history in front of a stop, a read and a command
@@ -170,7 +189,7 @@ record Reads (f : ℕ) (s : TablesOf) (es : List Event) (ys : List Answer) (q : 
   pub low : t.last ≤ g
   pub rest : Timed g t es ys q v
 
-record Acts (f : ℕ) (s : TablesOf) (at : Moment) (e : Event) (es : List Event) (ys : List Answer) (q : ℕ) (v : TablesOf) : Type 0 where
+record Acts (f : ℕ) (s : TablesOf) (at : Moment) (caller : List ℕ) (retry : Option Retry) (task : TaskId) (c : Command) (es : List Event) (ys : List Answer) (q : ℕ) (v : TablesOf) : Type 0 where
   pub g : ℕ
   pub t : TablesOf
   pub meet : Meet f g s t
@@ -179,7 +198,7 @@ record Acts (f : ℕ) (s : TablesOf) (at : Moment) (e : Event) (es : List Event)
   pub left : Option Record
   pub reply : Reply
   pub after : TablesOf
-  pub here : DecidesAt t at.0 e left reply after
+  pub here : AsksAt t at.0 caller retry task c left reply after
   pub more : List Answer
   pub answers : ys ≡ reply.answer ∷ more
   pub rest : Timed at.0 after es more q v
@@ -191,8 +210,8 @@ record Turned (f h : ℕ) (s t : TablesOf) : Type 0 where
 
 turned : (f g : ℕ) (s t mid : TablesOf) (at : Moment) (k : Option Record) (r : Reply) → t.last ≤ g → g ≤ at.0 → Meet f g s t → Decides t (Turn at) k r mid → Turned f at.0 s mid
 turned f g s t mid at k r low up meet here =
-    let d = at_its_moment t at.0 (Turn at) k r mid (omega arith) here in
-    record { meet = turned_meet f g at.0 s t d.turned mid d.dues up meet d.turn (turned_by t at.0 at k r mid d); low = low_decided t at.0 (Turn at) k r mid (omega arith) d }
+    let d = rests_at t at.0 k r mid (omega arith) here in
+    record { meet = turned_meet f g at.0 s t d.turned mid d.dues up meet d.turn (turned_by t at.0 k r mid d); low = low_turned t at.0 k r mid (omega arith) d }
 
 module _ (f : ℕ) (s : TablesOf) where
   stops : (g : ℕ) (t : TablesOf) (ys : List Answer) (q : ℕ) (v : TablesOf) → t.last ≤ g → Meet f g s t → Timed g t [] ys q v → Stops f s ys q v
@@ -207,7 +226,7 @@ module _ (f : ℕ) (s : TablesOf) where
       let next = turned f g s t mid at k r low up meet here in
       reads caller what es at.0 mid ys q v next.low next.meet rest
 
-  acts : (at : Moment) (caller : List ℕ) (retry : Option Retry) (task : TaskId) (c : Command) (es : List Event) (g : ℕ) (t : TablesOf) (ys : List Answer) (q : ℕ) (v : TablesOf) → t.last ≤ g → Meet f g s t → Timed g t (Ask at caller retry task c ∷ es) ys q v → Acts f s at (Ask at caller retry task c) es ys q v
+  acts : (at : Moment) (caller : List ℕ) (retry : Option Retry) (task : TaskId) (c : Command) (es : List Event) (g : ℕ) (t : TablesOf) (ys : List Answer) (q : ℕ) (v : TablesOf) → t.last ≤ g → Meet f g s t → Timed g t (Ask at caller retry task c ∷ es) ys q v → Acts f s at caller retry task c es ys q v
   acts at caller retry task c es g t (y ∷ ys) q v low meet (ask {t = after} {left = k} {r = r} up here rest) = record {
     g = g;
     t = t;
@@ -217,7 +236,7 @@ module _ (f : ℕ) (s : TablesOf) where
     left = k;
     reply = r;
     after = after;
-    here = at_its_moment t at.0 (Ask at caller retry task c) k r after (omega arith) here;
+    here = asks_at t at.0 caller retry task c k r after (omega arith) here;
     more = ys;
     answers = refl;
     rest = rest;
@@ -245,13 +264,12 @@ together (Read caller what ∷ es) f g s t xs ys p q u v low low_too meet (read 
     together es f next.g s next.t xs ys p q u v low next.low next.meet a next.rest
 together (Ask at caller retry task c ∷ es) f g s t (x ∷ xs) ys p q u v low low_too meet (ask {t = mid} {left = k} {r = r} up here a) b =
     let next = acts f s at caller retry task c es g t ys q v low_too meet b in
-    let e = Ask at caller retry task c in
-    let d = at_its_moment s at.0 e k r mid (omega arith) here in
-    let same = same_ask f next.g s next.t at.0 e k next.left r next.reply mid next.after up next.up next.meet d next.here in
-    let first_low = low_decided s at.0 e k r mid (omega arith) d in
+    let d = asks_at s at.0 caller retry task c k r mid (omega arith) here in
+    let same = same_ask at.0 caller retry task c f next.g s next.t k next.left r next.reply mid next.after up next.up next.meet d next.here in
+    let first_low = low_asked at.0 caller retry task c s k r mid (omega arith) d in
     let next_low = next.low in
     let next_up = next.up in
-    let second_low = low_decided next.t at.0 e next.left next.reply next.after (omega arith) next.here in
+    let second_low = low_asked at.0 caller retry task c next.t next.left next.reply next.after (omega arith) next.here in
     let rest = together es at.0 at.0 mid next.after xs next.more p q u v first_low second_low (same_meet at.0 at.0 mid next.after same.after) a next.rest in
     record {
       answers = ap (λ (z : Answer). z ∷ xs) same.answer ∙ ap (λ (zs : List Answer). (next.reply).answer ∷ zs) rest.answers ∙ sym next.answers;
@@ -303,7 +321,7 @@ module _ (t : TablesOf) (few more : History) (a : IsTimely t few) (b : IsTimely 
       let earlier = no_lower t.last t.last (events_of few) (events_of more) (omega arith) adds b.moments in
       let first_low = compared.low in
       let second_low = compared.low_too in
-      let d = at_its_moment s at.0 (Turn at) k r u (omega arith) here in
-      let e = at_its_moment w at.0 (Turn at) l q v (omega arith) there in
+      let d = rests_at s at.0 k r u (omega arith) here in
+      let e = rests_at w at.0 l q v (omega arith) there in
       let same = compared.meet at.0 d.dues e.dues (bare d.turned) (bare e.turned) (omega arith) late (bare_turn at.0 s d.turned d.dues d.turn) (bare_turn at.0 w e.turned e.dues e.turn) in
-      alike u v (turned_by s at.0 at k r u d ∙ same ∙ sym (turned_by w at.0 at l q v e))
+      alike u v (turned_by s at.0 k r u d ∙ same ∙ sym (turned_by w at.0 l q v e))

@@ -1,5 +1,6 @@
 -- What comes of a command of a person (WS-HumanTask 1.1, 4.10 and 7.1.1).
-use Rattle.std.specs.Prelude.{◌≡◌, ℕ, ◌+◌, nat_lt, true, List, [], ◌∷◌, length, Option, Some, None, option_map, if◌then◌else◌}
+use Rattle.std.specs.Prelude.{◌≡◌, ℕ, ◌+◌, nat_lt, Bool, true, List, [], ◌∷◌, length, Option, Some, None, is_some, option_map, if◌then◌else◌}
+use Rattle.std.specs.Option.{option_and_then}
 use Rattle.ht_base.specs.declared.event.Command.{Command}
 use Rattle.ht_base.specs.declared.event.Command.TheVariants as command
 use Rattle.ht_base.specs.declared.moment.Moment.{Moment}
@@ -18,8 +19,9 @@ use Rattle.ht_models.specs.Model.{ModelOf}
 use Rattle.ht_owner.specs.Effects.{Effect, does, effect, refuses}
 use Rattle.ht_people.specs.Directory.{DirectoryOf}
 use Rattle.ht_tree.specs.declared.row.Row.{Row}
-use Rattle.ht_tree.specs.Creating.{IsFull, new_row}
+use Rattle.ht_tree.specs.Creating.{new_row}
 use Rattle.ht_tree.specs.Giving.{refused_part, values_given}
+use Rattle.ht_tree.specs.Sizes.{most_tasks, size_of, total_size}
 use Rattle.ht_tree.specs.Tables.{TablesOf, directory, model_at, model_named, model_of, task_row, with_row}
 use Rattle.ht_machine.specs.Following.{Spreads}
 use Rattle.ht_machine.specs.Gate.{Gate, gate, opens, shuts}
@@ -31,7 +33,7 @@ pub data Outcome : Type 0 where
 
 -- ---- create
 
--- why no task of the model can be created, to which this is given
+-- why no task of the model can be created, to which this is given: something of it is refused
 abbrev pub why_not_created : DirectoryOf → ModelOf → Parts → Option Refusal
 why_not_created d m input = option_map refusal.PartRefused (refused_part d true m.input input)
 
@@ -49,27 +51,43 @@ abbrev pub ActivatesUnless : Moment → Option Moment → ℕ → TablesOf → T
 ActivatesUnless at None task u v = Ends (items.Does at) u (Activate task ∷ []) v
 ActivatesUnless at (Some m) task u v = v ≡ u
 
--- where its tree doesn't make too many tasks
-abbrev pub CreatesOf : TablesOf → ℕ → ℕ → ℕ → Parts → Option Moment → ModelOf → Outcome → Type 0
-CreatesOf u caller moment place input waits m (accepted v task) =
-    (IsFull u place → ⊥) × (task ≡ length u.rows + 1) × ActivatesUnless (record { 0 = moment }) waits task (with_row u (new_task u caller moment place input waits m)) v
-CreatesOf u caller moment place input waits m (refused why) = IsFull u place × (why ≡ refusal.Limit Tasks)
+-- the place of the model that is named, or else of the first
+abbrev pub place_named : TablesOf → Option (List ℕ) → Option ℕ
+place_named u None = Some 0
+place_named u (Some name) = model_named u name
 
-abbrev pub CreatesUnless : TablesOf → ℕ → ℕ → ℕ → Parts → Option Moment → ModelOf → Option Refusal → Outcome → Type 0
-CreatesUnless u caller moment place input waits m None o = CreatesOf u caller moment place input waits m o
-CreatesUnless u caller moment place input waits m (Some why) o = o ≡ refused why
+abbrev pub unknown_model : TablesOf → Option (List ℕ) → Option Refusal
+unknown_model u None = None
+unknown_model u (Some name) = if is_some (model_named u name) then None else Some (refusal.Unknown (unknown.Model name))
 
-abbrev pub CreatesAt : TablesOf → ℕ → ℕ → ℕ → Parts → Option Moment → Outcome → Type 0
-CreatesAt u caller moment place input waits o = (m : ModelOf) × (model_at u place ≡ Some m) × CreatesUnless u caller moment place input waits m (why_not_created (directory u) m input) o
+abbrev pub refused_input : TablesOf → Option (List ℕ) → Parts → Option Refusal
+refused_input u name input = option_and_then (λ m. why_not_created (directory u) m input) (option_and_then (model_at u) (place_named u name))
 
-abbrev pub CreatesNamed : TablesOf → ℕ → ℕ → List ℕ → Parts → Option Moment → Option ℕ → Outcome → Type 0
-CreatesNamed u caller moment name input waits None o = o ≡ refused (refusal.Unknown (unknown.Model name))
-CreatesNamed u caller moment name input waits (Some place) o = CreatesAt u caller moment place input waits o
+-- with the tree of the new task there would be
+abbrev pub is_full : TablesOf → ℕ → Bool
+is_full u place = nat_lt most_tasks (total_size u.models u.rows + size_of u.models place)
 
--- of the model that is named, or else of the first
+abbrev pub limit_at : TablesOf → ℕ → Option Refusal
+limit_at u place = if is_full u place then Some (refusal.Limit Tasks) else None
+
+abbrev pub too_many : TablesOf → Option (List ℕ) → Option Refusal
+too_many u name = option_and_then (limit_at u) (place_named u name)
+
+abbrev pub first_of : List (Option Refusal) → Option Refusal
+first_of [] = None
+first_of (None ∷ more) = first_of more
+first_of (Some why ∷ more) = Some why
+
+-- why a create is refused: by the first of these
+abbrev pub why_not : TablesOf → Option (List ℕ) → Parts → Option Refusal
+why_not u name input = first_of (unknown_model u name ∷ refused_input u name input ∷ too_many u name ∷ [])
+
+-- Where nothing speaks against it, a task of the model is put behind the others, and activated unless it waits.
 abbrev pub Creates : TablesOf → ℕ → ℕ → Option (List ℕ) → Parts → Option Moment → Outcome → Type 0
-Creates u caller moment None input waits o = CreatesAt u caller moment 0 input waits o
-Creates u caller moment (Some name) input waits o = CreatesNamed u caller moment name input waits (model_named u name) o
+Creates u caller moment name input waits (accepted v task) =
+    (why_not u name input ≡ None) × (place : ℕ) × (m : ModelOf) × (place_named u name ≡ Some place) × (model_at u place ≡ Some m)
+    × (task ≡ length u.rows + 1) × ActivatesUnless (record { 0 = moment }) waits task (with_row u (new_task u caller moment place input waits m)) v
+Creates u caller moment name input waits (refused why) = why_not u name input ≡ Some why
 
 -- ---- a sub task that is made by hand
 

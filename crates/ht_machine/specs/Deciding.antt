@@ -9,7 +9,7 @@ use Rattle.ht_base.specs.declared.operation.Op.{Op}
 use Rattle.ht_base.specs.declared.operation.Op.TheVariants as op
 use Rattle.ht_base.specs.declared.record.Record.{Record}
 use Rattle.ht_base.specs.declared.record.Record.TheVariants as record_of
-use Rattle.ht_base.specs.declared.record.Record.TheVariants.{Asked}
+use Rattle.ht_base.specs.declared.record.Record.TheVariants.{Asked, Opening}
 use Rattle.ht_base.specs.declared.reply.Answer.{Answer}
 use Rattle.ht_base.specs.declared.reply.Answer.TheVariants.{Sheet, Refused, Turned}
 use Rattle.ht_base.specs.declared.reply.Refusal.TheVariants as refusal
@@ -58,18 +58,18 @@ Shows u task reply = (row : Row) × (task_row u task ≡ Some row) × (reply ≡
 abbrev pub NamesOwner : DirectoryOf → Kept → Type 0
 NamesOwner d (reply.Done task state owner) = IfSome owner (λ name. IsSome (find name d))
 
--- Of a new command of a person: what is accepted is kept, the reply shows the task in the tables after
--- it, and where the command has a number the reply is kept too.
-abbrev pub Settles : TablesOf → ℕ → ℕ → Option Retry → Op → TaskId → Record → Outcome → Option Record → Answer → TablesOf → Type 0
-Settles t moment person retry op task asked (accepted u about) left answer after =
-    (reply : Kept) × Shows u about reply × (left ≡ Some asked) × (after ≡ at_moment (with_reply u person retry op task reply) moment) × (answer ≡ answer_of reply)
-Settles t moment person retry op task asked (refused why) left answer after = IsIdle t left after × (answer ≡ Refused why)
+-- Of a new command of a person: what is accepted leaves its record, the reply shows the task in the tables
+-- after it, and where the command has a number the reply is kept too.
+abbrev pub Settles : TablesOf → ℕ → Option Retry → Op → TaskId → Record → Outcome → Option Record → Answer → TablesOf → Type 0
+Settles t person retry op task asked (accepted u about) left answer after =
+    (reply : Kept) × Shows u about reply × (left ≡ Some asked) × (after ≡ with_reply u person retry op task reply) × (answer ≡ answer_of reply)
+Settles t person retry op task asked (refused why) left answer after = IsIdle t left after × (answer ≡ Refused why)
 
 -- A command that acts at a moment, as which it is kept: a new one leads to what comes of it, and another
 -- to its first answer or to a refusal.
 abbrev pub AsksAs : TablesOf → ℕ → Option Retry → TaskId → Command → Record → Sending → Option Record → Answer → TablesOf → Type 0
 AsksAs t moment retry task command asked (New person) left answer after =
-    (o : Outcome) × Comes t person moment task.0 command o × Settles t moment person retry (op_of command) task asked o left answer after
+    (o : Outcome) × Comes t person moment task.0 command o × Settles t person retry (op_of command) task asked o left answer after
 AsksAs t moment retry task command asked (Answered reply) left answer after = IsIdle t left after × (answer ≡ answer_of reply)
 AsksAs t moment retry task command asked (sending.Refused why) left answer after = IsIdle t left after × (answer ≡ Refused why)
 
@@ -88,38 +88,45 @@ abbrev pub shown_to : TablesOf → Query → Option ℕ → Answer
 shown_to t what None = Refused refusal.Person
 shown_to t (query.Sheet task) (Some person) = sheet_behind t (gate t op.Get person task.0)
 
--- ---- events
+-- ---- what is due before
 
--- On these tables, at this moment, the event itself leaves this record, this answer and the tables after.
-abbrev pub Leads : TablesOf → ℕ → Event → Option Record → Answer → TablesOf → Type 0
-Leads u moment (Turn at) left answer after = IsIdle u left after × (answer ≡ Turned)
-Leads u moment (Ask at caller retry task command) left answer after = Asks u moment caller retry task command left answer after
-Leads u moment (Read caller what) left answer after = IsIdle u left after × (answer ≡ shown_to u what (find caller (directory u)))
+-- what is done on tables: the record that it leaves, the answer, and the tables after it
+abbrev pub Doing : Type 1
+Doing = TablesOf → Option Record → Answer → TablesOf → Type 0
 
--- where it leaves none, the record tells that something was due, if it was
+-- nothing, but for what was due
+abbrev pub Rests : Doing
+Rests u left answer after = IsIdle u left after × (answer ≡ Turned)
+
+-- where it leaves no record, one tells that something was due, if it was
 abbrev pub left_with : ℕ → ℕ → Option Record → Option Record
 left_with moment taken (Some left) = Some left
 left_with moment zero None = None
 left_with moment (suc n) None = Some (record_of.Turn (record { 0 = moment }))
 
--- and then the last moment is that of the record
-abbrev pub after_with : ℕ → ℕ → Option Record → TablesOf → TablesOf
-after_with moment taken (Some left) u = u
-after_with moment zero None u = u
-after_with moment (suc n) None u = at_moment u moment
+-- where a record is left, its moment becomes the last one
+abbrev pub last_after : TablesOf → Option Record → ℕ
+last_after t None = t.last
+last_after t (Some (Opening models people)) = t.last
+last_after t (Some (record_of.Turn at)) = at.0
+last_after t (Some (Asked at caller retry task command)) = at.0
 
--- All that is due by the moment is taken. Then the event acts, or is refused, on the tables that this
--- leaves.
-pub record DecidesAt (t : TablesOf) (moment : ℕ) (e : Event) (left : Option Record) (reply : Reply) (after : TablesOf) : Type 0 where
+abbrev pub kept_at : Option Record → TablesOf → TablesOf
+kept_at left u = at_moment u (last_after u left)
+
+-- All that is due by the moment is taken. Then this is done, on the tables that it leaves.
+pub record Behind (t : TablesOf) (moment : ℕ) (Does : Doing) (left : Option Record) (reply : Reply) (after : TablesOf) : Type 0 where
   pub turned : TablesOf
   pub dues : List Due
   pub turn : IsTurn moment t dues turned
   pub taken : reply.taken ≡ length dues
   pub own : Option Record
   pub acted : TablesOf
-  pub leads : Leads turned moment e own reply.answer acted
+  pub does : Does turned own reply.answer acted
   pub left_is : left ≡ left_with moment (length dues) own
-  pub after_is : after ≡ after_with moment (length dues) own acted
+  pub after_is : after ≡ kept_at left acted
+
+-- ---- events
 
 -- the moment at which an event acts
 abbrev pub moment_of : TablesOf → Event → ℕ
@@ -127,7 +134,9 @@ moment_of t (Turn at) = effective t at.0
 moment_of t (Ask at caller retry task command) = effective t at.0
 moment_of t (Read caller what) = t.last
 
--- A read takes nothing that is due, and is answered on the tables as they stand.
+-- A turn does no more than what is due, and a command acts behind that. A read takes nothing that is due, and
+-- is answered on the tables as they stand.
 abbrev pub Decides : TablesOf → Event → Option Record → Reply → TablesOf → Type 0
-Decides t (Read caller what) left reply after = (reply.taken ≡ 0) × Leads t t.last (Read caller what) left reply.answer after
-Decides t e left reply after = DecidesAt t (moment_of t e) e left reply after
+Decides t (Turn at) left reply after = Behind t (effective t at.0) Rests left reply after
+Decides t (Ask at caller retry task command) left reply after = Behind t (effective t at.0) (λ u. Asks u (effective t at.0) caller retry task command) left reply after
+Decides t (Read caller what) left reply after = IsIdle t left after × (reply ≡ reply_of (shown_to t what (find caller (directory t))))

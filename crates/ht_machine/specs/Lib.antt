@@ -2,6 +2,7 @@ pub mod Ahead
 pub mod Commands
 pub mod Courses
 pub mod Deciding
+pub mod DueExamples
 pub mod Examples
 pub mod Following
 pub mod Gate

@@ -12,7 +12,7 @@ use Rattle.ht_base.specs.declared.task_id.TaskId.{TaskId}
 use Rattle.ht_base.specs.Events.{op_of}
 use Rattle.ht_base.specs.Ordered.{AscendBy}
 use Rattle.ht_due.specs.declared.due.Due.{Due}
-use Rattle.ht_machine.specs.Deciding.{after_with, left_with, moment_of}
+use Rattle.ht_machine.specs.Deciding.{kept_at, left_with, moment_of}
 use Rattle.ht_machine.specs.History.{History, memory_reply}
 use Rattle.ht_machine.specs.Sending.{answer_of}
 use Rattle.ht_machine.specs.Turning.{IsTurn}
@@ -43,7 +43,7 @@ pub record IsTurnAlone (t : TablesOf) (e : Event) (left : Option Record) (after 
   pub dues : List Due
   pub turn : IsTurn (moment_of t e) t dues turned
   pub left_is : left ≡ left_with (moment_of t e) (length dues) None
-  pub after_is : after ≡ after_with (moment_of t e) (length dues) None turned
+  pub after_is : after ≡ kept_at left turned
 
 -- what the last command of the event's device says of it
 pub record ActsOnce (t : TablesOf) (e : Event) (left : Option Record) (answer : Answer) (after : TablesOf) : Type 0 where

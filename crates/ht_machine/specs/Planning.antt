@@ -5,7 +5,7 @@ use Rattle.ht_base.specs.declared.event.Event.{Event}
 use Rattle.ht_base.specs.declared.event.Event.TheVariants as event
 use Rattle.ht_base.specs.declared.moment.Moment.{Moment}
 use Rattle.ht_base.specs.declared.record.Record.{Record}
-use Rattle.ht_base.specs.declared.record.Record.TheVariants.{Asked, Opening, Turn}
+use Rattle.ht_base.specs.declared.record.Record.TheVariants.{Turn}
 use Rattle.ht_base.specs.declared.reply.Answer.{Answer}
 use Rattle.ht_base.specs.declared.reply.Answer.TheVariants.{Refused}
 use Rattle.ht_base.specs.declared.reply.Limit.TheVariants.{Tasks}
@@ -32,7 +32,8 @@ use Rattle.ht_machine.specs.Commands.{ActivatesUnless, Outcome, accepted, refuse
 use Rattle.ht_machine.specs.declared.leaving.Left.{Left}
 use Rattle.ht_machine.specs.declared.leaving.Left.TheVariants as left
 use Rattle.ht_machine.specs.declared.sending.Sending.TheVariants.{New}
-use Rattle.ht_machine.specs.Deciding.{Asks, AsksAs, Decides, DecidesAt}
+use Rattle.ht_machine.specs.Deciding.{Asks, AsksAs, Behind, Decides, last_after}
+use Rattle.ht_machine.specs.History.{record_at}
 use Rattle.ht_machine.specs.Sending.{answer_of}
 
 -- ---- commands
@@ -83,11 +84,6 @@ pub record IsAsked (a : Ask) : Type 0 where
   pub task : IsTaskOf a.command.now a.task
   pub command : IsCommand a.command.now
 
--- as what an event is kept that acted at a moment: a command as one, and what was due as a turn
-abbrev pub record_at : Event → Moment → Record
-record_at (event.Ask asked caller retry task command) at = Asked at caller retry task command
-record_at e at = Turn at
-
 -- as what a command is kept, at a moment and at its own
 abbrev pub record_as : Ask → Moment → Record
 record_as a at = record_at (event.Ask a.at a.caller a.retry a.task a.command.now) at
@@ -114,12 +110,13 @@ record_by make (left.Commanded at) = Some (make at)
 abbrev pub record_in : Event → Left → Option Record
 record_in e l = record_by (record_at e) l
 
--- the last moment is that of the record that is kept
-abbrev pub last_after : TablesOf → Option Record → ℕ
-last_after t None = t.last
-last_after t (Some (Opening models people)) = t.last
-last_after t (Some (Turn at)) = at.0
-last_after t (Some (Asked at caller retry task command)) = at.0
+-- the plan makes these tables, where this record is left, whose moment is no earlier than the last one
+pub record Makes (t : TablesOf) (p : PlanOf) (left : Option Record) (u : TablesOf) : Type 0 where
+  pub fits : IsPlanOf t p
+  pub makes : planned t p ≡ u
+  pub sound : IsSound u
+  pub later : t.last ≤ last_after t left
+  pub within : last_after t left ≤ last_moment
 
 -- the plan makes the tables after what leaves this record; they are sound, and no earlier
 pub record Leaves (t : TablesOf) (p : PlanOf) (left : Option Record) (after : TablesOf) : Type 0 where
@@ -138,19 +135,19 @@ pub record Plans (t : TablesOf) (p : PlanOf) (e : Event) (left : Option Record) 
 pub record PlansAsk (t : TablesOf) (old new : PlanOf) (moment : ℕ) (caller : List ℕ) (retry : Option Retry) (task : TaskId) (command : Command) (left : Option Record) (answer : Answer) : Type 0 where
   pub after : TablesOf
   pub asks : Asks (planned t old) moment caller retry task command left answer after
-  pub leaves : Leaves t new left after
+  pub makes : Makes t new left after
 
 -- and of all that is due before it
 pub record PlansBehindTurn (t : TablesOf) (p : PlanOf) (a : Ask) (left : Option Record) (reply : Reply) : Type 0 where
   pub after : TablesOf
-  pub decides : (at : Moment) → DecidesAt t a.at.0 (event.Ask at a.caller a.retry a.task a.command.now) left reply after
+  pub decides : Behind t a.at.0 (λ u. Asks u a.at.0 a.caller a.retry a.task a.command.now) left reply after
   pub leaves : Leaves t p left after
 
 -- a new one of a person, which is kept as this record
 pub record PlansNew (t : TablesOf) (old new : PlanOf) (moment person : ℕ) (retry : Option Retry) (task : TaskId) (command : Command) (asked : Record) (left : Option Record) (answer : Answer) : Type 0 where
   pub after : TablesOf
   pub asks : AsksAs (planned t old) moment retry task command asked (New person) left answer after
-  pub leaves : Leaves t new left after
+  pub makes : Makes t new left after
 
 -- the earlier plan is marked, and keeps no reply yet
 pub record IsReady (t : TablesOf) (p : PlanOf) : Type 0 where

@@ -1,5 +1,6 @@
 ghost use Rattle.std.specs.Prelude.{◌≡◌, ◌≤◌, max, IfOk, MatchResult, OnErr, OnOk};
 ghost use Rattle.ht_base.specs.Events.{IsValid};
+ghost use Rattle.ht_machine.specs.Deciding.{last_after};
 ghost use Rattle.ht_machine.specs.History.{IsStep, memory_reply};
 ghost use Rattle.ht_machine.specs.Once.{ActsOnce};
 ghost use Rattle.ht_machine.specs.Planning as spec;
@@ -30,7 +31,7 @@ pub fn decide(alloc: Global, tables: &mut Tables, event: &Event) -> Result<Decis
     requires { IsValid event.now }
     ensures tables { tables.new.tables ≡ tables.old.tables }
     ensures decides { IfOk result (IsDecided tables.new event.now) }
-    ensures once { IfOk result (λ d. ActsOnce tables.new.tables event.now d.left d.reply.answer (committed tables.new.tables d.plan (spec.last_after tables.new.tables d.left))) }
+    ensures once { IfOk result (λ d. ActsOnce tables.new.tables event.now d.left d.reply.answer (committed tables.new.tables d.plan (last_after tables.new.tables d.left))) }
 {
     let mut plan = Plan::begin(alloc)?;
     let (left, reply) = prepare_event(alloc, tables, &mut plan, event)?;

@@ -1,4 +1,4 @@
-ghost use Rattle.std.specs.Prelude.{◌≡◌, ◌≤◌, ◌++◌, ℕ, false, true, List, Option, Some};
+ghost use Rattle.std.specs.Prelude.{◌≡◌, ◌≤◌, ◌++◌, ℕ, false, true, List, None, Option, Some};
 ghost use Rattle.ht_base.specs.declared.event.Command.{Command};
 ghost use Rattle.ht_base.specs.declared.event.Event.{Event};
 ghost use Rattle.ht_base.specs.declared.event.Event.TheVariants.{Ask, Turn};
@@ -8,11 +8,13 @@ ghost use Rattle.ht_base.specs.declared.record.Record.TheVariants.{Asked};
 ghost use Rattle.ht_base.specs.declared.reply.Reply.{Reply};
 ghost use Rattle.ht_base.specs.declared.retry.Retry.{Retry};
 ghost use Rattle.ht_base.specs.declared.task_id.TaskId.{TaskId};
+ghost use Rattle.ht_base.specs.Events.{IsValid};
 ghost use Rattle.ht_base.specs.History.{end_of};
+ghost use Rattle.ht_base.specs.Moment.{last_moment};
 ghost use Rattle.ht_base.specs.Ordered.{AscendBy};
 ghost use Rattle.ht_due.specs.declared.due.Due.{Due};
-ghost use Rattle.ht_machine.specs.Deciding.{Decides};
-ghost use Rattle.ht_machine.specs.History.{History, IsHistory};
+ghost use Rattle.ht_machine.specs.Deciding.{Decides, moment_of};
+ghost use Rattle.ht_machine.specs.History.{Applies, History, IsHistory, IsLeftAt, event_of};
 ghost use Rattle.ht_machine.specs.Once.{IsAccepted, IsSince, Remembers};
 ghost use Rattle.ht_machine.specs.TakenOnce.{AreNumbered, WasTaken, is_among};
 ghost use Rattle.ht_machine.specs.Timer.{AreAlike, AddsTurns, IsTimely, answers_of, events_of, moment_of_last};
@@ -21,12 +23,30 @@ ghost use Rattle.ht_tree.specs.declared.slot.Slot.{Slot};
 ghost use Rattle.ht_tree.specs.Slots.{slot_cmp};
 ghost use Rattle.ht_tree.specs.Tables.{TablesOf};
 
-/// Apart from want of memory an event has one outcome on given tables: one record that it leaves, one
-/// reply, and one state of the tables after it.
+/// Apart from want of memory an event has at most one outcome on given tables: one record that it leaves,
+/// one reply, and one state of the tables after it.
 pub fn one_outcome()
     ensures left { (t : TablesOf) (e : Event) (k l : Option Record) (r s : Reply) (u v : TablesOf) → Decides t e k r u → Decides t e l s v → k ≡ l }
     ensures reply { (t : TablesOf) (e : Event) (k l : Option Record) (r s : Reply) (u v : TablesOf) → Decides t e k r u → Decides t e l s v → r ≡ s }
     ensures after { (t : TablesOf) (e : Event) (k l : Option Record) (r s : Reply) (u v : TablesOf) → Decides t e k r u → Decides t e l s v → u ≡ v }
+{}
+
+/// What an event leaves to be kept, where it leaves anything: that something was due, or the event itself as
+/// a command, each of the moment at which it acted. That is no earlier than the last moment, and becomes the
+/// last one. The event of what is kept is valid, as that was. Where nothing is left, nothing changes.
+pub fn what_is_left_is_of_its_moment()
+    ensures nothing { (t : TablesOf) (e : Event) (r : Reply) (u : TablesOf) → Decides t e None r u → u ≡ t }
+    ensures left { (t : TablesOf) (e : Event) (k : Record) (r : Reply) (u : TablesOf) → Decides t e (Some k) r u → IsLeftAt (record { 0 = moment_of t e }) e k }
+    ensures later { (t : TablesOf) (e : Event) (k : Record) (r : Reply) (u : TablesOf) → Decides t e (Some k) r u → t.last ≤ moment_of t e }
+    ensures last { (t : TablesOf) (e : Event) (k : Record) (r : Reply) (u : TablesOf) → Decides t e (Some k) r u → u.last ≡ moment_of t e }
+    ensures valid { (t : TablesOf) (e : Event) (k : Record) (r : Reply) (u : TablesOf) (own : Event) → IsValid e → t.last ≤ last_moment → Decides t e (Some k) r u → event_of k ≡ Some own → IsValid own }
+{}
+
+/// A record that an event left, applied to the same tables, leads to those that the event led to. It is
+/// applied in one way.
+pub fn a_record_leads_to_the_same()
+    ensures again { (t : TablesOf) (e : Event) (k : Record) (r : Reply) (u : TablesOf) → Decides t e (Some k) r u → Applies t k u }
+    ensures once { (t : TablesOf) (k : Record) (u v : TablesOf) → Applies t k u → Applies t k v → u ≡ v }
 {}
 
 /// A numbered command that was accepted acts once: whenever it is sent again in a history, by the same
@@ -40,11 +60,16 @@ pub fn a_command_acts_once()
     ensures remembered { (s : Slot) (t : TablesOf) (history : History) → IsSince s t → IsHistory t history → Remembers s t history }
 {}
 
-/// What is due may be taken in two turns: one at a moment and then one at a later moment leave the tables
-/// that one at the later moment leaves, and take the same in the same order.
+/// What is due may be taken in two turns: one at a moment and then one at a later moment are one at the
+/// later moment, which takes what both take, in the same order.
 pub fn a_turn_may_come_in_two()
-    ensures tables { (t u v w : TablesOf) (m n : ℕ) (ds es fs : List Due) → m ≤ n → IsTurn m t ds u → IsTurn n u es v → IsTurn n t fs w → v ≡ w }
-    ensures taken { (t u v w : TablesOf) (m n : ℕ) (ds es fs : List Due) → m ≤ n → IsTurn m t ds u → IsTurn n u es v → IsTurn n t fs w → ds ++ es ≡ fs }
+    ensures { (t u v : TablesOf) (m n : ℕ) (ds es : List Due) → m ≤ n → IsTurn m t ds u → IsTurn n u es v → IsTurn n t (ds ++ es) v }
+{}
+
+/// A turn has at most one end, and takes the same in the same order.
+pub fn a_turn_has_one_end()
+    ensures tables { (t u v : TablesOf) (n : ℕ) (ds es : List Due) → IsTurn n t ds u → IsTurn n t es v → u ≡ v }
+    ensures taken { (t u v : TablesOf) (n : ℕ) (ds es : List Due) → IsTurn n t ds u → IsTurn n t es v → ds ≡ es }
 {}
 
 /// When the timer runs, and whether, changes no answer of a command: of two histories from the same

@@ -2,8 +2,8 @@ ghost use Rattle.std.specs.Prelude.{◌≡◌, IfOk, None};
 ghost use Rattle.ht_base.specs.declared.event.Event.{Event};
 ghost use Rattle.ht_base.specs.declared.moment.Moment.{Moment};
 ghost use Rattle.ht_base.specs.declared.record.Record.{Record};
-ghost use Rattle.ht_machine.specs.Deciding.{left_with};
-ghost use Rattle.ht_machine.specs.Planning as spec;
+ghost use Rattle.ht_machine.specs.Deciding.{last_after, left_with};
+ghost use Rattle.ht_machine.specs.History.{record_at};
 ghost use Rattle.ht_machine.specs.Planning.{record_by, record_in};
 
 use ht_base::{Event, Memory, Moment, Record};
@@ -32,7 +32,7 @@ impl Left {
 
     /// The last moment of the tables behind it.
     pub(crate) fn last(self, tables: &Tables) -> Moment
-        ensures { (event : Event) → result.0 ≡ spec.last_after tables.now.tables (record_in event self) }
+        ensures { (event : Event) → result.0 ≡ last_after tables.now.tables (record_in event self) }
     {
         match self {
             Left::Turned(at) | Left::Commanded(at) => at,
@@ -54,7 +54,7 @@ impl Left {
 
 // As what an event is kept that acted at a moment.
 fn record_at(alloc: Global, at: Moment, event: &Event) -> Result<Record, Memory>
-    ensures { IfOk result (λ r. r ≡ spec.record_at event.now at) }
+    ensures { IfOk result (λ r. r ≡ record_at event.now at) }
 {
     match event {
         Event::Ask {

@@ -24,6 +24,7 @@ mod turning;
 pub use deciding::{Decision, decide, run_one};
 pub use laws::{
     a_command_acts_once, a_deadline_is_taken_once, a_last_turn_leaves_the_same,
-    a_turn_may_come_in_two, one_outcome, the_timer_changes_no_answer,
+    a_record_leads_to_the_same, a_turn_has_one_end, a_turn_may_come_in_two, one_outcome,
+    the_timer_changes_no_answer, what_is_left_is_of_its_moment,
 };
 pub use turning::turn;

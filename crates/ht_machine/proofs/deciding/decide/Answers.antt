@@ -1,7 +1,8 @@
 use Rattle.std.proofs.Common.{Option, sym, subst}
 use Rattle.ht_base.specs.declared.record.Record.{Record}
+use Rattle.ht_machine.specs.Deciding.{last_after}
 use Rattle.ht_machine.specs.Once.{ActsOnce}
-use Rattle.ht_machine.specs.Planning.{last_after, record_in}
+use Rattle.ht_machine.specs.Planning.{record_in}
 use Rattle.ht_machine.proofs.Remembering.{acts_once}
 use Rattle.ht_machine.proofs.deciding.decide.Goals as goal
 use Rattle.ht_tree.specs.Plans.{committed}

@@ -5,8 +5,9 @@ use Rattle.ht_base.specs.Events.{IsValid}
 use Rattle.ht_base.specs.Moment.{last_moment}
 use Rattle.ht_base.specs.declared.reply.Answer.TheVariants.{Turned}
 use Rattle.ht_base.specs.declared.reply.Reply.{Reply}
-use Rattle.ht_machine.specs.Deciding.{Decides, DecidesAt, effective}
-use Rattle.ht_machine.specs.Planning.{Plans, record_at, record_in}
+use Rattle.ht_machine.specs.Deciding.{Behind, Decides, Rests, effective, reply_of}
+use Rattle.ht_machine.specs.History.{record_at}
+use Rattle.ht_machine.specs.Planning.{Plans, record_in}
 use Rattle.ht_machine.proofs.BehindTurn.{read_leaves, turn_plans}
 use Rattle.ht_machine.proofs.deciding.plan_event.Goals as goal
 use Rattle.ht_tree.proofs.PublicLaws.{planned_nothing}
@@ -32,10 +33,10 @@ returns-in_ok-taken-in-Turn c =
     let within : moment ≤ last_moment = omega (arith, is, last, last_within, valid) in
     let later : t.last ≤ moment = omega (arith, is, last) in
     let left = record_in (event.Turn at) c.by_turn.result in
-    let r = turn_plans t c.args.plan.now c.turn.new.plan moment c.in_ok-taken-in-Turn.taken c.requires.plan c.in_ok-taken-in-Turn.ensures.turns at within later left (c.by_turn.ensures (record_at (event.Turn at))) in
+    let r = turn_plans t c.args.plan.now c.turn.new.plan moment c.in_ok-taken-in-Turn.taken c.requires.plan c.in_ok-taken-in-Turn.ensures.turns within later left (c.by_turn.ensures (record_at (event.Turn at))) in
     let same : moment ≡ effective t at.0 = is ∙ ap (λ (n : ℕ). max at.0 n) last in
     let reply : Reply = record { taken = c.in_ok-taken-in-Turn.taken; answer = Turned } in
-    let D : ℕ → Type 0 = λ m. DecidesAt t m (event.Turn at) left reply r.0 in
+    let D : ℕ → Type 0 = λ m. Behind t m Rests left reply r.0 in
     let P : Event → Type 0 = λ e. Plans t c.turn.new.plan e (record_in e c.by_turn.result) reply in
     subst P (sym c.in-Turn.is) (record { after = r.0; decides = subst D same r.1; leaves = r.2 })
 
@@ -46,6 +47,6 @@ returns-in_ok-answer-in-Read c =
     let D : Event → Type 0 = λ e. Decides t e None reply t in
     record {
       after = t;
-      decides = subst D (sym c.in-Read.is) (refl, ((refl, refl), c.in_ok-answer-in-Read.ensures));
+      decides = subst D (sym c.in-Read.is) ((refl, refl), ap reply_of c.in_ok-answer-in-Read.ensures);
       leaves = read_leaves t c.args.plan.now c.requires.plan c.last-last.ensures.sound;
     }
