@@ -22,7 +22,7 @@ use Rattle.ht_compose.specs.Items.{Checks, Does, Finishes, Item, OnModel, OnTask
 use Rattle.ht_compose.specs.Items.Item.{Activate, Begin, Check, Close, Make, Next, Up}
 use Rattle.ht_compose.specs.Work.{AreNumbered}
 use Rattle.ht_models.specs.Model.{FinishOf, ModelOf}
-use Rattle.ht_models.specs.SubEntries.{SubEntry}
+use Rattle.ht_entries.specs.SubEntries.{SubEntry}
 use Rattle.ht_tree.proofs.PublicLaws.{row_at-map, row_at-put_in, within}
 use Rattle.ht_tree.specs.declared.row.Row.{Row}
 use Rattle.ht_base.specs.State.{is_final}

@@ -8,7 +8,7 @@ use Rattle.ht_compose.specs.Agenda.{IsDetermined}
 use Rattle.ht_compose.specs.Finishes.{Sets, chosen, completed, values_for, with_result}
 use Rattle.ht_compose.specs.Items.{Checks, Does, Finishes, OnModel, OnTask, Step, finished, is_checked}
 use Rattle.ht_compose.specs.Items.Item.{Activate, Begin, Check, Close, Make, Next, Up}
-use Rattle.ht_models.specs.Finishes.{Setting}
+use Rattle.ht_entries.specs.Finishes.{Setting}
 use Rattle.ht_models.specs.Model.{FinishOf, ModelOf}
 use Rattle.ht_tree.specs.declared.row.Row.{Row}
 use Rattle.ht_tree.specs.Tables.{TablesOf, model_of, task_row}

@@ -13,7 +13,7 @@ use Rattle.ht_compose.proofs.Entries.{ended_among, subs_again}
 use Rattle.ht_compose.proofs.OneRow.{one}
 use Rattle.ht_compose.proofs.SubRows.{made_among}
 use Rattle.ht_models.specs.Model.{ModelOf}
-use Rattle.ht_models.specs.SubEntries.{SubEntry}
+use Rattle.ht_entries.specs.SubEntries.{SubEntry}
 use Rattle.ht_tree.specs.declared.row.Row.{Row}
 use Rattle.ht_base.specs.State.{is_final}
 use Rattle.ht_tree.specs.Families.{is_made, is_of_entry, sub_tasks}

@@ -9,7 +9,7 @@ use Rattle.ht_compose.specs.Work.{AreNumbered, going_on, work}
 use Rattle.ht_compose.proofs.Counting.{going_on_fewer, going_on_map, going_on_push, going_on_set}
 use Rattle.ht_compose.proofs.Standing.{there_as_alike, there_behind}
 use Rattle.ht_models.specs.Model.{ModelOf, names}
-use Rattle.ht_models.specs.SubEntries.{SubEntry}
+use Rattle.ht_entries.specs.SubEntries.{SubEntry}
 use Rattle.ht_models.specs.TreeSizes.{AreSized, entry_size}
 use Rattle.ht_tree.proofs.PublicLaws.{Alike, alike_put, behind_is, in_less, in_push, map_alike, new_small, of_itself, of_less, put_new, put_old, standing, there_alike, to_come_alike}
 use Rattle.ht_tree.specs.declared.row.Row.{Row}

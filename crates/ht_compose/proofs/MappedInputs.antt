@@ -16,7 +16,7 @@ use Rattle.ht_expr.specs.Environment.{may_be}
 use Rattle.ht_models.specs.Kinded.{parts_of}
 use Rattle.ht_models.specs.MappedInputs.{IsMappedPair}
 use Rattle.ht_models.specs.Model.{ModelOf}
-use Rattle.ht_models.specs.SubEntries.{SubEntry}
+use Rattle.ht_entries.specs.SubEntries.{SubEntry}
 use Rattle.ht_tree.proofs.PublicLaws.{updated_held}
 use Rattle.ht_tree.specs.Soundness.{AreHeld, is_declared, is_known, is_short, is_timely}
 

@@ -11,7 +11,7 @@ use Rattle.ht_compose.specs.Downward.{freeing}
 use Rattle.ht_compose.specs.Items.{Checks, Does, Finishes, Item, OnModel, OnTask, Step, activates, begins, closes, comes_next, follows_by, has_failed, is_automatic, is_checked, is_in_progress, makes_at, makes_entry, makes_of, makes_one, on_model, on_row, on_task, rises}
 use Rattle.ht_compose.specs.Items.Item.{Activate, Begin, Check, Close, Make, Next, Up}
 use Rattle.ht_models.specs.Model.{FinishOf, ModelOf}
-use Rattle.ht_models.specs.SubEntries.{SubEntry}
+use Rattle.ht_entries.specs.SubEntries.{SubEntry}
 use Rattle.ht_tree.specs.declared.row.Row.{Row}
 use Rattle.ht_base.specs.State.{is_final}
 use Rattle.ht_tree.specs.Families.{is_made}

@@ -12,7 +12,7 @@ use Rattle.ht_compose.specs.Items.Item.{Activate, Make}
 use Rattle.ht_compose.specs.Running.{Acts, item_of}
 use Rattle.ht_models.specs.MappedInputs.{AreMapped}
 use Rattle.ht_models.specs.Model.{ModelOf, names}
-use Rattle.ht_models.specs.SubEntries.{SubEntry}
+use Rattle.ht_entries.specs.SubEntries.{SubEntry}
 use Rattle.ht_tree.specs.declared.row.Row.{Row}
 use Rattle.ht_tree.specs.Creating.{IsInput, new_row}
 use Rattle.ht_base.specs.State.{is_final}

@@ -27,7 +27,7 @@ use Rattle.ht_expr.specs.declared.kinds.Side.TheVariants.{Output}
 use Rattle.ht_base.specs.State.{is_completed}
 use Rattle.ht_expr.specs.Kinds.{Declared, declared_kind}
 use Rattle.ht_expr.specs.KindTable.{same_kind}
-use Rattle.ht_models.specs.Finishes.{Setting}
+use Rattle.ht_entries.specs.Finishes.{Setting}
 use Rattle.ht_models.specs.Kinded.{IsSettable, parts_of}
 use Rattle.ht_models.specs.Model.{FinishOf, ModelOf}
 use Rattle.ht_models.specs.SetOutputs.{SetsOutputs}

@@ -15,7 +15,7 @@ use Rattle.ht_compose.specs.Items.Item.{Activate, Begin, Check, Close, Make, Nex
 use Rattle.ht_compose.proofs.Determined.{one_output}
 use Rattle.ht_compose.proofs.OneRow.{one}
 use Rattle.ht_models.specs.Model.{FinishOf, ModelOf}
-use Rattle.ht_models.specs.SubEntries.{SubEntry}
+use Rattle.ht_entries.specs.SubEntries.{SubEntry}
 use Rattle.ht_tree.specs.declared.row.Row.{Row}
 use Rattle.ht_base.specs.State.{is_final}
 use Rattle.ht_tree.specs.Families.{is_made}

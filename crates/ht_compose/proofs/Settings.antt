@@ -13,7 +13,7 @@ use Rattle.ht_base.specs.Kinds.{kind_of_how, kind_of_value}
 use Rattle.ht_base.specs.Values.{value_of}
 use Rattle.ht_compose.specs.Finishes.{Sets, of_kind, values_for, with_result}
 use Rattle.ht_expr.specs.KindTable.{same_kind}
-use Rattle.ht_models.specs.Finishes.{Setting}
+use Rattle.ht_entries.specs.Finishes.{Setting}
 use Rattle.ht_tree.specs.declared.row.Row.{Row}
 
 -- what is kept of each of a list has a property, where it has it of each with another one

@@ -16,9 +16,9 @@ use Rattle.ht_compose.specs.Finishes.{Sets, chosen, completed, values_for, with_
 use Rattle.ht_compose.specs.Items.{comes_next, Checks, Does, Finishes, Item, OnModel, OnTask, Step, activated, activates, begins, begins_with, closes, does, finished, first_entries, follows_by, has_ended, has_failed, is_automatic, is_in_progress, makes, makes_at, makes_entry, makes_of, makes_one, on_model, on_row, on_task, rises, still, sub_task, ups}
 use Rattle.ht_compose.specs.Items.Item.{Activate, Begin, Check, Close, Make, Next, Up}
 use Rattle.ht_compose.specs.Work.{ClosesForGood, work}
-use Rattle.ht_models.specs.Finishes.{Setting}
+use Rattle.ht_entries.specs.Finishes.{Setting}
 use Rattle.ht_models.specs.Model.{FinishOf, ModelOf}
-use Rattle.ht_models.specs.SubEntries.{SubEntry}
+use Rattle.ht_entries.specs.SubEntries.{SubEntry}
 use Rattle.ht_tree.proofs.PublicLaws.{standing}
 use Rattle.ht_tree.specs.declared.row.Row.{Row}
 use Rattle.ht_base.specs.State.{is_final}

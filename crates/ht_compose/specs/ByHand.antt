@@ -4,7 +4,7 @@ use Rattle.std.specs.Option.{option_and_then}
 use Rattle.ht_compose.specs.Finishes.{all_ended}
 use Rattle.ht_compose.specs.Items.{is_automatic, is_sequential}
 use Rattle.ht_models.specs.Model.{ModelOf}
-use Rattle.ht_models.specs.SubEntries.{SubEntry}
+use Rattle.ht_entries.specs.SubEntries.{SubEntry}
 use Rattle.ht_tree.specs.declared.row.Row.{Row}
 use Rattle.ht_tree.specs.Families.{is_made}
 use Rattle.ht_tree.specs.Tables.{TablesOf, model_of, task_row}

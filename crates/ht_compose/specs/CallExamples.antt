@@ -15,9 +15,9 @@ use Rattle.ht_compose.specs.Items.Item.{Check, Close, Next, Up}
 use Rattle.ht_expr.specs.declared.node.Count.TheVariants.{Done}
 use Rattle.ht_expr.specs.declared.operator.Operator.TheVariants.{GreaterOrEqual}
 use Rattle.ht_expr.specs.Trees.{binary, count, integer}
-use Rattle.ht_models.specs.declared.choices.Composition.TheVariants.{Parallel, Sequential}
-use Rattle.ht_models.specs.declared.choices.Trigger.TheVariants.{Automatic, Manual}
-use Rattle.ht_models.specs.Finishes.{setting}
+use Rattle.ht_entries.specs.declared.choices.Composition.TheVariants.{Parallel, Sequential}
+use Rattle.ht_entries.specs.declared.choices.Trigger.TheVariants.{Automatic, Manual}
+use Rattle.ht_entries.specs.Finishes.{setting}
 use Rattle.ht_models.specs.Model.{ModelOf}
 use Rattle.ht_tree.specs.declared.row.Row.{Row}
 

@@ -1,7 +1,7 @@
 -- Which sub tasks may still be made, and one that is (WS-HumanTask 1.1, 4.7).
 use Rattle.std.specs.Prelude.{◌≡◌, ℕ, false, slice_get, Some}
 use Rattle.ht_models.specs.Model.{ModelOf}
-use Rattle.ht_models.specs.SubEntries.{SubEntry}
+use Rattle.ht_entries.specs.SubEntries.{SubEntry}
 use Rattle.ht_tree.specs.declared.row.Row.{Row}
 use Rattle.ht_base.specs.State.{is_final}
 use Rattle.ht_tree.specs.Families.{is_made}

@@ -13,12 +13,12 @@ use Rattle.ht_expr.specs.declared.node.Count.TheVariants.{Done}
 use Rattle.ht_expr.specs.declared.operator.Operator.TheVariants.{GreaterOrEqual}
 use Rattle.ht_expr.specs.Trees.{Tree, binary, count, group, integer, truth}
 use Rattle.ht_models.specs.BuiltIn.{plain_model}
-use Rattle.ht_models.specs.declared.choices.Composition.{Composition}
-use Rattle.ht_models.specs.declared.choices.Composition.TheVariants.{Parallel, Sequential}
-use Rattle.ht_models.specs.declared.choices.Trigger.TheVariants.{Automatic, Manual}
-use Rattle.ht_models.specs.Finishes.{setting}
+use Rattle.ht_entries.specs.declared.choices.Composition.{Composition}
+use Rattle.ht_entries.specs.declared.choices.Composition.TheVariants.{Parallel, Sequential}
+use Rattle.ht_entries.specs.declared.choices.Trigger.TheVariants.{Automatic, Manual}
+use Rattle.ht_entries.specs.Finishes.{setting}
 use Rattle.ht_models.specs.Model.{FinishOf, ModelOf}
-use Rattle.ht_models.specs.SubEntries.{SubEntry, sub_entry}
+use Rattle.ht_entries.specs.SubEntries.{SubEntry, sub_entry}
 use Rattle.ht_tree.specs.declared.row.Row.{Row}
 use Rattle.ht_tree.specs.Creating.{bare_row}
 use Rattle.ht_tree.specs.Examples.{office}

@@ -19,12 +19,12 @@ use Rattle.ht_compose.specs.Items.Item.{Activate, Begin, Check, Close, Make, Nex
 use Rattle.ht_expr.specs.declared.operator.Operator.TheVariants.{GreaterOrEqual}
 use Rattle.ht_expr.specs.Trees.{binary, count_text, group, integer, user}
 use Rattle.ht_models.specs.BuiltIn.{plain_model}
-use Rattle.ht_models.specs.declared.choices.Composition.TheVariants.{Parallel}
-use Rattle.ht_models.specs.declared.choices.Trigger.TheVariants.{Automatic}
-use Rattle.ht_models.specs.Finishes.{setting}
+use Rattle.ht_entries.specs.declared.choices.Composition.TheVariants.{Parallel}
+use Rattle.ht_entries.specs.declared.choices.Trigger.TheVariants.{Automatic}
+use Rattle.ht_entries.specs.Finishes.{setting}
 use Rattle.ht_models.specs.Model.{ModelOf}
-use Rattle.ht_models.specs.Parts.{part}
-use Rattle.ht_models.specs.SubEntries.{SubEntry, sub_entry}
+use Rattle.ht_entries.specs.Parts.{part}
+use Rattle.ht_entries.specs.SubEntries.{SubEntry, sub_entry}
 use Rattle.ht_tree.specs.declared.row.Row.{Row}
 use Rattle.ht_tree.specs.Creating.{bare_row}
 use Rattle.ht_tree.specs.Tables.{TablesOf}

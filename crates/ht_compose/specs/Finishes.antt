@@ -16,7 +16,7 @@ use Rattle.ht_expr.specs.Kinds.{Declared}
 use Rattle.ht_expr.specs.KindTable.{same_kind}
 use Rattle.ht_expr.specs.Trees.{Tree}
 use Rattle.ht_expr.specs.Values.{Outcome, a_truth, value}
-use Rattle.ht_models.specs.Finishes.{Setting}
+use Rattle.ht_entries.specs.Finishes.{Setting}
 use Rattle.ht_models.specs.Kinded.{parts_of}
 use Rattle.ht_models.specs.Model.{FinishOf, ModelOf}
 use Rattle.ht_tree.specs.declared.row.Row.{Row}

@@ -13,12 +13,12 @@ use Rattle.ht_compose.specs.Downward.{closing, skipping}
 use Rattle.ht_base.specs.State.{is_final}
 use Rattle.ht_tree.specs.Families.{is_made, is_sub_of}
 use Rattle.ht_compose.specs.Finishes.{HasResults, chosen}
-use Rattle.ht_models.specs.declared.choices.Composition.{Composition}
-use Rattle.ht_models.specs.declared.choices.Composition.TheVariants.{Parallel, Sequential}
-use Rattle.ht_models.specs.declared.choices.Trigger.{Trigger}
-use Rattle.ht_models.specs.declared.choices.Trigger.TheVariants.{Automatic, Manual}
+use Rattle.ht_entries.specs.declared.choices.Composition.{Composition}
+use Rattle.ht_entries.specs.declared.choices.Composition.TheVariants.{Parallel, Sequential}
+use Rattle.ht_entries.specs.declared.choices.Trigger.{Trigger}
+use Rattle.ht_entries.specs.declared.choices.Trigger.TheVariants.{Automatic, Manual}
 use Rattle.ht_models.specs.Model.{FinishOf, ModelOf}
-use Rattle.ht_models.specs.SubEntries.{SubEntry}
+use Rattle.ht_entries.specs.SubEntries.{SubEntry}
 use Rattle.ht_tree.specs.declared.row.Row.{Row}
 use Rattle.ht_tree.specs.Activation.{activated_to, owner_by, state_by}
 use Rattle.ht_tree.specs.Creating.{new_row}

@@ -10,7 +10,8 @@ ghost use Rattle.ht_models.specs.Shown.{model_of};
 
 use crate::item::Item;
 use ht_base::{Memory, State, TaskId};
-use ht_models::{Composition, Model, Trigger};
+use ht_entries::{Composition, Trigger};
+use ht_models::Model;
 use ht_tree::{Plan, Row, Tables};
 use std::alloc::Global;
 

@@ -13,7 +13,8 @@ ghost use Rattle.ht_tree.specs.Soundness.{IsSound};
 use crate::finishing::all_ended;
 use crate::making::has_of_entry;
 use ht_base::{Memory, Name, TaskId};
-use ht_models::{Composition, Model, Trigger};
+use ht_entries::{Composition, Trigger};
+use ht_models::Model;
 use ht_tree::{Plan, Tables, sub_tasks};
 use std::alloc::Global;
 

@@ -14,7 +14,8 @@ use crate::downward::skip_below;
 use crate::finishing::finish;
 use crate::item::{Item, alone};
 use ht_base::{Memory, State, TaskId};
-use ht_models::{Model, Trigger};
+use ht_entries::Trigger;
+use ht_models::Model;
 use ht_tree::{Plan, Row, Tables, sub_tasks};
 use std::alloc::Global;
 

@@ -11,7 +11,8 @@ ghost use Rattle.ht_base.specs.State.{is_final};
 use crate::downward::close_family;
 use crate::item::{Item, alone, both};
 use ht_base::{Memory, State, TaskId};
-use ht_models::{Composition, Model, Trigger};
+use ht_entries::{Composition, Trigger};
+use ht_models::Model;
 use ht_tree::{Plan, Tables};
 use std::alloc::Global;
 

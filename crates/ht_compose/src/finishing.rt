@@ -18,8 +18,9 @@ ghost use Rattle.ht_tree.specs.Tables.{model_of, task_row};
 
 use ht_aggregate::aggregate;
 use ht_base::{How, Memory, Name, TaskId, Value, ValueList, Values};
+use ht_entries::Setting;
 use ht_expr::Env;
-use ht_models::{Finish, Model, Setting};
+use ht_models::{Finish, Model};
 use ht_tree::{Plan, Row, Tables, env_with};
 use std::alloc::Global;
 

@@ -6,7 +6,7 @@ ghost use Rattle.ht_tree.specs.Soundness.{IsSound};
 
 use crate::finishing::finish;
 use ht_base::{Memory, TaskId};
-use ht_models::Trigger;
+use ht_entries::Trigger;
 use ht_tree::{Plan, Tables, sub_tasks};
 use std::alloc::Global;
 

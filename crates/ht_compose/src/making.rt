@@ -15,7 +15,8 @@ ghost use Rattle.ht_tree.specs.Families as made;
 use crate::finishing::is_of_entry;
 use crate::item::{Item, alone};
 use ht_base::{Memory, Moment, TaskId, Values};
-use ht_models::{Model, Models, SubEntry};
+use ht_entries::SubEntry;
+use ht_models::{Model, Models};
 use ht_tree::{CreateRefusal, Plan, Tables, sub_tasks};
 use std::alloc::Global;
 

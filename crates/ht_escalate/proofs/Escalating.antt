@@ -12,8 +12,8 @@ use Rattle.ht_escalate.specs.declared.reassigning.Owners.{Owners}
 use Rattle.ht_escalate.specs.Escalating.{IsEscalated, IsOpen, first_reassignment, notices_of, reassigned_by, taken_row, taken_with, with_notices}
 use Rattle.ht_escalate.specs.Seeing.{given_all, owners_of, telling}
 use Rattle.ht_expr.specs.Assignments.{Assignment}
-use Rattle.ht_models.specs.declared.deadlines.DeadlineKind.{DeadlineKind}
-use Rattle.ht_models.specs.declared.deadlines.DeadlineKind.TheVariants.{Start, Completion}
+use Rattle.ht_entries.specs.declared.deadlines.DeadlineKind.{DeadlineKind}
+use Rattle.ht_entries.specs.declared.deadlines.DeadlineKind.TheVariants.{Start, Completion}
 use Rattle.ht_models.specs.Model.{DeadlineOf, ModelOf}
 use Rattle.ht_models.specs.Reassigning.{ReassignOwned}
 use Rattle.ht_people.specs.Directory.{DirectoryOf}

@@ -12,7 +12,7 @@ use Rattle.ht_expr.specs.declared.kinds.Side.TheVariants.{Input}
 use Rattle.ht_expr.specs.declared.operator.Operator.TheVariants as operator
 use Rattle.ht_expr.specs.Trees.{Tree, binary, count, group, initiator, integer, nobody, part, priority, truth, union, user}
 use Rattle.ht_models.specs.BuiltIn.{plain_model}
-use Rattle.ht_models.specs.declared.deadlines.DeadlineKind.TheVariants.{Completion}
+use Rattle.ht_entries.specs.declared.deadlines.DeadlineKind.TheVariants.{Completion}
 use Rattle.ht_models.specs.Model.{DeadlineOf, EscalationOf, ModelOf}
 use Rattle.ht_people.specs.declared.entries.PersonEntry.{PersonEntry}
 use Rattle.ht_people.specs.Directory.{DirectoryOf}

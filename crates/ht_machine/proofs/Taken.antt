@@ -14,8 +14,8 @@ use Rattle.ht_compose.specs.Downward.{moved_by}
 use Rattle.ht_compose.specs.Items.{Does, Step, activated, activated_as, activates, does, on_model, on_task, still}
 use Rattle.ht_compose.specs.Items.Item.{Begin}
 use Rattle.ht_compose.specs.Work.{AreNumbered}
-use Rattle.ht_models.specs.declared.deadlines.DeadlineKind.{DeadlineKind}
-use Rattle.ht_models.specs.declared.deadlines.DeadlineKind.TheVariants.{Start, Completion}
+use Rattle.ht_entries.specs.declared.deadlines.DeadlineKind.{DeadlineKind}
+use Rattle.ht_entries.specs.declared.deadlines.DeadlineKind.TheVariants.{Start, Completion}
 use Rattle.ht_tree.specs.Plans.{IsNext}
 use Rattle.ht_due.specs.declared.due.Due.{Due}
 use Rattle.ht_due.specs.Dues.{has}

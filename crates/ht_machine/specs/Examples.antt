@@ -31,10 +31,10 @@ use Rattle.ht_machine.specs.Sending.{IsSent}
 use Rattle.ht_machine.specs.Turning.{Takings}
 use Rattle.ht_machine.specs.Gate.{gate, shuts}
 use Rattle.ht_machine.specs.Sheets.{sheet_of}
-use Rattle.ht_models.specs.declared.deadlines.DeadlineKind.TheVariants.{Start}
+use Rattle.ht_entries.specs.declared.deadlines.DeadlineKind.TheVariants.{Start}
 use Rattle.ht_models.specs.Model.{ModelOf}
-use Rattle.ht_models.specs.Parts.{Part}
-use Rattle.ht_models.specs.SubEntries.{sub_entry}
+use Rattle.ht_entries.specs.Parts.{Part}
+use Rattle.ht_entries.specs.SubEntries.{sub_entry}
 use Rattle.ht_rules.specs.Judging.{needed}
 use Rattle.ht_rules.specs.Sets.{roles_of, states_of}
 use Rattle.ht_tree.specs.declared.row.Row.{Row}

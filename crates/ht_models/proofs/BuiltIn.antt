@@ -13,7 +13,7 @@ use Rattle.ht_models.specs.declared.refusal.ModelsRefusal.TheVariants.{Syntax, F
 use Rattle.ht_models.specs.Model.{ModelOf}
 use Rattle.ht_models.specs.BuiltIn.{built_in_text, unit}
 use Rattle.ht_models.specs.EntryExamples.{bare}
-use Rattle.ht_models.specs.ModelEntries.{ModelEntry}
+use Rattle.ht_entries.specs.ModelEntries.{ModelEntry}
 use Rattle.ht_models.specs.ModelsText.{IsModelsText}
 use Rattle.ht_models.specs.Reading.{IsModel, Reads}
 use Rattle.ht_models.proofs.Passing.{one_answer}

@@ -3,8 +3,8 @@ use Rattle.std.proofs.Common.{◌≡◌, ◌++◌, ℕ, List, [], ◌∷◌, Non
 use Rattle.ht_expr.specs.Kinds.{declared_kind}
 use Rattle.ht_expr.specs.declared.kinds.Side.TheVariants.{Input, Output}
 use Rattle.ht_models.specs.Expressions.{declared, kind_among}
-use Rattle.ht_models.specs.ModelEntries.{ModelEntry}
-use Rattle.ht_models.specs.Parts.{Part}
+use Rattle.ht_entries.specs.ModelEntries.{ModelEntry}
+use Rattle.ht_entries.specs.Parts.{Part}
 
 module _ (name : List ℕ) where
   -- of outputs alone no input is found

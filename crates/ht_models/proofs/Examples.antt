@@ -13,7 +13,7 @@ use Rattle.ht_models.specs.declared.refusal.ModelsRefusal.TheVariants.{Field, Tw
 use Rattle.ht_models.specs.Model.{ModelOf}
 use Rattle.ht_models.specs.BuiltIn.{plain_model}
 use Rattle.ht_models.specs.EntryExamples.{bare}
-use Rattle.ht_models.specs.ModelEntries.{ModelEntry}
+use Rattle.ht_entries.specs.ModelEntries.{ModelEntry}
 use Rattle.ht_models.specs.ModelsText.{IsModelsText}
 use Rattle.ht_models.specs.Reading.{IsModel, Reads}
 use Rattle.ht_models.specs.Refusals.{IsTwice}

@@ -6,16 +6,16 @@ use Rattle.std.proofs.lemmas.Bool.{cases_lt, or_left, or_right}
 use Rattle.std.proofs.lemmas.List.{length-map}
 use Rattle.std.proofs.lemmas.List.Sums.{length-filter}
 use Rattle.std.proofs.lemmas.Option.{slice_get-get_or, slice_get-map, slice_get_read}
-use Rattle.ht_models.specs.declared.deadlines.DeadlineKind.{DeadlineKind}
-use Rattle.ht_models.specs.declared.deadlines.DeadlineKind.TheVariants.{Start, Completion}
+use Rattle.ht_entries.specs.declared.deadlines.DeadlineKind.{DeadlineKind}
+use Rattle.ht_entries.specs.declared.deadlines.DeadlineKind.TheVariants.{Start, Completion}
 use Rattle.ht_models.specs.declared.model.Model.{Model}
 use Rattle.ht_models.specs.declared.models.Models.TheInside.{Inside}
-use Rattle.ht_models.specs.Deadlines.{DeadlineText}
+use Rattle.ht_entries.specs.Deadlines.{DeadlineText}
 use Rattle.ht_models.specs.Expressions.{declared}
 use Rattle.ht_models.specs.Kept.{IsKept}
 use Rattle.ht_models.specs.Limits.{is_completion, is_start}
 use Rattle.ht_models.specs.Model.{ModelOf}
-use Rattle.ht_models.specs.ModelEntries.{ModelEntry}
+use Rattle.ht_entries.specs.ModelEntries.{ModelEntry}
 use Rattle.ht_models.specs.Reading.{IsDeadline, IsModel}
 use Rattle.ht_models.specs.Refusals.{IsTooMuch}
 use Rattle.ht_models.specs.Shown.{deadline_of, model_of}

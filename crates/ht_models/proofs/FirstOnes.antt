@@ -5,7 +5,7 @@ use Rattle.std.proofs.lemmas.Bool.{both_ways}
 use Rattle.std.proofs.lemmas.Option.{slice_get_read, slice_get_within}
 use Rattle.ht_base.proofs.PublicLaws.{least_here}
 use Rattle.ht_base.specs.Places.{IsLeast}
-use Rattle.ht_models.specs.ModelEntries.{ModelEntry}
+use Rattle.ht_entries.specs.ModelEntries.{ModelEntry}
 use Rattle.ht_models.specs.Refusals.{IsOne}
 
 module _ (test : ModelEntry → Bool) (t : List ModelEntry) where

@@ -17,16 +17,16 @@ use Rattle.ht_models.specs.declared.model.Finish.{Finish}
 use Rattle.ht_models.specs.declared.model.Model.{Model}
 use Rattle.ht_models.specs.Contradictions.{are_one, has_unfit_finish, has_unfit_sub, is_unfit, is_unfit_pair, misses_parts}
 use Rattle.ht_models.specs.Expressions.{declared}
-use Rattle.ht_models.specs.Finishes.{Setting}
+use Rattle.ht_entries.specs.Finishes.{Setting}
 use Rattle.ht_models.specs.Kinded.{IsKinded, IsSettable, SpeaksOfParts, parts_of}
 use Rattle.ht_models.specs.MappedInputs.{AreMapped, IsMappedPair}
 use Rattle.ht_models.specs.Model.{ModelOf, names}
-use Rattle.ht_models.specs.ModelEntries.{ModelEntry}
+use Rattle.ht_entries.specs.ModelEntries.{ModelEntry}
 use Rattle.ht_models.specs.Reading.{IsFinish, IsModel}
 use Rattle.ht_models.specs.Refusals.{IsContradicted}
 use Rattle.ht_models.specs.SetOutputs.{SetOutputs, SetsOutputs}
 use Rattle.ht_models.specs.Shown.{finish_of, model_of}
-use Rattle.ht_models.specs.SubEntries.{AreInOrder, SubEntry}
+use Rattle.ht_entries.specs.SubEntries.{AreInOrder, SubEntry}
 use Rattle.ht_models.specs.SubTrees.{model_named}
 use Rattle.ht_models.proofs.Elements.{all_at, fails_at, holds_at}
 use Rattle.ht_models.proofs.ModelLists.{same_names}

@@ -1,16 +1,11 @@
 mod Among
-mod AscendingPairs
 mod BuiltIn
-mod Days
 mod DeclaredKinds
 mod Elements
 mod Examples
 mod FewDeadlines
 mod FirstOnes
 mod FittingParts
-mod InstantCuts
-mod InstantExamples
-mod InstantTexts
 mod LeastOfTwo
 mod Lookups
 mod ModelLists
@@ -28,5 +23,4 @@ mod TooMuch
 mod TreeCounts
 mod TreeLaws
 mod TreeLevels
-mod Words
 mod Zips

@@ -9,11 +9,11 @@ use Rattle.ht_base.specs.declared.kind.Kind.TheVariants.{Int, Truth}
 use Rattle.ht_expr.specs.Kinds.{Declared}
 use Rattle.ht_expr.specs.Trees.{integer, nobody, truth}
 use Rattle.ht_models.specs.declared.model.Model.{Model}
-use Rattle.ht_models.specs.Deadlines.{DeadlineText, EscalationText}
+use Rattle.ht_entries.specs.Deadlines.{DeadlineText, EscalationText}
 use Rattle.ht_models.specs.Expressions.{Asked, HasRefused, IsRefused, One, asked, assignment, declared, expression, of_deadline, of_escalation, of_finish}
-use Rattle.ht_models.specs.Finishes.{FinishText}
+use Rattle.ht_entries.specs.Finishes.{FinishText}
 use Rattle.ht_models.specs.Model.{DeadlineOf, EscalationOf, FinishOf, ModelOf, names}
-use Rattle.ht_models.specs.ModelEntries.{ModelEntry}
+use Rattle.ht_entries.specs.ModelEntries.{ModelEntry}
 use Rattle.ht_models.specs.Reading.{AreModels, IsDeadline, IsEscalation, IsFinish, IsModel}
 use Rattle.ht_models.specs.Refusals.{IsUnreadable}
 use Rattle.ht_models.specs.Shown.{model_of}

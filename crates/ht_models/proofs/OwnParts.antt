@@ -11,8 +11,8 @@ use Rattle.ht_models.specs.DeclaredParts.{DeclareOnce, HaveOwnNames}
 use Rattle.ht_models.specs.Expressions.{kind_among}
 use Rattle.ht_models.specs.Kinded.{parts_of}
 use Rattle.ht_models.specs.Model.{ModelOf}
-use Rattle.ht_models.specs.ModelEntries.{ModelEntry}
-use Rattle.ht_models.specs.Parts.{Part}
+use Rattle.ht_entries.specs.ModelEntries.{ModelEntry}
+use Rattle.ht_entries.specs.Parts.{Part}
 use Rattle.ht_models.specs.Reading.{IsModel}
 use Rattle.ht_models.specs.Refusals.{IsTwice}
 use Rattle.ht_models.specs.Repeats.{has_repeat}

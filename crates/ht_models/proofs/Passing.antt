@@ -19,13 +19,13 @@ use Rattle.ht_models.specs.declared.refusal.ModelsRefusal.TheVariants.{Field, Un
 use Rattle.ht_models.specs.Kept.{IsKept, kept_names}
 use Rattle.ht_models.specs.Kinded.{SpeaksOfParts}
 use Rattle.ht_models.specs.Model.{ModelOf}
-use Rattle.ht_models.specs.ModelEntries.{ModelEntry}
+use Rattle.ht_entries.specs.ModelEntries.{ModelEntry}
 use Rattle.ht_models.specs.ModelsText.{IsMisshapen, IsModelsText, models_text}
 use Rattle.ht_models.specs.Reading.{AreModels, IsModel, IsModels, Reads}
 use Rattle.ht_models.specs.Refusals.{IsContradicted, IsTooMuch, IsTwice, IsUnreadable, NamesUnknownModel, ReachesItself, model_refusals, most, refusals}
 use Rattle.ht_models.specs.Shown.{model_of}
 use Rattle.ht_models.specs.Limits.{has_too_large_tree}
-use Rattle.ht_models.specs.SubEntries.{AreInOrder}
+use Rattle.ht_entries.specs.SubEntries.{AreInOrder}
 use Rattle.ht_models.specs.SubTrees.{AreCounted, TreeCounts, is_too_deep, names_of, size_of, sub_places}
 use Rattle.ht_models.proofs.FewDeadlines.{few_kept}
 use Rattle.ht_models.proofs.FittingParts.{are_kinded, are_mapped}

@@ -6,10 +6,10 @@ use Rattle.std.proofs.lemmas.Bool.{false_from_ne_true, or_left, or_right}
 use Rattle.ht_expr.specs.Kinds.{Declared}
 use Rattle.ht_expr.specs.Trees.{Tree}
 use Rattle.ht_models.specs.Contradictions.{owns_without_need, reassigns}
-use Rattle.ht_models.specs.Deadlines.{DeadlineText, EscalationText}
+use Rattle.ht_entries.specs.Deadlines.{DeadlineText, EscalationText}
 use Rattle.ht_models.specs.Expressions.{assignment, declared}
 use Rattle.ht_models.specs.Model.{DeadlineOf, EscalationOf, ModelOf}
-use Rattle.ht_models.specs.ModelEntries.{ModelEntry}
+use Rattle.ht_entries.specs.ModelEntries.{ModelEntry}
 use Rattle.ht_models.specs.Reading.{IsDeadline, IsEscalation, IsIfAny, IsModel}
 use Rattle.ht_models.specs.Reassigning.{ReassignOwned}
 use Rattle.ht_models.specs.Refusals.{IsContradicted}

@@ -7,7 +7,7 @@ use Rattle.ht_toml.specs.Entries as shape
 use Rattle.ht_toml.specs.Entries.{each}
 use Rattle.ht_toml.specs.Tables.{array_at, has_only}
 use Rattle.ht_toml.proofs.PublicLaws.{all_there}
-use Rattle.ht_models.specs.ModelEntries.{ModelEntry, entry_of}
+use Rattle.ht_entries.specs.ModelEntries.{ModelEntry, entry_of}
 use Rattle.ht_models.specs.ModelsText.{IsMisshapen, entries, has_entry, is_top, models_text}
 
 -- under a document of its shape, the first entry of another shape is the least place

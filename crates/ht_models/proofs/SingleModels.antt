@@ -7,7 +7,7 @@ use Rattle.ht_graph.specs.Graphs.{leads}
 use Rattle.ht_models.specs.Contradictions.{is_contradicted}
 use Rattle.ht_models.specs.Limits.{has_too_large_tree, holds_too_much}
 use Rattle.ht_models.specs.Model.{ModelOf}
-use Rattle.ht_models.specs.ModelEntries.{ModelEntry}
+use Rattle.ht_entries.specs.ModelEntries.{ModelEntry}
 use Rattle.ht_models.specs.ModelsText.{IsModelsText}
 use Rattle.ht_models.specs.Reading.{IsModel, Reads}
 use Rattle.ht_models.specs.Refusals.{IsOne, IsTooMuch, IsTwice, ReachesItself}

@@ -10,10 +10,10 @@ use Rattle.std.proofs.lemmas.Option.{get_or_from_slice_get, slice_get-map, slice
 use Rattle.ht_base.specs.Places.{place_in}
 use Rattle.ht_models.specs.Limits.{has_more}
 use Rattle.ht_models.specs.Model.{ModelOf, names}
-use Rattle.ht_models.specs.ModelEntries.{ModelEntry}
+use Rattle.ht_entries.specs.ModelEntries.{ModelEntry}
 use Rattle.ht_models.specs.Reading.{AreModels, IsModel}
 use Rattle.ht_models.specs.Refusals.{IsTooMuch, NamesUnknownModel}
-use Rattle.ht_models.specs.SubEntries.{SubEntry}
+use Rattle.ht_entries.specs.SubEntries.{SubEntry}
 use Rattle.ht_models.specs.SubTrees.{below, chains, is_too_deep, is_unknown, most_levels, names_of, size_of, sub_places, subs_at}
 use Rattle.ht_models.specs.TreeSizes.{AreSized, IsSized, entries_size, size_at}
 use Rattle.ht_models.proofs.ModelLists.{same_names}

@@ -10,8 +10,8 @@ use Rattle.ht_base.proofs.PublicLaws.{found_within}
 use Rattle.ht_base.specs.Places.{place_in}
 use Rattle.ht_graph.specs.Graphs.{IsClosed}
 use Rattle.ht_models.specs.Limits.{has_too_large_tree}
-use Rattle.ht_models.specs.ModelEntries.{ModelEntry}
-use Rattle.ht_models.specs.SubEntries.{SubEntry}
+use Rattle.ht_entries.specs.ModelEntries.{ModelEntry}
+use Rattle.ht_entries.specs.SubEntries.{SubEntry}
 use Rattle.ht_models.specs.SubTrees.{AreCounted, TreeCounts, below, chains, is_counted_too_large, most_levels, names_of, places_at, size_of, sub_places, subs_at, up_to_enough}
 
 pub length_sub_places : (t : List ModelEntry) → length (sub_places t) ≡ length t

@@ -2,7 +2,7 @@
 use Rattle.std.proofs.Common.{◌≡◌, ◌∙◌, ◌≤◌, ℕ, false, List, Some, ap, arith, inl, inr, length, slice_get, sym, true≢false}
 use Rattle.std.proofs.lemmas.Option.{slice_get_within}
 use Rattle.ht_models.specs.Limits.{has_too_large_tree, holds_too_much}
-use Rattle.ht_models.specs.ModelEntries.{ModelEntry}
+use Rattle.ht_entries.specs.ModelEntries.{ModelEntry}
 use Rattle.ht_models.specs.Refusals.{IsTooMuch, most}
 
 pub none_past : (t : List ModelEntry) (place : ℕ) → length t ≤ place → length t ≤ most → IsTooMuch t place → ⊥

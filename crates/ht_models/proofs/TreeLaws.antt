@@ -6,7 +6,7 @@ use Rattle.std.proofs.lemmas.Option.{slice_get-map}
 use Rattle.ht_base.proofs.PublicLaws.{found_there}
 use Rattle.ht_base.specs.Places.{place_in}
 use Rattle.ht_models.specs.Model.{ModelOf, names}
-use Rattle.ht_models.specs.SubEntries.{SubEntry}
+use Rattle.ht_entries.specs.SubEntries.{SubEntry}
 use Rattle.ht_models.specs.TreeSizes.{AreSized, entries_size, entry_size, size_at}
 
 -- where a name is found is a model

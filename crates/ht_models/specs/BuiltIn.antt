@@ -1,9 +1,9 @@
 -- The models text of an office that brings none, and what it reads to.
 use Rattle.std.specs.Prelude.{ℕ, true, false, List, [], None, codes}
 use Rattle.ht_expr.specs.Trees.{everybody, integer, nobody}
-use Rattle.ht_models.specs.declared.choices.Composition.TheVariants.{Sequential}
-use Rattle.ht_models.specs.declared.choices.Delegation.TheVariants.{Anybody}
-use Rattle.ht_models.specs.declared.choices.Trigger.TheVariants.{Manual}
+use Rattle.ht_entries.specs.declared.choices.Composition.TheVariants.{Sequential}
+use Rattle.ht_entries.specs.declared.choices.Delegation.TheVariants.{Anybody}
+use Rattle.ht_entries.specs.declared.choices.Trigger.TheVariants.{Manual}
 use Rattle.ht_models.specs.Model.{ModelOf}
 
 abbrev pub built_in_text : List ℕ

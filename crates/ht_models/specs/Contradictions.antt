@@ -7,14 +7,14 @@ use Rattle.ht_base.specs.declared.kind.Kind.TheVariants.{Instant}
 use Rattle.ht_expr.specs.declared.kinds.Side.TheVariants.{Input, Output}
 use Rattle.ht_expr.specs.Kinds.{Declared, declared_kind}
 use Rattle.ht_expr.specs.KindTable.{is_of_kind}
-use Rattle.ht_models.specs.declared.choices.Trigger.{Trigger}
-use Rattle.ht_models.specs.declared.choices.Trigger.TheVariants.{Manual, Automatic}
+use Rattle.ht_entries.specs.declared.choices.Trigger.{Trigger}
+use Rattle.ht_entries.specs.declared.choices.Trigger.TheVariants.{Manual, Automatic}
 use Rattle.ht_base.specs.Kinds.{kind_of_how}
-use Rattle.ht_models.specs.Deadlines.{DeadlineText}
+use Rattle.ht_entries.specs.Deadlines.{DeadlineText}
 use Rattle.ht_models.specs.Expressions.{declared}
-use Rattle.ht_models.specs.Finishes.{FinishText, Setting}
-use Rattle.ht_models.specs.ModelEntries.{ModelEntry}
-use Rattle.ht_models.specs.SubEntries.{SubEntry}
+use Rattle.ht_entries.specs.Finishes.{FinishText, Setting}
+use Rattle.ht_entries.specs.ModelEntries.{ModelEntry}
+use Rattle.ht_entries.specs.SubEntries.{SubEntry}
 use Rattle.ht_models.specs.SubTrees.{model_named}
 
 -- ---- kinds of parts

@@ -2,7 +2,7 @@
 use Rattle.std.specs.Prelude.{◌≡◌, ℕ, List, Some, map, slice_get}
 use Rattle.ht_base.specs.Places.{IsRepeated}
 use Rattle.ht_models.specs.Model.{ModelOf}
-use Rattle.ht_models.specs.Parts.{Part}
+use Rattle.ht_entries.specs.Parts.{Part}
 
 -- no two have one name
 abbrev pub HaveOwnNames : List Part → Type 0

@@ -4,17 +4,17 @@ use Rattle.std.specs.Prelude.{◌≡◌, ℕ, refl, true, false, List, [], ◌�
 use Rattle.toml.specs.Data.{Data, boolean, integer, string}
 use Rattle.ht_base.specs.declared.kind.Kind.TheVariants.{Text, Int, Truth}
 use Rattle.ht_expr.specs.declared.kinds.Side.TheVariants.{Input, Output}
-use Rattle.ht_models.specs.declared.choices.Composition.TheVariants.{Sequential, Parallel}
-use Rattle.ht_models.specs.declared.choices.Delegation.TheVariants.{Nobody, Other}
-use Rattle.ht_models.specs.declared.choices.Trigger.TheVariants.{Manual, Automatic}
-use Rattle.ht_models.specs.declared.deadlines.DeadlineKind.TheVariants.{Start}
-use Rattle.ht_models.specs.Deadlines.{deadline_text, escalation_text}
+use Rattle.ht_entries.specs.declared.choices.Composition.TheVariants.{Sequential, Parallel}
+use Rattle.ht_entries.specs.declared.choices.Delegation.TheVariants.{Nobody, Other}
+use Rattle.ht_entries.specs.declared.choices.Trigger.TheVariants.{Manual, Automatic}
+use Rattle.ht_entries.specs.declared.deadlines.DeadlineKind.TheVariants.{Start}
+use Rattle.ht_entries.specs.Deadlines.{deadline_text, escalation_text}
 use Rattle.ht_models.specs.Expressions.{assignment, declared, expression, expressions}
-use Rattle.ht_models.specs.Finishes.{finish_text}
-use Rattle.ht_models.specs.ModelEntries.{ModelEntry, entry_of}
-use Rattle.ht_models.specs.Parts.{part}
-use Rattle.ht_models.specs.ShapeExamples.{given, listed, says}
-use Rattle.ht_models.specs.SubEntries.{sub_entry}
+use Rattle.ht_entries.specs.Finishes.{finish_text}
+use Rattle.ht_entries.specs.ModelEntries.{ModelEntry, entry_of}
+use Rattle.ht_entries.specs.Parts.{part}
+use Rattle.ht_entries.specs.ShapeExamples.{given, listed, says}
+use Rattle.ht_entries.specs.SubEntries.{sub_entry}
 
 -- ---- what an entry says
 

@@ -10,13 +10,13 @@ use Rattle.ht_base.specs.Values.{Ascend}
 use Rattle.ht_models.specs.BuiltIn.{built_in_text, plain_model}
 use Rattle.ht_models.specs.DeclaredParts.{HaveOwnNames}
 use Rattle.ht_models.specs.EntryExamples.{bare}
-use Rattle.ht_models.specs.Finishes.{setting}
+use Rattle.ht_entries.specs.Finishes.{setting}
 use Rattle.ht_models.specs.Kinded.{IsSettable, parts_of}
 use Rattle.ht_models.specs.MappedInputs.{IsMappedPair}
 use Rattle.ht_models.specs.Model.{ModelOf}
 use Rattle.ht_models.specs.ModelsText.{is_top, IsMisshapen, models_text}
-use Rattle.ht_models.specs.Parts.{part}
-use Rattle.ht_models.specs.SubEntries.{SubEntry, sub_entry}
+use Rattle.ht_entries.specs.Parts.{part}
+use Rattle.ht_entries.specs.SubEntries.{SubEntry, sub_entry}
 use Rattle.ht_models.specs.SubTrees.{names_of}
 use Rattle.ht_models.specs.TreeSizes.{IsSized, entries_size, entry_size}
 

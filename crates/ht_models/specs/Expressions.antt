@@ -9,10 +9,10 @@ use Rattle.ht_expr.specs.KindTable.{kind_of}
 use Rattle.ht_expr.specs.Reading as expression_reads
 use Rattle.ht_expr.specs.Trees.{Tree, an_assignment, an_expression}
 use Rattle.ht_expr.specs.declared.kinds.Side.TheVariants.{Input, Output}
-use Rattle.ht_models.specs.Deadlines.{DeadlineText, EscalationText}
-use Rattle.ht_models.specs.Finishes.{FinishText}
-use Rattle.ht_models.specs.ModelEntries.{ModelEntry}
-use Rattle.ht_models.specs.Parts.{Part}
+use Rattle.ht_entries.specs.Deadlines.{DeadlineText, EscalationText}
+use Rattle.ht_entries.specs.Finishes.{FinishText}
+use Rattle.ht_entries.specs.ModelEntries.{ModelEntry}
+use Rattle.ht_entries.specs.Parts.{Part}
 
 -- an expression of a kind, or an assignment
 pub data Asked : Type 0 where

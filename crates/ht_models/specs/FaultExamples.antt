@@ -2,18 +2,18 @@
 use Rattle.std.specs.Prelude.{◌≡◌, ℕ, refl, true, false, List, [], ◌∷◌, Some, None, codes}
 use Rattle.ht_base.specs.declared.how.How.TheVariants as how
 use Rattle.ht_base.specs.declared.kind.Kind.TheVariants.{Text, Int, Instant}
-use Rattle.ht_models.specs.declared.choices.Delegation.TheVariants.{Anybody}
-use Rattle.ht_models.specs.declared.choices.Trigger.TheVariants.{Manual, Automatic}
-use Rattle.ht_models.specs.declared.deadlines.DeadlineKind.TheVariants.{Start, Completion}
+use Rattle.ht_entries.specs.declared.choices.Delegation.TheVariants.{Anybody}
+use Rattle.ht_entries.specs.declared.choices.Trigger.TheVariants.{Manual, Automatic}
+use Rattle.ht_entries.specs.declared.deadlines.DeadlineKind.TheVariants.{Start, Completion}
 use Rattle.ht_models.specs.Contradictions.{has_early_default, has_undated_deadline, has_unfit_finish, has_unfit_sub, is_contradicted, owns_without_need, waits_for_owner}
-use Rattle.ht_models.specs.Deadlines.{DeadlineText, EscalationText, deadline_text, escalation_text}
+use Rattle.ht_entries.specs.Deadlines.{DeadlineText, EscalationText, deadline_text, escalation_text}
 use Rattle.ht_models.specs.EntryExamples.{bare}
-use Rattle.ht_models.specs.Finishes.{FinishText, finish_text, setting}
+use Rattle.ht_entries.specs.Finishes.{FinishText, finish_text, setting}
 use Rattle.ht_models.specs.Limits.{has_too_large_tree, holds_too_much}
-use Rattle.ht_models.specs.ModelEntries.{ModelEntry}
-use Rattle.ht_models.specs.Parts.{Part, part}
+use Rattle.ht_entries.specs.ModelEntries.{ModelEntry}
+use Rattle.ht_entries.specs.Parts.{Part, part}
 use Rattle.ht_models.specs.Repeats.{repeats_name}
-use Rattle.ht_models.specs.SubEntries.{SubEntry, sub_entry}
+use Rattle.ht_entries.specs.SubEntries.{SubEntry, sub_entry}
 use Rattle.ht_models.specs.SubTrees.{is_too_deep, names_unknown_model, size_of, subs_at}
 
 -- ---- names that stand twice

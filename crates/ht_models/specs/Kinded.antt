@@ -14,8 +14,8 @@ use Rattle.ht_models.specs.declared.model.Deadline.{Deadline}
 use Rattle.ht_models.specs.declared.model.Escalation.{Escalation}
 use Rattle.ht_models.specs.declared.model.Finish.{Finish}
 use Rattle.ht_models.specs.declared.model.Model.{Model}
-use Rattle.ht_models.specs.Finishes.{Setting}
-use Rattle.ht_models.specs.Parts.{Part}
+use Rattle.ht_entries.specs.Finishes.{Setting}
+use Rattle.ht_entries.specs.Parts.{Part}
 
 -- the parts that a model declares, of these inputs and outputs
 abbrev pub parts_of : List Part → List Part → Declared

@@ -1,9 +1,9 @@
 -- How much a model may hold.
 use Rattle.std.specs.Prelude.{ℕ, Bool, true, false, ◌||◌, nat_lt, List, length}
 use Rattle.std.specs.List.{count_by, list_any}
-use Rattle.ht_models.specs.declared.deadlines.DeadlineKind.{DeadlineKind}
-use Rattle.ht_models.specs.declared.deadlines.DeadlineKind.TheVariants.{Start, Completion}
-use Rattle.ht_models.specs.ModelEntries.{ModelEntry}
+use Rattle.ht_entries.specs.declared.deadlines.DeadlineKind.{DeadlineKind}
+use Rattle.ht_entries.specs.declared.deadlines.DeadlineKind.TheVariants.{Start, Completion}
+use Rattle.ht_entries.specs.ModelEntries.{ModelEntry}
 use Rattle.ht_models.specs.SubTrees.{is_too_deep, size_of}
 
 abbrev pub has_more : {A : Type 0} → ℕ → List A → Bool

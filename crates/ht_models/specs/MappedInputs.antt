@@ -8,7 +8,7 @@ use Rattle.ht_expr.specs.declared.kinds.Side.TheVariants.{Input}
 use Rattle.ht_expr.specs.Kinds.{declared_kind}
 use Rattle.ht_models.specs.Kinded.{parts_of}
 use Rattle.ht_models.specs.Model.{ModelOf, names}
-use Rattle.ht_models.specs.SubEntries.{SubEntry}
+use Rattle.ht_entries.specs.SubEntries.{SubEntry}
 
 -- the kind of an input part of a model, if it has the part
 abbrev pub input_kind : ModelOf → List ℕ → Option Kind

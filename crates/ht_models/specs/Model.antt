@@ -3,13 +3,13 @@
 use Rattle.std.specs.Prelude.{ℕ, Bool, List, Option, map}
 use Rattle.ht_base.specs.declared.moment.Moment.{Moment}
 use Rattle.ht_expr.specs.Trees.{Tree}
-use Rattle.ht_models.specs.declared.choices.Composition.{Composition}
-use Rattle.ht_models.specs.declared.choices.Delegation.{Delegation}
-use Rattle.ht_models.specs.declared.choices.Trigger.{Trigger}
-use Rattle.ht_models.specs.declared.deadlines.DeadlineKind.{DeadlineKind}
-use Rattle.ht_models.specs.Finishes.{Setting}
-use Rattle.ht_models.specs.Parts.{Part}
-use Rattle.ht_models.specs.SubEntries.{SubEntry}
+use Rattle.ht_entries.specs.declared.choices.Composition.{Composition}
+use Rattle.ht_entries.specs.declared.choices.Delegation.{Delegation}
+use Rattle.ht_entries.specs.declared.choices.Trigger.{Trigger}
+use Rattle.ht_entries.specs.declared.deadlines.DeadlineKind.{DeadlineKind}
+use Rattle.ht_entries.specs.Finishes.{Setting}
+use Rattle.ht_entries.specs.Parts.{Part}
+use Rattle.ht_entries.specs.SubEntries.{SubEntry}
 
 -- what follows where a deadline is missed (WS-HumanTask 1.1, 4.9): somebody is told or is given the
 -- task, where the condition is true

@@ -5,7 +5,7 @@ use Rattle.ht_toml.specs.Documents.{Says}
 use Rattle.ht_toml.specs.Entries as shape
 use Rattle.ht_toml.specs.Entries.{each}
 use Rattle.ht_toml.specs.Tables.{array_at, has_only}
-use Rattle.ht_models.specs.ModelEntries.{ModelEntry, entry_of}
+use Rattle.ht_entries.specs.ModelEntries.{ModelEntry, entry_of}
 
 -- the one top key is model, an array with at least one entry
 abbrev pub has_entry : Option (List Data) → Bool

@@ -6,14 +6,14 @@ use Rattle.ht_base.specs.declared.kind.Kind.TheVariants.{Int, Truth}
 use Rattle.ht_expr.specs.Kinds.{Declared}
 use Rattle.ht_expr.specs.Trees.{Tree, integer, nobody, truth}
 use Rattle.ht_toml.specs.Refusals as text_reads
-use Rattle.ht_models.specs.declared.choices.Delegation.TheVariants.{Anybody}
+use Rattle.ht_entries.specs.declared.choices.Delegation.TheVariants.{Anybody}
 use Rattle.ht_models.specs.declared.refusal.ModelsRefusal.{ModelsRefusal}
 use Rattle.ht_models.specs.declared.refusal.ModelsRefusal.TheVariants.{Memory}
-use Rattle.ht_models.specs.Deadlines.{DeadlineText, EscalationText}
+use Rattle.ht_entries.specs.Deadlines.{DeadlineText, EscalationText}
 use Rattle.ht_models.specs.Expressions.{Asked, Spells, assignment, declared, expression}
-use Rattle.ht_models.specs.Finishes.{FinishText}
+use Rattle.ht_entries.specs.Finishes.{FinishText}
 use Rattle.ht_models.specs.Model.{DeadlineOf, EscalationOf, FinishOf, ModelOf}
-use Rattle.ht_models.specs.ModelEntries.{ModelEntry}
+use Rattle.ht_entries.specs.ModelEntries.{ModelEntry}
 use Rattle.ht_models.specs.ModelsText.{IsModelsText}
 use Rattle.ht_models.specs.Refusals.{refusals}
 use Rattle.ht_models.specs.SubTrees.{size_of}

@@ -9,7 +9,7 @@ use Rattle.ht_models.specs.declared.refusal.ModelsRefusal.TheVariants.{Syntax, F
 use Rattle.ht_models.specs.Contradictions.{is_contradicted}
 use Rattle.ht_models.specs.Expressions.{HasRefused}
 use Rattle.ht_models.specs.Limits.{has_too_large_tree, holds_too_much}
-use Rattle.ht_models.specs.ModelEntries.{ModelEntry}
+use Rattle.ht_entries.specs.ModelEntries.{ModelEntry}
 use Rattle.ht_models.specs.ModelsText.{IsMisshapen, IsModelsText}
 use Rattle.ht_models.specs.Repeats.{repeats_name}
 use Rattle.ht_models.specs.SubTrees.{names_of, names_unknown_model, subs_at}

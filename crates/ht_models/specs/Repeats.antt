@@ -1,8 +1,8 @@
 -- Names that stand twice in a model.
 use Rattle.std.specs.Prelude.{ℕ, Bool, false, ◌||◌, List, [], ◌∷◌, map, bytes_eq}
 use Rattle.std.specs.List.{list_any}
-use Rattle.ht_models.specs.Deadlines.{DeadlineText}
-use Rattle.ht_models.specs.ModelEntries.{ModelEntry}
+use Rattle.ht_entries.specs.Deadlines.{DeadlineText}
+use Rattle.ht_entries.specs.ModelEntries.{ModelEntry}
 
 -- two of the names are one
 abbrev pub has_repeat : List (List ℕ) → Bool

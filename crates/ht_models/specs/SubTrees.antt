@@ -4,8 +4,8 @@ use Rattle.std.specs.Prelude.{◌≡◌, ℕ, ◌<◌, zero, suc, min, Bool, ◌
 use Rattle.std.specs.List.{filter_map, list_any, range_with_len, sum_by}
 use Rattle.std.specs.Option.{option_and_then}
 use Rattle.ht_base.specs.Places.{place_in}
-use Rattle.ht_models.specs.ModelEntries.{ModelEntry}
-use Rattle.ht_models.specs.SubEntries.{SubEntry}
+use Rattle.ht_entries.specs.ModelEntries.{ModelEntry}
+use Rattle.ht_entries.specs.SubEntries.{SubEntry}
 
 abbrev pub names_of : List ModelEntry → List (List ℕ)
 names_of t = map (λ m. m.name) t

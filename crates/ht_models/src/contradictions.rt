@@ -7,17 +7,12 @@ ghost use Rattle.ht_base.specs.Values.{Ascend};
 ghost use Rattle.ht_models.specs.Contradictions as spec;
 ghost use Rattle.ht_models.specs.Expressions.{declared};
 ghost use Rattle.ht_models.specs.Refusals.{IsContradicted};
-ghost use Rattle.ht_models.specs.SubEntries.{AreInOrder};
+ghost use Rattle.ht_entries.specs.SubEntries.{AreInOrder};
 ghost use Rattle.ht_models.specs.SubTrees.{model_named, names_of};
 
-use crate::choices::Trigger;
-use crate::deadlines::DeadlineText;
 use crate::declaring::{input_kind, is_of_kind, output_kind};
-use crate::finishes::{FinishText, Setting};
-use crate::label::Label;
-use crate::model_entry::ModelEntry;
-use crate::sub_entries::SubEntry;
 use ht_base::{How, Kind, Name};
+use ht_entries::{DeadlineText, FinishText, Label, ModelEntry, Setting, SubEntry, Trigger};
 use std::collections::BTreeMap;
 
 /// The first model that contradicts itself, by the places of the models.

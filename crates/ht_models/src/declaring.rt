@@ -3,9 +3,8 @@ ghost use Rattle.ht_expr.specs.KindTable.{is_of_kind};
 ghost use Rattle.ht_expr.specs.Kinds.{declared_kind};
 ghost use Rattle.ht_models.specs.Expressions as spec;
 
-use crate::model_entry::ModelEntry;
-use crate::parts::Part;
 use ht_base::{Kind, Memory, Name};
+use ht_entries::{ModelEntry, Part};
 use ht_expr::{Kinds, Side};
 use std::alloc::Global;
 

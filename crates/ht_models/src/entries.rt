@@ -5,7 +5,7 @@ ghost use Rattle.ht_models.specs.ModelsText.{IsMisshapen, is_top, models_text};
 ghost use Rattle.ht_toml.specs.Refusals.{Passes, refused};
 
 use crate::ModelsRefusal;
-use crate::model_entry::ModelEntry;
+use ht_entries::ModelEntry;
 use ht_toml::{EntriesFault, array_at, each, has_only};
 use std::alloc::Global;
 use toml::{Table, Value};

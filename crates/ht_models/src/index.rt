@@ -11,9 +11,9 @@ ghost use Rattle.ht_models.specs.Repeats as repeats;
 ghost use Rattle.ht_models.specs.SubTrees as spec;
 
 use crate::ModelsRefusal;
-use crate::model_entry::ModelEntry;
 use crate::repeats::repeats_name;
 use ht_base::{IndexFault, Memory, Name, name_places};
+use ht_entries::ModelEntry;
 use std::alloc::{AllocError, Global};
 use std::collections::BTreeMap;
 

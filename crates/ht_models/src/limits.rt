@@ -5,9 +5,8 @@ ghost use Rattle.ht_models.specs.Limits as spec;
 ghost use Rattle.ht_models.specs.Refusals.{IsTooMuch};
 ghost use Rattle.ht_models.specs.SubTrees.{AreCounted, sub_places};
 
-use crate::deadlines::{DeadlineKind, DeadlineText};
-use crate::model_entry::ModelEntry;
 use crate::tree_sizes::TreeSizes;
+use ht_entries::{DeadlineKind, DeadlineText, ModelEntry};
 
 /// The most models of a text.
 const MOST_MODELS: usize = 256;

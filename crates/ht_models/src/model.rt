@@ -1,9 +1,5 @@
-use crate::choices::{Composition, Delegation, Trigger};
-use crate::deadlines::DeadlineKind;
-use crate::finishes::Setting;
-use crate::parts::Part;
-use crate::sub_entries::SubEntry;
 use ht_base::{Moment, Name};
+use ht_entries::{Composition, DeadlineKind, Delegation, Part, Setting, SubEntry, Trigger};
 use ht_expr::{Assign, Expr};
 
 /// A task model: what all tasks of one kind have in common.

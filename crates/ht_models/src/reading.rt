@@ -8,16 +8,13 @@ ghost use Rattle.ht_models.specs.Reading.{IsDeadline, IsEscalation, IsFinish, Is
 ghost use Rattle.ht_models.specs.Refusals.{IsUnreadable};
 ghost use Rattle.ht_models.specs.Shown.{deadline_of, escalation_of, finish_of, model_of};
 
-use crate::choices::Delegation;
-use crate::deadlines::{DeadlineText, EscalationText};
 use crate::declaring::declared;
 use crate::expressions::{assignment_if_any, assignment_or_nobody, expression_if_any};
-use crate::finishes::FinishText;
 use crate::model::{Deadline, Escalation, Finish};
-use crate::model_entry::ModelEntry;
 use crate::tree_sizes::TreeSizes;
 use crate::{Model, ModelsRefusal};
 use ht_base::Kind;
+use ht_entries::{DeadlineText, Delegation, EscalationText, FinishText, ModelEntry};
 use ht_expr::{ExprRefusal, Kinds};
 use std::alloc::Global;
 

@@ -2,11 +2,8 @@ ghost use Rattle.std.specs.Prelude.{◌≡◌, ℕ, List, IfOk, map};
 ghost use Rattle.std.specs.List.{list_any};
 ghost use Rattle.ht_models.specs.Repeats as spec;
 
-use crate::deadlines::{DeadlineText, EscalationText};
-use crate::model_entry::ModelEntry;
-use crate::parts::Part;
-use crate::sub_entries::SubEntry;
 use ht_base::{IndexFault, Memory, Name, name_places};
+use ht_entries::{DeadlineText, EscalationText, ModelEntry, Part, SubEntry};
 use std::alloc::Global;
 
 /// Whether two parts of one side, two sub entries, two deadlines, or two escalations of one deadline

@@ -5,8 +5,8 @@ ghost use Rattle.ht_toml.specs.Refusals.{Passes, refused};
 ghost use Rattle.ht_models.specs.SubTrees as spec;
 
 use crate::ModelsRefusal;
-use crate::model_entry::ModelEntry;
 use ht_base::Name;
+use ht_entries::ModelEntry;
 use ht_graph::{Graph, first_cycle};
 use std::alloc::{AllocError, Global};
 use std::collections::BTreeMap;

@@ -1,6 +1,7 @@
 use ht_base::{How, Kind, Moment, Name};
+use ht_entries::{Composition, DeadlineKind, Delegation, Trigger, instant};
 use ht_expr::Assign;
-use ht_models::{Composition, Deadline, DeadlineKind, Delegation, Model, Models, Trigger, instant};
+use ht_models::{Deadline, Model, Models};
 use ht_samples::MODELS;
 use std::process::Abort;
 use std::test::Fail;

@@ -17,9 +17,9 @@ use Rattle.ht_base.specs.declared.value.Value.TheVariants as values
 use Rattle.ht_expr.specs.declared.node.Count.TheVariants.{Done}
 use Rattle.ht_expr.specs.declared.operator.Operator.TheVariants as operator
 use Rattle.ht_expr.specs.Trees.{binary, count, integer, nobody, user, when}
-use Rattle.ht_models.specs.declared.choices.Delegation.TheVariants as delegation
+use Rattle.ht_entries.specs.declared.choices.Delegation.TheVariants as delegation
 use Rattle.ht_models.specs.Model.{ModelOf}
-use Rattle.ht_models.specs.Parts.{part}
+use Rattle.ht_entries.specs.Parts.{part}
 use Rattle.ht_owner.specs.declared.follow.Follow.TheVariants as follow
 use Rattle.ht_owner.specs.declared.follow.Follow.TheVariants.{Began, Close, Freed, Held, Nothing}
 use Rattle.ht_owner.specs.Effects.{Effect, does, effect, refuses}

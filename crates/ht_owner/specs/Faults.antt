@@ -16,10 +16,10 @@ use Rattle.ht_base.specs.declared.role_list.RoleList.TheVariants as list
 use Rattle.ht_base.specs.declared.values.Values.{Values}
 use Rattle.ht_base.specs.Persons.{has}
 use Rattle.ht_base.specs.Values.{value_of}
-use Rattle.ht_models.specs.declared.choices.Delegation.{Delegation}
-use Rattle.ht_models.specs.declared.choices.Delegation.TheVariants as delegation
+use Rattle.ht_entries.specs.declared.choices.Delegation.{Delegation}
+use Rattle.ht_entries.specs.declared.choices.Delegation.TheVariants as delegation
 use Rattle.ht_models.specs.Model.{ModelOf}
-use Rattle.ht_models.specs.Parts.{Part}
+use Rattle.ht_entries.specs.Parts.{Part}
 use Rattle.ht_owner.specs.Naming.{is_this}
 use Rattle.ht_owner.specs.Suspending.{end_at}
 use Rattle.ht_people.specs.Directory as people

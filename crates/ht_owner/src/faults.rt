@@ -12,7 +12,8 @@ use ht_base::{
     Command, End, Limit, Memory, Moment, Name, Parts, Person, Persons, Refusal, RoleList, Unknown,
     Values,
 };
-use ht_models::{Delegation, Model, Part};
+use ht_entries::{Delegation, Part};
+use ht_models::Model;
 use ht_people::Directory;
 use ht_tree::{Plan, Row, Tables, refused_part, resolve};
 use std::alloc::Global;

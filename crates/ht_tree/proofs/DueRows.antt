@@ -13,8 +13,8 @@ use Rattle.ht_base.specs.Persons as persons
 use Rattle.ht_due.specs.declared.due.Due.{Due}
 use Rattle.ht_due.specs.Dues.{Ascends, compare_dues, has}
 use Rattle.ht_due.proofs.PublicLaws.{exact, itself}
-use Rattle.ht_models.specs.declared.deadlines.DeadlineKind.{DeadlineKind}
-use Rattle.ht_models.specs.declared.deadlines.DeadlineKind.TheVariants.{Start, Completion}
+use Rattle.ht_entries.specs.declared.deadlines.DeadlineKind.{DeadlineKind}
+use Rattle.ht_entries.specs.declared.deadlines.DeadlineKind.TheVariants.{Start, Completion}
 use Rattle.ht_models.specs.Model.{DeadlineOf, ModelOf}
 use Rattle.ht_tree.specs.declared.row.Row.{Row}
 use Rattle.ht_tree.specs.Plans.{IsPlanOf, PlanOf, planned}

@@ -24,7 +24,7 @@ use Rattle.ht_expr.specs.declared.kinds.Side.TheVariants.{Input, Output}
 use Rattle.ht_expr.specs.Environment.{may_be}
 use Rattle.ht_expr.specs.Kinds.{Declared, declared_kind, same_side}
 use Rattle.ht_models.specs.Kinded.{parts_of}
-use Rattle.ht_models.specs.Parts.{Part}
+use Rattle.ht_entries.specs.Parts.{Part}
 use Rattle.ht_people.specs.declared.entries.PersonEntry.{PersonEntry}
 use Rattle.ht_people.specs.Directory.{DirectoryOf, find as find_person}
 use Rattle.ht_tree.specs.Assigning.{find_user}

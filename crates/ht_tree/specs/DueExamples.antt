@@ -6,8 +6,8 @@ use Rattle.ht_base.specs.declared.value.Value.TheVariants as values
 use Rattle.ht_base.specs.Moment.{last_moment}
 use Rattle.ht_due.specs.declared.due.Due.{Due}
 use Rattle.ht_models.specs.BuiltIn.{plain_model}
-use Rattle.ht_models.specs.declared.deadlines.DeadlineKind.{DeadlineKind}
-use Rattle.ht_models.specs.declared.deadlines.DeadlineKind.TheVariants.{Start, Completion}
+use Rattle.ht_entries.specs.declared.deadlines.DeadlineKind.{DeadlineKind}
+use Rattle.ht_entries.specs.declared.deadlines.DeadlineKind.TheVariants.{Start, Completion}
 use Rattle.ht_models.specs.Model.{DeadlineOf, ModelOf}
 use Rattle.ht_tree.specs.declared.row.Row.{Row}
 use Rattle.ht_tree.specs.Creating.{bare_row}

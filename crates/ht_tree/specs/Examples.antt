@@ -11,7 +11,7 @@ use Rattle.ht_expr.specs.declared.operator.Operator.TheVariants as operator
 use Rattle.ht_expr.specs.Kinds.{Declared}
 use Rattle.ht_expr.specs.Trees.{Tree, binary, choice, everybody, except, group, initiator, integer, intersect, negative, nobody, part, priority, truth, union, user, when}
 use Rattle.ht_models.specs.BuiltIn.{plain_model}
-use Rattle.ht_models.specs.declared.deadlines.DeadlineKind.TheVariants.{Completion}
+use Rattle.ht_entries.specs.declared.deadlines.DeadlineKind.TheVariants.{Completion}
 use Rattle.ht_models.specs.Model.{DeadlineOf, ModelOf}
 use Rattle.ht_people.specs.declared.entries.PersonEntry.{PersonEntry}
 use Rattle.ht_people.specs.Directory.{DirectoryOf}

@@ -6,7 +6,7 @@ use Rattle.ht_base.specs.Places.{place_in}
 use Rattle.ht_base.specs.State.{is_final}
 use Rattle.ht_base.specs.declared.task_id.TaskId.{TaskId}
 use Rattle.ht_models.specs.Model.{ModelOf, names}
-use Rattle.ht_models.specs.SubEntries.{SubEntry}
+use Rattle.ht_entries.specs.SubEntries.{SubEntry}
 use Rattle.ht_models.specs.TreeSizes.{entry_size}
 use Rattle.ht_tree.specs.declared.row.Row.{Row}
 use Rattle.ht_tree.specs.Rows.{row_at}

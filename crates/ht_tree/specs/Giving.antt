@@ -12,7 +12,7 @@ use Rattle.ht_base.specs.declared.value.Value.TheVariants as values
 use Rattle.ht_base.specs.declared.values.Values.{Values}
 use Rattle.ht_base.specs.Moment.{last_moment}
 use Rattle.ht_base.specs.Values as base
-use Rattle.ht_models.specs.Parts.{Part}
+use Rattle.ht_entries.specs.Parts.{Part}
 use Rattle.ht_people.specs.Directory.{DirectoryOf}
 use Rattle.ht_tree.specs.Assigning.{find_user}
 

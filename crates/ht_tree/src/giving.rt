@@ -2,7 +2,7 @@ ghost use Rattle.std.specs.Prelude.{◌≡◌, IfOk, is_some, option_map};
 ghost use Rattle.ht_tree.specs.Giving as spec;
 
 use ht_base::{Kind, LAST, Memory, Moment, Name, Parts, Person, Scalar, Value, Values};
-use ht_models::Part;
+use ht_entries::Part;
 use ht_people::Directory;
 use std::alloc::Global;
 

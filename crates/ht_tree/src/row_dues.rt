@@ -6,7 +6,8 @@ ghost use Rattle.ht_tree.specs.RowDues as spec;
 use crate::Row;
 use ht_base::{Memory, Moment, Value};
 use ht_due::Due;
-use ht_models::{Deadline, DeadlineKind, Models};
+use ht_entries::DeadlineKind;
+use ht_models::{Deadline, Models};
 
 /// Puts the dues of a row behind others: its deferred activation, the end of its suspension, and its
 /// deadlines that are neither taken nor obsolete (WS-HumanTask 1.1, 4.9).

@@ -6,7 +6,7 @@ use Rattle.ht_compose.proofs.SeenRows.{row_seen}
 use Rattle.ht_compose.proofs.finishing.finish.Goals as goal
 use Rattle.ht_expr.specs.declared.environment.Env.{Env}
 use Rattle.ht_expr.specs.Environment.{has_parts}
-use Rattle.ht_models.specs.Finishes.{Setting}
+use Rattle.ht_entries.specs.Finishes.{Setting}
 use Rattle.ht_models.specs.Kinded.{parts_of}
 use Rattle.ht_models.specs.Model.{FinishOf, ModelOf}
 use Rattle.ht_models.specs.Shown as shown

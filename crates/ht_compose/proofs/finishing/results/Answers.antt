@@ -8,7 +8,7 @@ use Rattle.ht_compose.specs.Finding.{rows_of}
 use Rattle.ht_compose.specs.Finishes.{Sets, values_for}
 use Rattle.ht_compose.proofs.Settings.{kinds_for, one_more_set}
 use Rattle.ht_compose.proofs.finishing.results.Goals as goal
-use Rattle.ht_models.specs.Finishes.{Setting, setting}
+use Rattle.ht_entries.specs.Finishes.{Setting, setting}
 use Rattle.ht_tree.specs.declared.row.Row.{Row}
 use Rattle.ht_tree.specs.Plans.{planned}
 

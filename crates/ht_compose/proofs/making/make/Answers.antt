@@ -13,7 +13,7 @@ use Rattle.ht_compose.proofs.making.make.Goals as goal
 use Rattle.ht_compose.proofs.making.make.Goals.{then-is_final-via-then-is_final, then-is_final-via-else-is_final+in_ok-is_made+then-branch}
 use Rattle.ht_models.specs.Model.{ModelOf, names}
 use Rattle.ht_models.specs.Shown as shown
-use Rattle.ht_models.specs.SubEntries.{SubEntry}
+use Rattle.ht_entries.specs.SubEntries.{SubEntry}
 use Rattle.ht_tree.proofs.PublicLaws.{within}
 use Rattle.ht_tree.specs.Creating.{IsInput, new_row}
 use Rattle.ht_base.specs.State.{is_final}

@@ -27,7 +27,7 @@ put-requires-clause-next c =
     let is : IsTaking u c.args.task.0 c.args.place row m d =
     taking u c.args.task.0 c.args.place row m d c.requires.sound c.requires.open (sym c.in-Some.ensures.value) of listed (subst ReassignOwned c.models.ensures.value c.model-model.ensures.owned) in
     let lent : IsLent t c.args.plan.now c.take.new.self c.args.task.0 c.args.place row m d = record { is = is; lends = c.in_ok-row.ensures.lends } in
-    let put = row_is is c.in_ok-row.row c.in_ok-owners.owners c.in_ok-taken_row.field-0 c.in_ok-row.ensures.row c.in_ok-owners.ensures c.in_ok-taken_row.ensures in
+    let put = row_is is c.in_ok-row.row c.in_ok-follows.follows.owners c.in_ok-taken_row.field-0 c.in_ok-row.ensures.row c.in_ok-follows.ensures.owners c.in_ok-taken_row.ensures in
     next_row lent c.in_ok-taken_row.field-0 put
 
 pub put-requires-clause-fits : goal.put-requires-clause-fits
@@ -46,7 +46,7 @@ put-requires-clause-fits c =
     let is : IsTaking u c.args.task.0 c.args.place row m d =
     taking u c.args.task.0 c.args.place row m d c.requires.sound c.requires.open (sym c.in-Some.ensures.value) of listed (subst ReassignOwned c.models.ensures.value c.model-model.ensures.owned) in
     let lent : IsLent t c.args.plan.now c.take.new.self c.args.task.0 c.args.place row m d = record { is = is; lends = c.in_ok-row.ensures.lends } in
-    let put = row_is is c.in_ok-row.row c.in_ok-owners.owners c.in_ok-taken_row.field-0 c.in_ok-row.ensures.row c.in_ok-owners.ensures c.in_ok-taken_row.ensures in
+    let put = row_is is c.in_ok-row.row c.in_ok-follows.follows.owners c.in_ok-taken_row.field-0 c.in_ok-row.ensures.row c.in_ok-follows.ensures.owners c.in_ok-taken_row.ensures in
     row_fits lent c.in_ok-taken_row.field-0 put
 
 pub returns-clause-escalates : goal.returns-clause-escalates
@@ -65,5 +65,5 @@ returns-clause-escalates c =
     let is : IsTaking u c.args.task.0 c.args.place row m d =
     taking u c.args.task.0 c.args.place row m d c.requires.sound c.requires.open (sym c.in-Some.ensures.value) of listed (subst ReassignOwned c.models.ensures.value c.model-model.ensures.owned) in
     let lent : IsLent t c.args.plan.now c.take.new.self c.args.task.0 c.args.place row m d = record { is = is; lends = c.in_ok-row.ensures.lends } in
-    let put = row_is is c.in_ok-row.row c.in_ok-owners.owners c.in_ok-taken_row.field-0 c.in_ok-row.ensures.row c.in_ok-owners.ensures c.in_ok-taken_row.ensures in
-    on_ok_weaker c.notify_all.result (λ tells. escalated lent c.in_ok-taken_row.field-0 c.put.new.self c.notify_all.new.plan c.args.at c.in_ok-notices.notices.items put c.in_ok-put.ensures.goes tells c.in_ok-notices.ensures.notices c.requires.at) c.notify_all.ensures.told
+    let put = row_is is c.in_ok-row.row c.in_ok-follows.follows.owners c.in_ok-taken_row.field-0 c.in_ok-row.ensures.row c.in_ok-follows.ensures.owners c.in_ok-taken_row.ensures in
+    on_ok_weaker c.notify_all.result (λ tells. escalated lent c.in_ok-taken_row.field-0 c.put.new.self c.notify_all.new.plan c.args.at c.in_ok-follows.follows.notices.items put c.in_ok-put.ensures.goes tells c.in_ok-follows.ensures.notices c.requires.at) c.notify_all.ensures.told

@@ -10,7 +10,7 @@ use Rattle.ht_machine.proofs.Rows.{one}
 use Rattle.ht_machine.proofs.creating.create.Goals as goal
 use Rattle.ht_models.specs.Kinded.{parts_of}
 use Rattle.ht_models.specs.Model.{ModelOf}
-use Rattle.ht_models.specs.Parts.{Part}
+use Rattle.ht_entries.specs.Parts.{Part}
 use Rattle.ht_models.specs.Shown.{model_of}
 use Rattle.ht_owner.specs.declared.refusal.ActRefusal.{ActRefusal}
 use Rattle.ht_people.specs.Directory.{DirectoryOf}

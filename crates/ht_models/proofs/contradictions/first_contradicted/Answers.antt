@@ -1,6 +1,6 @@
 use Rattle.std.proofs.Common.{◌∙◌, sym}
 use Rattle.ht_models.specs.Contradictions.{is_contradicted}
-use Rattle.ht_models.specs.SubEntries.{AreInOrder}
+use Rattle.ht_entries.specs.SubEntries.{AreInOrder}
 use Rattle.ht_models.proofs.Elements.{all_behind, all_more}
 use Rattle.ht_models.proofs.FirstOnes.{first_one, none_found, none_more}
 use Rattle.ht_models.proofs.contradictions.first_contradicted.Goals as goal

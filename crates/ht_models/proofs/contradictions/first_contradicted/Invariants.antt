@@ -1,6 +1,6 @@
 use Rattle.std.proofs.Common.{All, take}
 use Rattle.ht_models.specs.Contradictions.{is_contradicted}
-use Rattle.ht_models.specs.SubEntries.{AreInOrder}
+use Rattle.ht_entries.specs.SubEntries.{AreInOrder}
 use Rattle.ht_models.proofs.FirstOnes.{NoneBefore}
 use Rattle.ht_models.proofs.contradictions.first_contradicted.Given as goal
 

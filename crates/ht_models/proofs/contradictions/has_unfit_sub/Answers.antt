@@ -1,7 +1,7 @@
 use Rattle.std.proofs.Common.{◌≡◌, ◌∙◌, ap, arith}
 use Rattle.std.proofs.lemmas.Grind.{common_steps}
 use Rattle.ht_base.specs.Values.{Ascend}
-use Rattle.ht_models.specs.ModelEntries.{ModelEntry}
+use Rattle.ht_entries.specs.ModelEntries.{ModelEntry}
 use Rattle.ht_models.proofs.Elements.{all_behind, all_more}
 use Rattle.ht_models.proofs.contradictions.has_unfit_sub.Goals as goal
 

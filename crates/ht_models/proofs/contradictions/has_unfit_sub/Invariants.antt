@@ -2,7 +2,7 @@ use Rattle.std.proofs.Common.{◌≡◌, drop, take}
 use Rattle.std.specs.List.{list_any}
 use Rattle.ht_models.specs.Contradictions.{misses_parts}
 use Rattle.ht_models.specs.Expressions.{declared}
-use Rattle.ht_models.specs.SubEntries.{AreInOrder}
+use Rattle.ht_entries.specs.SubEntries.{AreInOrder}
 use Rattle.ht_models.proofs.contradictions.has_unfit_sub.Given as goal
 
 abbrev pub invariant-loop-sub : goal.invariant-loop-sub

@@ -5,7 +5,7 @@ use Rattle.std.specs.List.{list_any}
 use Rattle.std.specs.Ordering.{nat_cmp}
 use Rattle.std.specs.Prelude.{is_none}
 use Rattle.ht_base.specs.Indexes.{IsIndex}
-use Rattle.ht_models.specs.ModelEntries.{ModelEntry}
+use Rattle.ht_entries.specs.ModelEntries.{ModelEntry}
 use Rattle.ht_models.specs.SubTrees.{names_of, names_unknown_model}
 use Rattle.ht_models.proofs.FirstOnes.{first_one, none_found, none_more}
 use Rattle.ht_models.proofs.index.check_known.Goals as goal

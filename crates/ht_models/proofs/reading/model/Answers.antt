@@ -3,7 +3,7 @@ use Rattle.std.proofs.lemmas.Result.{err_from_is_err_and}
 use Rattle.ht_base.specs.declared.kind.Kind.TheVariants.{Int}
 use Rattle.ht_expr.specs.Trees.{integer}
 use Rattle.ht_models.specs.Expressions.{expression}
-use Rattle.ht_models.specs.ModelEntries.{ModelEntry}
+use Rattle.ht_entries.specs.ModelEntries.{ModelEntry}
 use Rattle.ht_models.proofs.ModelLists.{by_administrators, by_deadlines, by_delegatees, by_excluded_owners, by_finishes, by_potential_owners, by_stakeholders}
 use Rattle.ht_models.proofs.Spellings.{or_of_if_any}
 use Rattle.ht_models.proofs.reading.model.Goals as goal

@@ -1,6 +1,6 @@
 use Rattle.std.proofs.Common.{◌≡◌, ◌∙◌, append-nil, ap, sym}
 use Rattle.ht_base.specs.Places.{place_in}
-use Rattle.ht_models.specs.SubEntries.{SubEntry}
+use Rattle.ht_entries.specs.SubEntries.{SubEntry}
 use Rattle.ht_models.proofs.SubPlaces.{found_more}
 use Rattle.ht_models.proofs.sub_graph.sub_places.Goals as goal
 use Rattle.ht_models.proofs.sub_graph.sub_places.Goals.{in-Some+in_ok-push, in_default}

@@ -1,0 +1,6 @@
+mod AscendingPairs
+mod Days
+mod InstantCuts
+mod InstantExamples
+mod InstantTexts
+mod Words

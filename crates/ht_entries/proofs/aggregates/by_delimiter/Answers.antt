@@ -1,0 +1,6 @@
+use Rattle.std.proofs.Common.{refl}
+use Rattle.ht_entries.proofs.Words.{other}
+use Rattle.ht_entries.proofs.aggregates.by_delimiter.Goals as goal
+
+pub returns-in_default : goal.returns-in_default
+returns-in_default c = rw (other c.in_default.not-concatWithDelimiter) refl

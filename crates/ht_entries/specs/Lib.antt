@@ -1,0 +1,10 @@
+pub mod Aggregates
+pub mod Deadlines
+pub mod Finishes
+pub mod Instants
+pub mod Labels
+pub mod ModelEntries
+pub mod Parts
+pub mod ShapeExamples
+pub mod SubEntries
+pub mod Times
