@@ -96,7 +96,7 @@ fn put_one(
     }
     let mut row = plan.take(alloc, tables, task)?;
     row.priority = priority;
-    if row.task.0 == 0 || row.task.0 > plan.rows(tables) {
+    if row.task.0 != task.0 || task.0 == 0 || task.0 > plan.rows(tables) {
         return Err(CreateRefusal::TaskLimit);
     }
     plan.put(tables, row)?;

@@ -1,6 +1,6 @@
 -- What items do of tasks that are there, and plans that go on by them.
+use Rattle.ht_tree.specs.Rows.{model_in}
 use Rattle.std.proofs.Common.{◌≡◌, ℕ, List, length, map, Option, Some, sym, subst, ap, ◌∙◌}
-use Rattle.std.specs.Prelude.{slice_get}
 use Rattle.ht_base.specs.declared.moment.Moment.{Moment}
 use Rattle.ht_compose.specs.declared.item.Item.{Item as Task}
 use Rattle.ht_compose.specs.Items.{Does, Item, Step, does, on_model, on_row, on_task}
@@ -22,8 +22,8 @@ pub on_this_task : (u : TablesOf) (f : Row → ModelOf → Step) (t : ℕ) (row 
 on_this_task u f t row m there of_model = ap (λ (o : Option ModelOf). on_model u row f o) (sym of_model) ∙ ap (λ (o : Option Row). on_task u f o) (sym there)
 
 -- its model, by its place
-pub model_there : (u : TablesOf) (row : Row) (models : List ModelOf) (m : ModelOf) → models ≡ u.models → slice_get models row.model ≡ Some m → model_of u row ≡ Some m
-model_there u row models m are at = ap (λ (ms : List ModelOf). slice_get ms row.model) (sym are) ∙ at
+pub model_there : (u : TablesOf) (row : Row) (models : List ModelOf) (m : ModelOf) → models ≡ u.models → model_in models row ≡ Some m → model_of u row ≡ Some m
+model_there u row models m are at = ap (λ (ms : List ModelOf). model_in ms row) (sym are) ∙ at
 
 -- ---- nothing changes
 

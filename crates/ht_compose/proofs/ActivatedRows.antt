@@ -1,4 +1,5 @@
 -- That an activated row is sound, and what activation does.
+use Rattle.ht_tree.specs.Rows.{model_in}
 use Rattle.std.proofs.Common.{◌≡◌, ℕ, Bool, true, false, length, List, [], ◌∷◌, Option, Some, is_some, IsTrue, refl, ap, sym, subst, ◌∙◌, if◌then◌else◌}
 use Rattle.std.specs.Option.{option_map_or}
 use Rattle.ht_base.specs.declared.moment.Moment.{Moment}
@@ -24,17 +25,17 @@ going_on [] = refl
 going_on (p ∷ []) = refl
 going_on (p ∷ q ∷ ps) = refl
 
-pub activated_goes_on : (needs : Bool) (row : Row) → row.state ≡ Created → is_final (activated_as needs row).state ≡ false
+pub activated_goes_on : (needs : Bool) (row : Row) → row.state ≡ Created → is_final (activated_as needs row.potential_owners row).state ≡ false
 activated_goes_on true row created = ap (λ (s : State). is_final (state_by row.potential_owners s)) created ∙ going_on row.potential_owners
 activated_goes_on false row created = refl
 
-pub activated_filed : (needs : Bool) (row : Row) → filed_of (activated_as needs row) ≡ filed_of row
+pub activated_filed : (needs : Bool) (row : Row) → filed_of (activated_as needs row.potential_owners row) ≡ filed_of row
 activated_filed true row = refl
 activated_filed false row = refl
 
-pub activated_sound : (u : TablesOf) (needs : Bool) (row : Row) → row.state ≡ Created → needs_owner u.models row.model ≡ needs → IsSoundRow u row → IsSoundRow u (activated_as needs row)
+pub activated_sound : (u : TablesOf) (needs : Bool) (row : Row) → row.state ≡ Created → needs_owner (model_in u.models row) ≡ needs → IsSoundRow u row → IsSoundRow u (activated_as needs row.potential_owners row)
 activated_sound u true row created needed sound =
-    let W : Bool → Type 0 = λ b. IsWhose (length u.people.persons) b row.excluded_owners (activated_as true row).state (activated_as true row).owner in
+    let W : Bool → Type 0 = λ b. IsWhose (length u.people.persons) b row.excluded_owners (activated_as true row.potential_owners row).state (activated_as true row.potential_owners row).owner in
     record {
       filed = sound.filed;
       held = sound.held;
@@ -72,10 +73,10 @@ activated_sound u false row created needed sound =
 pub record IsActivated (u : TablesOf) (row after : Row) (m : ModelOf) : Type 0 where
   pub created : row.state ≡ Created
   pub of_model : model_of u row ≡ Some m
-  pub is : after ≡ activated_as m.owner_required row
+  pub is : after ≡ activated_as m.owner_required row.potential_owners row
 
 module _ {u : TablesOf} {row after : Row} {m : ModelOf} (a : IsActivated u row after m) where
-  its_need : needs_owner u.models row.model ≡ m.owner_required
+  its_need : needs_owner (model_in u.models row) ≡ m.owner_required
   its_need = ap (λ (o : Option ModelOf). option_map_or (λ (x : ModelOf). x.owner_required) o true) a.of_model
 
   pub activated_may : MayReplace u row after
@@ -88,5 +89,5 @@ module _ {u : TablesOf} {row after : Row} {m : ModelOf} (a : IsActivated u row a
   pub does_activate : (at : Moment) (t : ℕ) → task_row u t ≡ Some row → Does at u (Activate t) (does (with_row u after) (if m.owner_required then [] else Begin row.task.0 ∷ []))
   does_activate at t there =
       ap (λ (r : Row). does (with_row u r) (if m.owner_required then [] else Begin row.task.0 ∷ [])) a.is
-      ∙ ap (λ (b : Bool). if b then does (with_row u (activated m row)) (if m.owner_required then [] else Begin row.task.0 ∷ []) else still u) (sym (ap is_created a.created))
+      ∙ ap (λ (b : Bool). if b then does (with_row u (activated u m row)) (if m.owner_required then [] else Begin row.task.0 ∷ []) else still u) (sym (ap is_created a.created))
       ∙ on_this_task u (activates u) t row m there a.of_model

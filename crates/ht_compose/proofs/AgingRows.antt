@@ -1,4 +1,5 @@
 -- That a row ages by what is done with it, and nothing more is due of it then.
+use Rattle.ht_tree.specs.Tables.{TablesOf}
 use Rattle.std.proofs.Common.{◌≡◌, ◌⊎◌, ℕ, ◌+◌, Bool, true, false, ◌||◌, if◌then◌else◌, List, [], ◌∷◌, ◌++◌, Option, None, Some, inl, inr, refl, sym, ap, subst, ◌∙◌}
 use Rattle.std.proofs.lemmas.List.Folds.{list_any-append}
 use Rattle.std.proofs.Math.Bool.{or-true}
@@ -66,10 +67,10 @@ ages_further old mid new a b = record {
 lives : (s t : State) → is_final s ≡ false → is_final s ≡ true → is_final t ≡ true
 lives s t live end = absurd cc
 
-pub activated_ages : (m : ModelOf) (row : Row) → is_created row.state ≡ true → Ages row (activated m row)
-activated_ages m row created = go m.owner_required
+pub activated_ages : (u : TablesOf) (m : ModelOf) (row : Row) → is_created row.state ≡ true → Ages row (activated u m row)
+activated_ages u m row created = go m.owner_required
   where
-    go : (b : Bool) → Ages row (activated_as b row)
+    go : (b : Bool) → Ages row (activated_as b row.potential_owners row)
     go true = record {
       task = refl;
       model = refl;

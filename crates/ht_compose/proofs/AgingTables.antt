@@ -1,4 +1,5 @@
 -- That all tasks age by what is done on composite tasks.
+use Rattle.ht_models.specs.Contradictions.{is_automatic}
 use Rattle.std.proofs.Common.{◌≡◌, ◌⊎◌, ℕ, ◌+◌, ◌==◌, Bool, true, false, not, ◌&&◌, ◌||◌, if◌then◌else◌, List, [], ◌∷◌, ◌++◌, length, map, Option, None, Some, option_map, inl, inr, refl, sym, ap, subst, ◌∙◌, arith}
 use Rattle.std.proofs.lemmas.Bool.{eqb-true}
 use Rattle.std.proofs.lemmas.Bool.Decides.{nat_tests}
@@ -18,7 +19,7 @@ use Rattle.ht_compose.specs.Downward.{end_below, ended, freed, freeing}
 use Rattle.ht_compose.specs.Families.{is_above}
 use Rattle.ht_compose.specs.Finishes.{chosen}
 use Rattle.ht_compose.specs.Freeing.{Frees, checks_of}
-use Rattle.ht_compose.specs.Items.{Checks, Does, Finishes, Item, OnModel, OnTask, Step, activated, activates, begins, closes, comes_next, does, finished, follows_by, has_failed, is_automatic, is_checked, is_in_progress, makes_at, makes_entry, makes_of, makes_one, on_model, on_row, on_task, rises, still, sub_task}
+use Rattle.ht_compose.specs.Items.{Checks, Does, Finishes, Item, OnModel, OnTask, Step, activated, activates, begins, closes, comes_next, does, finished, follows_by, has_failed, is_checked, is_in_progress, makes_at, makes_entry, makes_of, makes_one, on_model, on_row, on_task, rises, still, sub_task}
 use Rattle.ht_compose.specs.Items.Item.{Activate, Begin, Check, Close, Make, Next, Up}
 use Rattle.ht_compose.specs.Work.{AreNumbered}
 use Rattle.ht_models.specs.Model.{FinishOf, ModelOf}
@@ -121,7 +122,7 @@ module _ (at : Moment) (u : TablesOf) where
       never id r is none false test = absent (row_at id (put_in u.rows row)) r is (put_at row id false next test ∙ none)
 
   -- the row of a new task
-  behind_ages : (row : Row) → row.task.0 ≡ length u.rows + 1 → row.created ≡ at → row.waits ≡ None → row.until ≡ None → AllAge at u (with_row u row)
+  pub behind_ages : (row : Row) → row.task.0 ≡ length u.rows + 1 → row.created ≡ at → row.waits ≡ None → row.until ≡ None → AllAge at u (with_row u row)
   behind_ages row number created waits until = record {
     there = λ id r is. (r, put_at row id false next (other id r is) ∙ is, ages_itself r);
     new = λ id r is none. new id r is none (row.task.0 == id) refl;
@@ -224,7 +225,7 @@ module _ (at : Moment) (u : TablesOf) (numbered : AreNumbered u.rows) where
   follows row m (Some p) = either (not (is_final row.state) && comes_next m p.1) _ _ (λ h. rests) (λ h. rests)
 
   activate_ages : (t : ℕ) → Aged (on_task u (activates u) (task_row u t))
-  activate_ages t = of_task t (activates u) (λ row m is. either (is_created row.state) _ _ (λ created. put_ages at u t row (activated m row) numbered is (activated_ages m row created)) (λ h. rests))
+  activate_ages t = of_task t (activates u) (λ row m is. either (is_created row.state) _ _ (λ created. put_ages at u t row (activated u m row) numbered is (activated_ages u m row created)) (λ h. rests))
 
   begin_ages : (t : ℕ) → Aged (on_task u (begins u) (task_row u t))
   begin_ages t = of_task t (begins u) (λ row m is. either (is_in_progress row.state) _ _ (λ h. put_ages at u t row (record row { started = true }) numbered is (started_ages row)) (λ h. rests))

@@ -1,4 +1,5 @@
 -- That a row stays sound, and in its family, by what comes of it.
+use Rattle.ht_tree.specs.Rows.{model_in}
 use Rattle.std.proofs.Common.{◌≡◌, ℕ, Bool, true, false, not, ◌&&◌, ◌||◌, List, Option, None, IsTrue, is_some, refl, sym, ap, ◌∙◌, subst, if◌then◌else◌}
 use Rattle.ht_base.specs.declared.moment.Moment.{Moment}
 use Rattle.ht_base.specs.declared.operation.Op.TheVariants.{Resume, Suspend}
@@ -116,7 +117,7 @@ closed_sound models persons end row final sound =
         administrators_ascend = who.administrators_ascend;
         stakeholders_ascend = who.stakeholders_ascend;
       };
-      whose = nobodys persons (needs_owner models row.model) row.excluded_owners end final;
+      whose = nobodys persons (needs_owner (model_in models row)) row.excluded_owners end final;
       when = record { waits = λ h. absurd cc; until = λ h. absurd cc; created_within = (sound.when).created_within; waits_within = tt; until_within = tt };
       how = sound.how;
     }
@@ -177,7 +178,7 @@ changed_sound models persons change.Hold row ends sound = go (contains_state ope
       filed = sound.filed;
       held = sound.held;
       who = sound.who;
-      whose = same_whose persons (needs_owner models row.model) row.excluded_owners row.state (moved_by Suspend row.state) row.owner (held_states row.state is).0 (held_states row.state is).1 sound.whose;
+      whose = same_whose persons (needs_owner (model_in models row)) row.excluded_owners row.state (moved_by Suspend row.state) row.owner (held_states row.state is).0 (held_states row.state is).1 sound.whose;
       when = held_when row.state row.created row.waits row.until is sound.when;
       how = sound.how;
     }
@@ -189,7 +190,7 @@ changed_sound models persons change.Free row ends sound = go (is_suspended row.s
       filed = sound.filed;
       held = sound.held;
       who = sound.who;
-      whose = same_whose persons (needs_owner models row.model) row.excluded_owners row.state (moved_by Resume row.state) row.owner (freed_states row.state is).0 (freed_states row.state is).1 sound.whose;
+      whose = same_whose persons (needs_owner (model_in models row)) row.excluded_owners row.state (moved_by Resume row.state) row.owner (freed_states row.state is).0 (freed_states row.state is).1 sound.whose;
       when = freed_when row.state row.created row.waits row.until is sound.when;
       how = sound.how;
     }

@@ -1,5 +1,7 @@
 -- What is done where a task is checked or gathers its results, and plans that go on by it.
+use Rattle.ht_models.specs.Contradictions.{is_automatic}
 use Rattle.std.proofs.Common.{◌≡◌, ℕ, ◌&&◌, Bool, true, false, List, [], ◌∷◌, length, map, Option, Some, None, if◌then◌else◌, refl, ap, sym, subst, ◌∙◌}
+use Rattle.std.specs.Option.{option_or}
 use Rattle.std.specs.Prelude.{find}
 use Rattle.ht_base.specs.declared.moment.Moment.{Moment}
 use Rattle.ht_base.specs.declared.state.State.TheVariants.{Completed}
@@ -10,9 +12,9 @@ use Rattle.ht_compose.proofs.OneRow.{one}
 use Rattle.ht_compose.proofs.ResultsHeld.{found_sound}
 use Rattle.ht_compose.specs.Downward.{skipping}
 use Rattle.ht_compose.specs.Finding.{Finds}
-use Rattle.ht_compose.specs.Finishes.{all_ended, applies, chosen, default, or_default}
+use Rattle.ht_compose.specs.Finishes.{all_ended, applies, chosen, default}
 use Rattle.ht_compose.specs.Gathering.{GathersBy, IsGathered}
-use Rattle.ht_compose.specs.Items.{Checks, Finishes, OnModel, OnTask, Step, finished, has_ended, has_sub_ended, is_automatic, is_checked, is_in_progress, still}
+use Rattle.ht_compose.specs.Items.{Checks, Finishes, OnModel, OnTask, Step, finished, has_ended, has_sub_ended, is_checked, is_in_progress, still}
 use Rattle.ht_compose.specs.Items.Item.{Check, Close}
 use Rattle.ht_compose.specs.Reaching.{IsTask}
 use Rattle.ht_compose.specs.Running.{Acts, item_of}
@@ -32,7 +34,7 @@ use Rattle.ht_tree.specs.Tables.{TablesOf, model_of, task_row, with_row, with_ro
 -- none of no finishes is chosen
 pub none_chosen : (rows : List Row) (m : ModelOf) (row : Row) → m.finishes ≡ [] → chosen rows m row ≡ None
 none_chosen rows m row none =
-    ap (λ (fs : List FinishOf). or_default (find (applies (parts_of m.input m.output) (sees rows row)) fs) (if all_ended row.task.0 (length m.subs) rows then default fs else None)) none
+    ap (λ (fs : List FinishOf). option_or (find (applies (parts_of m.input m.output) (sees rows row)) fs) (if all_ended row.task.0 (length m.subs) rows then default fs else None)) none
     ∙ go (all_ended row.task.0 (length m.subs) rows)
   where
     go : (b : Bool) → (if b then default [] else None) ≡ None

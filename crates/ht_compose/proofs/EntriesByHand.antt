@@ -1,4 +1,5 @@
 -- Entries whose sub tasks may be made by hand, told by the numbers of a task's sub tasks.
+use Rattle.ht_models.specs.Contradictions.{is_automatic}
 use Rattle.std.proofs.Common.{◌≡◌, ℕ, ◌+◌, suc, Bool, true, false, not, ◌&&◌, ◌||◌, if◌then◌else◌, bytes_eq, List, [], ◌∷◌, map, Option, Some, None, refl, sym, ap, subst, ◌∙◌, arith}
 use Rattle.std.specs.List.{list_any}
 use Rattle.std.specs.Option.{option_and_then}
@@ -8,7 +9,7 @@ use Rattle.ht_compose.specs.ByHand.{IsEntryOf, entry_of, may_be_made, named_from
 use Rattle.ht_compose.specs.Composing.{IsToMake}
 use Rattle.ht_compose.specs.Finding.{rows_of}
 use Rattle.ht_compose.specs.Finishes.{all_ended}
-use Rattle.ht_compose.specs.Items.{is_automatic, is_sequential}
+use Rattle.ht_compose.specs.Items.{is_sequential}
 use Rattle.ht_compose.proofs.Entries.{ended_among, subs_again}
 use Rattle.ht_compose.proofs.OneRow.{one}
 use Rattle.ht_compose.proofs.SubRows.{made_among}

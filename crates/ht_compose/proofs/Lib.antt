@@ -3,6 +3,7 @@ mod ActivatedRows
 mod AgingRows
 mod AgingTables
 mod AlwaysEnding
+mod AlwaysFollowing
 mod Chains
 mod ChainsAbove
 mod Changed
@@ -17,7 +18,9 @@ mod EntriesByHand
 mod Freed
 mod FreedAlone
 mod Going
+mod InOrder
 mod Keeping
+mod LeftToTake
 mod MappedInputs
 mod Moments
 mod NewSubs

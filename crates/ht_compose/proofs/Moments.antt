@@ -1,4 +1,5 @@
 -- What is done on composite tasks is the same whatever the moment of the last record was.
+use Rattle.ht_models.specs.Contradictions.{is_automatic}
 use Rattle.std.proofs.Common.{◌≡◌, ℕ, Bool, true, false, not, ◌&&◌, ◌||◌, List, [], ◌∷◌, ◌++◌, Option, None, Some, if◌then◌else◌, refl, ap, sym, ◌∙◌}
 use Rattle.std.specs.Prelude.{slice_get}
 use Rattle.ht_base.specs.declared.moment.Moment.{Moment}
@@ -8,7 +9,7 @@ use Rattle.ht_compose.specs.Agenda.Ends.{end, on}
 use Rattle.ht_compose.specs.Finishes.{chosen}
 use Rattle.ht_compose.specs.Freeing.{Frees, checks_of}
 use Rattle.ht_compose.specs.Downward.{freeing}
-use Rattle.ht_compose.specs.Items.{Checks, Does, Finishes, Item, OnModel, OnTask, Step, activates, begins, closes, comes_next, follows_by, has_failed, is_automatic, is_checked, is_in_progress, makes_at, makes_entry, makes_of, makes_one, on_model, on_row, on_task, rises}
+use Rattle.ht_compose.specs.Items.{Checks, Does, Finishes, Item, OnModel, OnTask, Step, activates, begins, closes, comes_next, follows_by, has_failed, is_checked, is_in_progress, makes_at, makes_entry, makes_of, makes_one, on_model, on_row, on_task, rises}
 use Rattle.ht_compose.specs.Items.Item.{Activate, Begin, Check, Close, Make, Next, Up}
 use Rattle.ht_models.specs.Model.{FinishOf, ModelOf}
 use Rattle.ht_entries.specs.SubEntries.{SubEntry}

@@ -1,4 +1,5 @@
 -- A sub task that is made: its row may come, and what its making does.
+use Rattle.ht_tree.specs.Rows.{model_in}
 use Rattle.std.proofs.Common.{◌≡◌, ℕ, ◌+◌, ◌<◌, ◌^◌, Bool, true, false, ◌||◌, List, [], ◌∷◌, length, map, Option, Some, None, IfSome, unwrap_or, if◌then◌else◌, refl, ap, sym, subst, ◌∙◌, arith}
 use Rattle.std.specs.Prelude.{slice_get}
 use Rattle.ht_base.specs.declared.moment.Moment.{Moment}
@@ -33,7 +34,7 @@ pub record IsWanted (u : TablesOf) (t e : ℕ) (row : Row) (m : ModelOf) (entry 
   pub named : place_in entry.model (names u.models) ≡ Some place
 
 -- of what was found
-pub wanted : (u : TablesOf) (t e : ℕ) (row : Row) (models : List ModelOf) (m : ModelOf) (entry : SubEntry) (place : ℕ) → IsSound u → models ≡ u.models → AreMapped models → Some row ≡ task_row u t → slice_get models row.model ≡ Some m → is_final row.state ≡ false → is_made t e u.rows ≡ false → slice_get m.subs e ≡ Some entry → Some place ≡ place_in entry.model (names models) → IsWanted u t e row m entry place
+pub wanted : (u : TablesOf) (t e : ℕ) (row : Row) (models : List ModelOf) (m : ModelOf) (entry : SubEntry) (place : ℕ) → IsSound u → models ≡ u.models → AreMapped models → Some row ≡ task_row u t → model_in models row ≡ Some m → is_final row.state ≡ false → is_made t e u.rows ≡ false → slice_get m.subs e ≡ Some entry → Some place ≡ place_in entry.model (names models) → IsWanted u t e row m entry place
 wanted u t e row models m entry place sound are mapped there of_model live not_made listed named = record {
   sound = sound;
   mapped = let A : List ModelOf → Type 0 = λ ms. AreMapped ms in subst A are mapped;

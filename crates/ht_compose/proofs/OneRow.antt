@@ -6,9 +6,9 @@ use Rattle.ht_compose.specs.Reaching.{IsTask, Reaches, changed, reached, touches
 use Rattle.ht_compose.proofs.Changed.{changed_standing, untouched}
 use Rattle.ht_compose.proofs.Spread.{put_itself}
 use Rattle.ht_tree.specs.declared.row.Row.{Row}
-use Rattle.ht_tree.specs.Plans.{Goes, IsNext, IsPlanOf, Lends, PlanOf, planned}
+use Rattle.ht_tree.specs.Plans.{Goes, IsNext, IsPlanOf, KeepsFile, Lends, planned, PlanOf}
 use Rattle.ht_tree.specs.Tables.{TablesOf, task_row, with_row, with_rows}
-use Rattle.ht_tree.proofs.PublicLaws.{put_again, stays, within}
+use Rattle.ht_tree.proofs.PublicLaws.{file_of, put_again, stays, within}
 
 pub one : {A : Type 0} (o : Option A) (x y : A) → o ≡ Some x → o ≡ Some y → x ≡ y
 one o x y e f = cc
@@ -37,6 +37,11 @@ module _ (t : TablesOf) (old taken : PlanOf) (task : ℕ) (what : Reach) (id : �
   -- and one that is taken and put again
   pub changed_next : IsNext (planned t taken).rows (changed c row)
   changed_next = lends.next (changed c row) number next
+
+  pub changed_file : KeepsFile (planned t taken).rows (changed c row)
+  changed_file =
+      let stands = changed_standing c row in
+      lends.file (changed c row) number (file_of (planned t old).rows (changed c row) row id number there (ap (λ b. b.1.0) stands) (ap (λ b. b.1.1) stands))
 
   pub put_reached : (new : PlanOf) → changed c row ≡ reached what (planned t old).rows task row → Goes t taken new (planned t taken) (with_row (planned t taken) (changed c row)) → Reaches t old new task what id
   put_reached new comes goes =

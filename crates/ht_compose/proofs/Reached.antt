@@ -9,7 +9,7 @@ use Rattle.ht_compose.specs.declared.reaching.Reach.{Reach}
 use Rattle.ht_compose.specs.declared.reaching.Reach.TheVariants as reach
 use Rattle.ht_compose.specs.Downward.{end_below, ended, freed, held}
 use Rattle.ht_compose.specs.Families.{is_above}
-use Rattle.ht_compose.specs.Reaching.{Ends, all_reached, changed, reached}
+use Rattle.ht_compose.specs.Reaching.{ReachIsFinal, all_reached, changed, reached}
 use Rattle.ht_compose.proofs.Chains.{sub_below}
 use Rattle.ht_compose.proofs.Changed.{EndsIn, changed_sound, changed_standing, ended_ends, freed_ends, held_ends}
 use Rattle.ht_tree.specs.declared.row.Row.{Row}
@@ -30,7 +30,7 @@ end_below_final : (end : State) → is_final (end_below end) ≡ true
 end_below_final Obsolete = refl
 end_below_final s = refl
 
-pub comes_of : (what : Reach) (rows : List Row) (task : ℕ) (row : Row) → Ends what → ComesOf what rows task row
+pub comes_of : (what : Reach) (rows : List Row) (task : ℕ) (row : Row) → ReachIsFinal what → ComesOf what rows task row
 comes_of (reach.Close end) rows task row ends = itself (row.task.0 == task) refl
   where
     lower : (b : Bool) → is_above rows task row ≡ b → (row.task.0 == task) ≡ false → ComesOf (reach.Close end) rows task row
@@ -56,7 +56,7 @@ comes_of reach.Free rows task row ends = go (is_above rows task row) refl
     go true e = record { change = change.Free; is = rw e refl; ends = tt }
     go false e = record { change = change.Nothing; is = rw e refl; ends = tt }
 
-pub reached_standing : (what : Reach) (rows : List Row) (task : ℕ) (row : Row) → Ends what → standing (reached what rows task row) ≡ standing row
+pub reached_standing : (what : Reach) (rows : List Row) (task : ℕ) (row : Row) → ReachIsFinal what → standing (reached what rows task row) ≡ standing row
 reached_standing what rows task row ends = let c = comes_of what rows task row ends in ap standing c.is ∙ changed_standing c.change row
 
 -- ---- below a task that has ended
@@ -129,14 +129,14 @@ module _ (u : TablesOf) (sound : IsSound u) (task : ℕ) where
       go true = freed_ends row
       go false = refl
 
-  passes : (what : Reach) → Ends what → Passes what
+  passes : (what : Reach) → ReachIsFinal what → Passes what
   passes (reach.Close end) ends = closes end ends
   passes reach.Skip ends = skips
   passes reach.Hold ends = leaves reach.Hold hold_leaves
   passes reach.Free ends = leaves reach.Free free_leaves
 
   -- a task that had ended still has
-  still_ended : (what : Reach) (row : Row) → Ends what → is_final row.state ≡ true → is_final (after what row).state ≡ true
+  still_ended : (what : Reach) (row : Row) → ReachIsFinal what → is_final row.state ≡ true → is_final (after what row).state ≡ true
   still_ended what row ends final = let c = comes_of what u.rows task row ends in ap (λ (r : Row). is_final r.state) c.is ∙ go c.change c.ends
     where
       go : (c : Change) → EndsIn c → is_final (changed c row).state ≡ true
@@ -145,7 +145,7 @@ module _ (u : TablesOf) (sound : IsSound u) (task : ℕ) where
       go change.Hold e = held_ends row ∙ final
       go change.Free e = freed_ends row ∙ final
 
-  have_ended : (what : Reach) → Ends what → HaveEndedBelow (map (λ row. reached what u.rows task row) u.rows)
+  have_ended : (what : Reach) → ReachIsFinal what → HaveEndedBelow (map (λ row. reached what u.rows task row) u.rows)
   have_ended what ends id row above p at parent there final =
       let f = λ (r : Row). reached what u.rows task r in
       let r = mapped_from f u.rows id row at in
@@ -158,7 +158,7 @@ module _ (u : TablesOf) (sound : IsSound u) (task : ℕ) where
       ends_too r at under a there done true is = still_ended what r ends ((sound.families).ended_below id r a p at under there is)
       ends_too r at under a there done false is = passes what ends id r p a at under there is done
 
-  pub all_sound : (what : Reach) → Ends what → IsSound (with_rows u (all_reached what u.rows task))
+  pub all_sound : (what : Reach) → ReachIsFinal what → IsSound (with_rows u (all_reached what u.rows task))
   all_sound what ends =
       mapped_sound u (λ row. reached what u.rows task row)
       (λ row. reached_standing what u.rows task row ends)

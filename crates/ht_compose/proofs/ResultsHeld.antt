@@ -5,6 +5,7 @@ use Rattle.std.proofs.lemmas.Bool.Decides.{nat_tests}
 use Rattle.std.proofs.lemmas.List.Elements.{All-append, All-filter, All-head, All-nil, All-tail}
 use Rattle.std.proofs.lemmas.Option.{get_or_from_slice_get}
 use Rattle.std.specs.List.{list_all}
+use Rattle.std.specs.Option.{option_or}
 use Rattle.std.specs.Prelude.{is_none}
 use Rattle.ht_aggregate.specs.Aggregates.{IsAggregate}
 use Rattle.ht_aggregate.specs.Given.{text_in, texts}
@@ -20,7 +21,7 @@ use Rattle.ht_base.specs.declared.values.Values.{Values}
 use Rattle.ht_base.specs.Kinds.{kind_of_how, kind_of_value}
 use Rattle.ht_base.specs.Values.{value_of}
 use Rattle.ht_compose.specs.Finding.{Finds}
-use Rattle.ht_compose.specs.Finishes.{Sets, all_ended, applies, chosen, completed, default, of_kind, or_default, values_for, with_result}
+use Rattle.ht_compose.specs.Finishes.{Sets, all_ended, applies, chosen, completed, default, of_kind, values_for, with_result}
 use Rattle.ht_compose.proofs.Choosing.{held_by}
 use Rattle.ht_compose.proofs.Settings.{kept_all}
 use Rattle.ht_expr.specs.declared.kinds.Side.TheVariants.{Output}
@@ -151,7 +152,7 @@ chosen_among P rows m row f all is =
     last true h = found_among (λ g. is_none g.when) P m.finishes f all h
     last false h = cc
 
-    first : (o : Option FinishOf) → ((g : FinishOf) → o ≡ Some g → P g) → or_default o (if all_ended row.task.0 (length m.subs) rows then default m.finishes else None) ≡ Some f → P f
+    first : (o : Option FinishOf) → ((g : FinishOf) → o ≡ Some g → P g) → option_or o (if all_ended row.task.0 (length m.subs) rows then default m.finishes else None) ≡ Some f → P f
     first (Some g) one h = one f h
     first None one h = last (all_ended row.task.0 (length m.subs) rows) h
 

@@ -1,4 +1,5 @@
 -- What is done on composite tasks changes rows alone.
+use Rattle.ht_models.specs.Contradictions.{is_automatic}
 use Rattle.std.proofs.Common.{◌≡◌, ℕ, Bool, true, false, not, ◌&&◌, ◌||◌, List, [], ◌∷◌, ◌++◌, length, Option, Some, None, if◌then◌else◌, refl, sym, subst, ap, ◌∙◌}
 use Rattle.std.specs.Prelude.{slice_get}
 use Rattle.ht_base.specs.declared.moment.Moment.{Moment}
@@ -10,7 +11,7 @@ use Rattle.ht_compose.specs.Downward.{freeing}
 use Rattle.ht_compose.specs.Finishes.{chosen, completed}
 use Rattle.ht_compose.specs.Freeing.{Frees, checks_of}
 use Rattle.ht_compose.specs.Gathering.{Gathers, GathersBy}
-use Rattle.ht_compose.specs.Items.{Checks, Does, Finishes, Item, OnModel, OnTask, Step, activates, begins, closes, comes_next, follows_by, has_failed, is_automatic, is_checked, is_in_progress, makes_at, makes_entry, makes_of, makes_one, on_model, on_row, on_task, rises}
+use Rattle.ht_compose.specs.Items.{Checks, Does, Finishes, Item, OnModel, OnTask, Step, activates, begins, closes, comes_next, follows_by, has_failed, is_checked, is_in_progress, makes_at, makes_entry, makes_of, makes_one, on_model, on_row, on_task, rises}
 use Rattle.ht_compose.specs.Items.Item.{Activate, Begin, Check, Close, Make, Next, Up}
 use Rattle.ht_compose.proofs.Determined.{one_output}
 use Rattle.ht_compose.proofs.OneRow.{one}

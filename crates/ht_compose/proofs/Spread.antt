@@ -7,7 +7,7 @@ use Rattle.std.specs.Prelude.{slice_get}
 use Rattle.ht_compose.specs.declared.reaching.Reach.{Reach}
 use Rattle.ht_compose.specs.declared.reaching.Reach.TheVariants as reach
 use Rattle.ht_compose.specs.Families.{is_above}
-use Rattle.ht_compose.specs.Reaching.{Ends, IsLastBelow, IsTask, Reaches, all_reached, changes, reached, reached_behind}
+use Rattle.ht_compose.specs.Reaching.{ReachIsFinal, IsLastBelow, IsTask, Reaches, all_reached, changes, reached, reached_behind}
 use Rattle.ht_compose.proofs.Chains.{leads_alike, none_lower}
 use Rattle.ht_compose.proofs.Reached.{reached_standing}
 use Rattle.ht_tree.specs.declared.row.Row.{Row}
@@ -63,7 +63,7 @@ changes_alike reach.Skip xs ys a task row = rw (leads_alike row.task.0 xs ys a t
 changes_alike reach.Hold xs ys a task row = rw (leads_alike row.task.0 xs ys a task row.parent) refl
 changes_alike reach.Free xs ys a task row = rw (leads_alike row.task.0 xs ys a task row.parent) refl
 
-module _ (u : TablesOf) (sound : IsSound u) (task : ℕ) (what : Reach) (ends : Ends what) where
+module _ (u : TablesOf) (sound : IsSound u) (task : ℕ) (what : Reach) (ends : ReachIsFinal what) where
   abbrev f : Row → Row
   f row = reached what u.rows task row
 

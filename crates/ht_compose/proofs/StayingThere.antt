@@ -50,7 +50,7 @@ still_there at u v (i ∷ is) fit closes (on {d = d} doing rest) =
 -- ---- the sub task of an entry
 
 -- its row is behind the others
-put_behind : (u : TablesOf) (row : Row) → row.task.0 ≡ length u.rows + 1 → task_row (with_row u row) (length u.rows + 1) ≡ Some row
+pub put_behind : (u : TablesOf) (row : Row) → row.task.0 ≡ length u.rows + 1 → task_row (with_row u row) (length u.rows + 1) ≡ Some row
 put_behind u row number =
     let next : IsNext u.rows row = (omega arith, omega arith) in
     row_at-put_in u.rows row (length u.rows + 1) next

@@ -1,4 +1,5 @@
 -- What each item does leaves no more to do, and what it puts is lighter than the item.
+use Rattle.ht_models.specs.Contradictions.{is_automatic}
 use Rattle.std.proofs.Common.{◌≡◌, ℕ, ◌+◌, ◌*◌, ◌<◌, ◌≤◌, zero, suc, Bool, true, false, not, ◌&&◌, ◌||◌, if◌then◌else◌, List, [], ◌∷◌, ◌++◌, length, map, Option, Some, None, refl, arith}
 use Rattle.std.specs.Prelude.{slice_get}
 use Rattle.std.specs.Option.{option_map_or}
@@ -9,11 +10,12 @@ use Rattle.ht_base.specs.declared.state.State.TheVariants.{Failed}
 use Rattle.ht_base.specs.declared.task_id.TaskId.{TaskId}
 use Rattle.ht_base.specs.declared.values.Values.{Values}
 use Rattle.ht_compose.proofs.ClosedRows.{shut, shut_ends, shut_stands, shut_stays, skipped, skipped_stands, skipped_stays}
+use Rattle.ht_compose.proofs.InOrder.{StayInOrder, activated_in_order, order_before, order_then, same_in_order, shut_in_order, skipped_in_order}
 use Rattle.ht_compose.proofs.Standing.{there_before, there_then}
 use Rattle.ht_compose.specs.Families.{StillThere}
 use Rattle.ht_compose.proofs.Keeping.{Fit, IsNext, Less, NoMore, changed, made, mapped, mapped_less}
 use Rattle.ht_compose.specs.Finishes.{Sets, chosen, completed, values_for, with_result}
-use Rattle.ht_compose.specs.Items.{comes_next, Checks, Does, Finishes, Item, OnModel, OnTask, Step, activated, activates, begins, begins_with, closes, does, finished, first_entries, follows_by, has_ended, has_failed, is_automatic, is_in_progress, makes, makes_at, makes_entry, makes_of, makes_one, on_model, on_row, on_task, rises, still, sub_task, ups}
+use Rattle.ht_compose.specs.Items.{comes_next, Checks, Does, Finishes, Item, OnModel, OnTask, Step, activated, activates, begins, begins_with, closes, does, finished, first_entries, follows_by, has_ended, has_failed, is_in_progress, makes, makes_at, makes_entry, makes_of, makes_one, on_model, on_row, on_task, rises, still, sub_task, ups}
 use Rattle.ht_compose.specs.Items.Item.{Activate, Begin, Check, Close, Make, Next, Up}
 use Rattle.ht_compose.specs.Work.{ClosesForGood, work}
 use Rattle.ht_entries.specs.Finishes.{Setting}
@@ -48,6 +50,7 @@ pub record Falls (u : TablesOf) (n : ℕ) (d : Step) : Type 0 where
   pub fit : Fit d.tables
   pub there : StillThere u d.tables
   pub less : work d.tables ≤ work u
+  pub order : StayInOrder u d.tables
   pub light : AreLight d.tables n d.puts
 
 pub record Steps (at : Moment) (u : TablesOf) (i : Item) : Type 0 where
@@ -58,18 +61,18 @@ pub record Steps (at : Moment) (u : TablesOf) (i : Item) : Type 0 where
 -- ---- items in general
 
 rests : (u : TablesOf) (n : ℕ) → Fit u → Falls u n (still u)
-rests u n fit = record { fit = fit; there = there_before u; less = omega arith; light = tt }
+rests u n fit = record { fit = fit; there = there_before u; less = omega arith; order = order_before u; light = tt }
 
 -- nothing is put
 alone : (u new : TablesOf) (n : ℕ) → NoMore u new → Falls u n (does new [])
-alone u new n h = record { fit = h.fit; there = h.there; less = h.less; light = tt }
+alone u new n h = record { fit = h.fit; there = h.there; less = h.less; order = h.order; light = tt }
 
 -- one item is put, of a lower rank
 puts_one : (u new : TablesOf) (i j : Item) → NoMore u new → ClosesForGood j → rank j < rank i → Falls u (weight u i) (does new (j ∷ []))
-puts_one u new i j h ends lower = record { fit = h.fit; there = h.there; less = h.less; light = (ends, let less = h.less in omega (arith, less, lower), tt) }
+puts_one u new i j h ends lower = record { fit = h.fit; there = h.there; less = h.less; order = h.order; light = (ends, let less = h.less in omega (arith, less, lower), tt) }
 
 unchanged : (u : TablesOf) → Fit u → NoMore u u
-unchanged u fit = record { fit = fit; there = there_before u; less = omega arith }
+unchanged u fit = record { fit = fit; there = there_before u; less = omega arith; order = order_before u }
 
 light_behind : (u : TablesOf) (n : ℕ) (is js : List Item) → AreLight u n is → AreLight u n js → AreLight u n (is ++ js)
 light_behind u n [] js a b = b
@@ -102,20 +105,20 @@ created_lives s h = grind arith
 in_progress_lives : (s : State) → is_in_progress s ≡ true → is_final s ≡ false
 in_progress_lives s h = grind arith
 
-activated_stands : (m : ModelOf) (row : Row) → standing (activated m row) ≡ standing row
-activated_stands m row = cases m.owner_required
+activated_stands : (u : TablesOf) (m : ModelOf) (row : Row) → standing (activated u m row) ≡ standing row
+activated_stands u m row = cases m.owner_required
   where
-    cases : (b : Bool) → standing (activated (record m { owner_required = b }) row) ≡ standing row
+    cases : (b : Bool) → standing (activated u (record m { owner_required = b }) row) ≡ standing row
     cases true = refl
     cases false = refl
 
 falls_activate : (u : TablesOf) (t : ℕ) → Fit u → Falls u (weight u (Activate t)) (on_task u (activates u) (task_row u t))
 falls_activate u t fit = falls_task u (weight u (Activate t)) t fit (activates u) (λ row m at of. cases row m at (is_created row.state) m.owner_required refl)
   where
-    cases : (row : Row) (m : ModelOf) → task_row u t ≡ Some row → (b c : Bool) → is_created row.state ≡ b → Falls u (weight u (Activate t)) (if b then does (with_row u (activated m row)) (if c then [] else Begin row.task.0 ∷ []) else still u)
+    cases : (row : Row) (m : ModelOf) → task_row u t ≡ Some row → (b c : Bool) → is_created row.state ≡ b → Falls u (weight u (Activate t)) (if b then does (with_row u (activated u m row)) (if c then [] else Begin row.task.0 ∷ []) else still u)
     cases row m at false c created = rests u (weight u (Activate t)) fit
-    cases row m at true true created = alone u (with_row u (activated m row)) (weight u (Activate t)) (changed u t row (activated m row) fit at (activated_stands m row) (created_lives row.state created))
-    cases row m at true false created = puts_one u (with_row u (activated m row)) (Activate t) (Begin row.task.0) (changed u t row (activated m row) fit at (activated_stands m row) (created_lives row.state created)) tt (omega arith)
+    cases row m at true true created = alone u (with_row u (activated u m row)) (weight u (Activate t)) (changed u t row (activated u m row) fit at (activated_stands u m row) (created_lives row.state created) (activated_in_order u m row created))
+    cases row m at true false created = puts_one u (with_row u (activated u m row)) (Activate t) (Begin row.task.0) (changed u t row (activated u m row) fit at (activated_stands u m row) (created_lives row.state created) (activated_in_order u m row created)) tt (omega arith)
 
 light_makes : (u : TablesOf) (n t e : ℕ) → work u * 8 + 1 < n → AreLight u n (makes t e)
 light_makes u n t zero h = tt
@@ -135,12 +138,13 @@ falls_begin u t fit = falls_task u n t fit (begins u) (λ row m at of. cases row
     cases row m at false going = rests u (weight u (Begin t)) fit
     cases row m at true going =
         let new = with_row u (record row { started = true }) in
-        let h = changed u t row (record row { started = true }) fit at refl (in_progress_lives row.state going) in
+        let h = changed u t row (record row { started = true }) fit at refl (in_progress_lives row.state going) (same_in_order u.models row (record row { started = true }) refl refl refl refl) in
         let less = h.less in
         record {
           fit = h.fit;
           there = h.there;
           less = less;
+          order = h.order;
           light = light_behind new (weight u (Begin t)) (begins_with m row) (Check row.task.0 ∷ []) (begun row m new (not row.started && is_automatic m.instantiation) less) (tt, omega (arith, less), tt);
         }
 
@@ -153,7 +157,7 @@ falls_make at u t e fit = falls_task u (weight u (Make t e)) t fit (makes_one u 
     put_one row new is next =
         let h = made u t e row new fit is next in
         let less = h.less in
-        record { fit = h.fit; there = h.there; less = omega (arith, less); light = (tt, omega (arith, less), tt) }
+        record { fit = h.fit; there = h.there; less = omega (arith, less); order = h.order; light = (tt, omega (arith, less), tt) }
 
     of_model : (row : Row) (m : ModelOf) (entry : SubEntry) (place : ℕ) (o : Option ModelOf) → task_row u t ≡ Some row → model_of u row ≡ Some m → is_made row.task.0 e u.rows ≡ false → slice_get m.subs e ≡ Some entry → model_named u entry.model ≡ Some place → model_at u place ≡ o → Falls u (weight u (Make t e)) (makes_of u at row e entry place o)
     of_model row m entry place None is of new listed named there = rests u (weight u (Make t e)) fit
@@ -168,6 +172,8 @@ falls_make at u t e fit = falls_task u (weight u (Make t e)) t fit (makes_one u 
       there = there;
       number = refl;
       parent = refl;
+      waits = refl;
+      until = refl;
     })
 
     at_place : (row : Row) (m : ModelOf) (entry : SubEntry) (o : Option ℕ) → task_row u t ≡ Some row → model_of u row ≡ Some m → is_made row.task.0 e u.rows ≡ false → slice_get m.subs e ≡ Some entry → model_named u entry.model ≡ o → Falls u (weight u (Make t e)) (makes_at u at row e entry o)
@@ -185,7 +191,7 @@ falls_make at u t e fit = falls_task u (weight u (Make t e)) t fit (makes_one u 
 
 -- ---- check
 
-some_output : (subs : List Row) (ss : List Setting) (old : Values) → (new : Values) × Sets subs ss old new
+pub some_output : (subs : List Row) (ss : List Setting) (old : Values) → (new : Values) × Sets subs ss old new
 some_output subs [] old = (old, refl)
 some_output subs (s ∷ ss) old =
     let r = some_result s.how (values_for s.how s.from subs) in
@@ -194,12 +200,12 @@ some_output subs (s ∷ ss) old =
 
 falls_finished : (u : TablesOf) (t : ℕ) (row : Row) (output : Values) → Fit u → task_row u t ≡ Some row → is_final row.state ≡ false → Falls u (weight u (Check t)) (finished u row output)
 falls_finished u t row output fit at live =
-    let set = changed u t row (record row { output = output }) fit at refl live in
+    let set = changed u t row (record row { output = output }) fit at refl live (same_in_order u.models row (record row { output = output }) refl refl refl refl) in
     let rows = (with_row u (record row { output = output })).rows in
-    let skip = mapped (with_row u (record row { output = output })) (skipped row.task.0 rows) set.fit (skipped_stands row.task.0 rows) (skipped_stays row.task.0 rows) in
+    let skip = mapped (with_row u (record row { output = output })) (skipped row.task.0 rows) set.fit (skipped_stands row.task.0 rows) (skipped_stays row.task.0 rows) (skipped_in_order u.models row.task.0 rows) in
     let a = set.less in
     let b = skip.less in
-    record { fit = skip.fit; there = there_then u (with_row u (record row { output = output })) (with_rows u (map (skipped row.task.0 rows) rows)) set.there skip.there; less = omega (arith, a, b); light = (refl, omega (arith, a, b), tt) }
+    record { fit = skip.fit; there = there_then u (with_row u (record row { output = output })) (with_rows u (map (skipped row.task.0 rows) rows)) set.there skip.there; less = omega (arith, a, b); order = order_then u (with_row u (record row { output = output })) (with_rows u (map (skipped row.task.0 rows) rows)) set.order skip.order; light = (refl, omega (arith, a, b), tt) }
 
 record Checked (u : TablesOf) (t : ℕ) (Does : Step → Type 0) : Type 0 where
   done : Step
@@ -238,12 +244,12 @@ falls_close : (u : TablesOf) (t : ℕ) (end : State) → is_final end ≡ true �
 falls_close u t end final fit = falls_row u (weight u (Close t end)) t fit (closes u end) (λ row at. cases row at (is_final row.state) refl)
   where
     rising : (row : Row) (new : TablesOf) (o : Option (TaskId × ℕ)) → Less u new → Falls u (weight u (Close t end)) (does new (option_map_or (λ p. Up p.0.0 row.task.0 ∷ []) o []))
-    rising row new None h = let less = h.less in record { fit = h.fit; there = h.there; less = omega (arith, less); light = tt }
-    rising row new (Some p) h = let less = h.less in record { fit = h.fit; there = h.there; less = omega (arith, less); light = (tt, omega (arith, less), tt) }
+    rising row new None h = let less = h.less in record { fit = h.fit; there = h.there; less = omega (arith, less); order = h.order; light = tt }
+    rising row new (Some p) h = let less = h.less in record { fit = h.fit; there = h.there; less = omega (arith, less); order = h.order; light = (tt, omega (arith, less), tt) }
 
     cases : (row : Row) → task_row u t ≡ Some row → (b : Bool) → is_final row.state ≡ b → Falls u (weight u (Close t end)) (if b then still u else does (record u { rows = map (shut end row.task.0 u.rows) u.rows }) (ups row))
     cases row at true live = rests u (weight u (Close t end)) fit
-    cases row at false live = rising row (record u { rows = map (shut end row.task.0 u.rows) u.rows }) row.parent (mapped_less u (shut end row.task.0 u.rows) fit (shut_stands end row.task.0 u.rows) (shut_stays end row.task.0 u.rows) t row at live (shut_ends end u.rows row final live))
+    cases row at false live = rising row (record u { rows = map (shut end row.task.0 u.rows) u.rows }) row.parent (mapped_less u (shut end row.task.0 u.rows) fit (shut_stands end row.task.0 u.rows) (shut_stays end row.task.0 u.rows) (shut_in_order u.models end row.task.0 u.rows) t row at live (shut_ends end u.rows row final live))
 
 -- ---- up and next
 
@@ -252,8 +258,8 @@ falls_up u p c fit = falls_row u (weight u (Up p c)) c fit (λ child. on_task u 
   where
     cases : (child row : Row) (m : ModelOf) → task_row u p ≡ Some row → (a b : Bool) → is_final row.state ≡ a → Falls u (weight u (Up p c)) (if a then still u else (if b then does (with_row u (record row { fault = child.fault })) (Close row.task.0 Failed ∷ []) else does u (Check row.task.0 ∷ Next row.task.0 child.task.0 ∷ [])))
     cases child row m is true b live = rests u (weight u (Up p c)) fit
-    cases child row m is false true live = puts_one u (with_row u (record row { fault = child.fault })) (Up p c) (Close row.task.0 Failed) (changed u p row (record row { fault = child.fault }) fit is refl live) refl (omega arith)
-    cases child row m is false false live = record { fit = fit; there = there_before u; less = omega arith; light = (tt, omega arith, (tt, omega arith, tt)) }
+    cases child row m is false true live = puts_one u (with_row u (record row { fault = child.fault })) (Up p c) (Close row.task.0 Failed) (changed u p row (record row { fault = child.fault }) fit is refl live (same_in_order u.models row (record row { fault = child.fault }) refl refl refl refl)) refl (omega arith)
+    cases child row m is false false live = record { fit = fit; there = there_before u; less = omega arith; order = order_before u; light = (tt, omega arith, (tt, omega arith, tt)) }
 
 falls_next : (u : TablesOf) (p c : ℕ) → Fit u → Falls u (weight u (Next p c)) (on_row u (λ child. on_task u (λ row m. follows_by u row m child.parent) (task_row u p)) (task_row u c))
 falls_next u p c fit = falls_row u (weight u (Next p c)) c fit (λ child. on_task u (λ row m. follows_by u row m child.parent) (task_row u p)) (λ child at. falls_task u (weight u (Next p c)) p fit (λ row m. follows_by u row m child.parent) (λ row m is of. follows row m child.parent))

@@ -1,8 +1,9 @@
 -- Which sub task may be made by hand (WS-HumanTask 1.1, 4.7).
+use Rattle.ht_models.specs.Contradictions.{is_automatic}
 use Rattle.std.specs.Prelude.{◌≡◌, ℕ, ◌+◌, Bool, not, ◌&&◌, ◌||◌, bytes_eq, List, [], ◌∷◌, Option, Some, None, if◌then◌else◌}
 use Rattle.std.specs.Option.{option_and_then}
 use Rattle.ht_compose.specs.Finishes.{all_ended}
-use Rattle.ht_compose.specs.Items.{is_automatic, is_sequential}
+use Rattle.ht_compose.specs.Items.{is_sequential}
 use Rattle.ht_models.specs.Model.{ModelOf}
 use Rattle.ht_entries.specs.SubEntries.{SubEntry}
 use Rattle.ht_tree.specs.declared.row.Row.{Row}

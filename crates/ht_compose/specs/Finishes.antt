@@ -1,7 +1,7 @@
 -- How a composite task finishes, and what it has of its sub tasks then (WS-HumanTask 1.1, 4.8).
 use Rattle.std.specs.Prelude.{◌≡◌, ℕ, zero, suc, Bool, true, false, ◌&&◌, List, [], ◌∷◌, ◌++◌, length, filter, filter_map, find, is_none, Option, None, Some, if◌then◌else◌}
 use Rattle.std.specs.List.{list_any}
-use Rattle.std.specs.Option.{option_map_or}
+use Rattle.std.specs.Option.{option_map_or, option_or}
 use Rattle.ht_aggregate.specs.Aggregates.{IsAggregate}
 use Rattle.ht_base.specs.declared.how.How.{How}
 use Rattle.ht_base.specs.declared.kind.Kind.{Kind}
@@ -15,18 +15,15 @@ use Rattle.ht_expr.specs.declared.environment.Env.{Env}
 use Rattle.ht_expr.specs.Kinds.{Declared}
 use Rattle.ht_expr.specs.KindTable.{same_kind}
 use Rattle.ht_expr.specs.Trees.{Tree}
-use Rattle.ht_expr.specs.Values.{Outcome, a_truth, value}
+use Rattle.ht_expr.specs.Values.{value}
 use Rattle.ht_entries.specs.Finishes.{Setting}
 use Rattle.ht_models.specs.Kinded.{parts_of}
 use Rattle.ht_models.specs.Model.{FinishOf, ModelOf}
 use Rattle.ht_tree.specs.declared.row.Row.{Row}
+use Rattle.ht_tree.specs.Assigning.{is_true}
 use Rattle.ht_tree.specs.Creating.{sees}
 
 -- ---- the finish that is chosen
-
-abbrev pub is_true : Outcome → Bool
-is_true (a_truth b) = b
-is_true _ = false
 
 abbrev pub holds : Declared → Env → Tree → Bool
 holds kinds env condition = is_true (value kinds env condition)
@@ -44,15 +41,11 @@ all_ended task (suc n) rows = all_ended task n rows && list_any (λ s. is_of_ent
 abbrev pub default : List FinishOf → Option FinishOf
 default finishes = find (λ f. is_none f.when) finishes
 
-abbrev pub or_default : Option FinishOf → Option FinishOf → Option FinishOf
-or_default None other = other
-or_default (Some f) other = Some f
-
 -- The first whose condition is true. Where there is none, and every entry has come and gone, it is the
 -- one without a condition.
 abbrev pub chosen : List Row → ModelOf → Row → Option FinishOf
 chosen rows m row =
-    or_default (find (applies (parts_of m.input m.output) (sees rows row)) m.finishes)
+    option_or (find (applies (parts_of m.input m.output) (sees rows row)) m.finishes)
     (if all_ended row.task.0 (length m.subs) rows then default m.finishes else None)
 
 -- ---- what it sets

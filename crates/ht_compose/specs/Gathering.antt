@@ -1,8 +1,8 @@
 -- What a task that its owner completes has of its sub tasks then (WS-HumanTask 1.1, 4.8).
+use Rattle.ht_models.specs.Contradictions.{is_automatic}
 use Rattle.std.specs.Prelude.{◌≡◌, ℕ, Option, None, Some, if◌then◌else◌}
 use Rattle.ht_base.specs.declared.values.Values.{Values}
 use Rattle.ht_compose.specs.Finishes.{HasResults, chosen}
-use Rattle.ht_compose.specs.Items.{is_automatic}
 use Rattle.ht_models.specs.Model.{FinishOf, ModelOf}
 use Rattle.ht_tree.specs.declared.row.Row.{Row}
 use Rattle.ht_tree.specs.Plans.{Goes, PlanOf, planned}

@@ -15,8 +15,7 @@ use Rattle.ht_tree.specs.Families.{is_made, is_sub_of}
 use Rattle.ht_compose.specs.Finishes.{HasResults, chosen}
 use Rattle.ht_entries.specs.declared.choices.Composition.{Composition}
 use Rattle.ht_entries.specs.declared.choices.Composition.TheVariants.{Parallel, Sequential}
-use Rattle.ht_entries.specs.declared.choices.Trigger.{Trigger}
-use Rattle.ht_entries.specs.declared.choices.Trigger.TheVariants.{Automatic, Manual}
+use Rattle.ht_models.specs.Contradictions.{is_automatic}
 use Rattle.ht_models.specs.Model.{FinishOf, ModelOf}
 use Rattle.ht_entries.specs.SubEntries.{SubEntry}
 use Rattle.ht_tree.specs.declared.row.Row.{Row}
@@ -24,7 +23,7 @@ use Rattle.ht_tree.specs.Activation.{activated_to, owner_by, state_by}
 use Rattle.ht_tree.specs.Creating.{new_row}
 use Rattle.ht_tree.specs.Rows.{put_in}
 use Rattle.ht_tree.specs.Soundness.{is_created}
-use Rattle.ht_tree.specs.Tables.{TablesOf, model_at, model_named, model_of, task_row, with_row, with_rows}
+use Rattle.ht_tree.specs.Tables.{model_at, model_named, model_of, potential_owners_of, TablesOf, task_row, with_row, with_rows}
 
 pub data Item : Type 0 where
   Activate : ℕ → Item
@@ -51,10 +50,6 @@ abbrev pub is_in_progress : State → Bool
 is_in_progress state.InProgress = true
 is_in_progress _ = false
 
-abbrev pub is_automatic : Trigger → Bool
-is_automatic Automatic = true
-is_automatic Manual = false
-
 abbrev pub is_sequential : Composition → Bool
 is_sequential Sequential = true
 is_sequential Parallel = false
@@ -63,19 +58,19 @@ is_sequential Parallel = false
 
 -- A task without an owner is worked on at once. Another is given to its one potential owner, or is ready
 -- for several, or stays created where there is none. It waits no more.
-abbrev pub activated_as : Bool → Row → Row
-activated_as needs_owner row =
+abbrev pub activated_as : Bool → List ℕ → Row → Row
+activated_as needs_owner owners row =
     if needs_owner
-    then activated_to (state_by row.potential_owners row.state) (owner_by row.potential_owners) row
+    then activated_to (state_by owners row.state) (owner_by owners) row
     else activated_to state.InProgress row.owner row
 
-abbrev pub activated : ModelOf → Row → Row
-activated m row = activated_as m.owner_required row
+abbrev pub activated : TablesOf → ModelOf → Row → Row
+activated u m row = activated_as m.owner_required (potential_owners_of u row) row
 
 abbrev pub activates : TablesOf → Row → ModelOf → Step
 activates u row m =
     if is_created row.state
-    then does (with_row u (activated m row)) (if m.owner_required then [] else Begin row.task.0 ∷ [])
+    then does (with_row u (activated u m row)) (if m.owner_required then [] else Begin row.task.0 ∷ [])
     else still u
 
 -- ---- begin

@@ -45,9 +45,9 @@ changes reach.Hold rows task row = is_above rows task row && contains_state open
 changes reach.Free rows task row = is_above rows task row && is_suspended row.state
 
 -- a task ends only in a final state
-abbrev pub Ends : Reach → Type 0
-Ends (reach.Close end) = IsTrue (is_final end)
-Ends _ = Unit {0}
+abbrev pub ReachIsFinal : Reach → Type 0
+ReachIsFinal (reach.Close end) = IsTrue (is_final end)
+ReachIsFinal _ = Unit {0}
 
 -- a task that is there
 pub record IsTask (u : TablesOf) (task : ℕ) : Type 0 where

@@ -42,7 +42,7 @@ pub(crate) fn activate(
 
 // The state and the owner that a row gets by its activation.
 fn activation(row: &Row, needs_owner: bool) -> (State, Option<Person>)
-    ensures { activated_to result.0 result.1 row.now ≡ spec.activated_as needs_owner row.now }
+    ensures { activated_to result.0 result.1 row.now ≡ spec.activated_as needs_owner row.now.potential_owners row.now }
 {
     if needs_owner {
         let owners = &row.potential_owners;

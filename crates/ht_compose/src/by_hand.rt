@@ -5,6 +5,7 @@ ghost use Rattle.ht_compose.specs.Finding.{rows_of};
 ghost use Rattle.ht_compose.specs.Finishes.{all_ended};
 ghost use Rattle.ht_compose.specs.Items as spec;
 ghost use Rattle.ht_compose.specs.Reaching.{IsTask};
+ghost use Rattle.ht_models.specs.Contradictions.{is_automatic};
 ghost use Rattle.ht_models.specs.Shown.{model_of};
 ghost use Rattle.ht_tree.specs.Families as made;
 ghost use Rattle.ht_tree.specs.Plans.{IsPlanOf, planned};
@@ -71,7 +72,7 @@ fn may_be_made(
 ) -> bool
     requires { IsPlanOf tables.now.tables plan.now }
     ensures { let rows = rows_of (planned tables.now.tables plan.now) subs.now in let m = model_of model.now in
-        result ≡ (not (spec.is_automatic m.instantiation) && not (list_any (made.is_of_entry task.0 entry) rows) && (not (spec.is_sequential m.composition) || all_ended task.0 entry rows)) }
+        result ≡ (not (is_automatic m.instantiation) && not (list_any (made.is_of_entry task.0 entry) rows) && (not (spec.is_sequential m.composition) || all_ended task.0 entry rows)) }
 {
     model.instantiation == Trigger::Manual
         && !has_of_entry(tables, plan, subs, task, entry)

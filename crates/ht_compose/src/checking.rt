@@ -4,6 +4,7 @@ ghost use Rattle.ht_base.specs.declared.moment.Moment.{Moment};
 ghost use Rattle.ht_compose.specs.Finding.{rows_of};
 ghost use Rattle.ht_compose.specs.Items.Item.{Check};
 ghost use Rattle.ht_compose.specs.Running.{Acts};
+ghost use Rattle.ht_models.specs.Contradictions.{is_automatic};
 ghost use Rattle.ht_models.specs.Shown.{model_of};
 ghost use Rattle.ht_base.specs.State.{is_final};
 ghost use Rattle.ht_tree.specs.Plans.{IsPlanOf, planned};
@@ -59,7 +60,7 @@ pub(crate) fn check(
 
 // Whether a task is in progress, and finishes by itself.
 fn may_finish(row: &Row, model: &Model) -> bool
-    ensures { result ≡ (spec.is_in_progress row.now.state && spec.is_automatic (model_of model.now).completion) }
+    ensures { result ≡ (spec.is_in_progress row.now.state && is_automatic (model_of model.now).completion) }
 {
     row.state == State::InProgress && model.completion == Trigger::Automatic
 }

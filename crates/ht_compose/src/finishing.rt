@@ -1,3 +1,4 @@
+ghost use Rattle.std.specs.Option.{option_or};
 ghost use Rattle.std.specs.Prelude.{◌≡◌, ◌++◌, IfOk, IsTrue, None, OnOk, Some, ◌&&◌, filter, find, if◌then◌else◌, length, map, option_map};
 ghost use Rattle.std.specs.List.{list_any};
 ghost use Rattle.ht_base.specs.Kinds.{kind_of_how, kind_of_value};
@@ -5,7 +6,7 @@ ghost use Rattle.ht_base.specs.State.{is_completed, is_final};
 ghost use Rattle.ht_base.specs.Values.{value_of};
 ghost use Rattle.ht_compose.specs.Finding.{Finds, rows_of};
 ghost use Rattle.ht_compose.specs.Finishes as spec;
-ghost use Rattle.ht_compose.specs.Finishes.{Sets, default, of_kind, or_default, with_result};
+ghost use Rattle.ht_compose.specs.Finishes.{Sets, default, of_kind, with_result};
 ghost use Rattle.ht_expr.specs.Environment.{has_parts};
 ghost use Rattle.ht_expr.specs.Kinds.{Declared};
 ghost use Rattle.ht_expr.specs.KindTable.{same_kind};
@@ -69,7 +70,7 @@ fn chosen<'a>(
     requires parts { IsTrue (has_parts (parts_of model.now.input.items model.now.output.items) env.now) }
     ensures { let finishes = (shown.model_of model.now).finishes in
         option_map (λ f. shown.finish_of f.now) result
-        ≡ or_default (find (spec.applies (parts_of model.now.input.items model.now.output.items) env.now) finishes)
+        ≡ option_or (find (spec.applies (parts_of model.now.input.items model.now.output.items) env.now) finishes)
         (if spec.all_ended task.0 (length model.now.subs.items) (rows_of (planned tables.now.tables plan.now) subs.now) then default finishes else None) }
 {
     if let Some(finish) = first_true(model, env) {

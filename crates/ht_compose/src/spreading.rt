@@ -1,6 +1,6 @@
 ghost use Rattle.std.specs.Prelude.{◌≡◌, IfOk, OnErr, OnOk, false};
 ghost use Rattle.std.specs.Option.{option_map_or};
-ghost use Rattle.ht_compose.specs.Reaching.{Ends, IsLastBelow, IsTask, Reaches, ReachesAll, changes};
+ghost use Rattle.ht_compose.specs.Reaching.{ReachIsFinal, IsLastBelow, IsTask, Reaches, ReachesAll, changes};
 ghost use Rattle.ht_tree.specs.Plans.{IsPlanOf, planned};
 ghost use Rattle.ht_tree.specs.Soundness.{IsSound};
 ghost use Rattle.ht_tree.specs.Tables.{task_row};
@@ -23,7 +23,7 @@ pub(crate) fn spread(
     requires plan { IsPlanOf tables.now.tables plan.old }
     requires sound { IsSound (planned tables.now.tables plan.old) }
     requires there { IsTask (planned tables.now.tables plan.old) task.0 }
-    requires ends { Ends reach }
+    requires ends { ReachIsFinal reach }
     ensures reaches { OnOk result (ReachesAll tables.now.tables plan.old plan.new task.0 reach) }
     ensures sound { OnOk result (IsSound (planned tables.now.tables plan.new)) }
     ensures marked { OnErr result (plan.new.marked ≡ plan.old.marked) }

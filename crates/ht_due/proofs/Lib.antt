@@ -1,6 +1,8 @@
 mod Ascending
+mod InOrder
 mod Leasts
 mod Members
+mod OfTwo
 mod Order
 mod Places
 pub mod PublicLaws

@@ -1,5 +1,5 @@
 -- What is due, in order: by moment, then task, kind and place.
-use Rattle.std.specs.Prelude.{◌≡◌, fold, Bool, true, false, List, [], ◌∷◌, Option, Some, None}
+use Rattle.std.specs.Prelude.{◌≡◌, fold, Bool, true, false, List, [], ◌∷◌, Option, Some, None, slice_get}
 use Rattle.std.specs.List.{list_any}
 use Rattle.std.specs.Ordering.{is_eq, match_ordering, nat_cmp, ordering_then}
 use Rattle.std.specs.declared.cmp.Ordering.{Ordering}
@@ -47,3 +47,19 @@ AreAbsent news dues = (due : Due) → has due news ≡ true → has due dues ≡
 -- each of the new ones is gone from these, or wasn't there
 abbrev pub AreNew : List Due → List Due → List Due → Type 0
 AreNew news gone dues = (due : Due) → has due news ≡ true → has due gone ≡ false → has due dues ≡ false
+
+-- ---- any dues
+
+-- these in ascending order, none twice
+abbrev pub in_order : List Due → List Due
+in_order dues = fold put_due [] dues
+
+-- the least of these, if there are any
+abbrev pub least_of : List Due → Option Due
+least_of dues = slice_get (in_order dues) 0
+
+-- the lesser of two, where both are there
+abbrev pub lesser : Option Due → Option Due → Option Due
+lesser None b = b
+lesser (Some a) None = Some a
+lesser (Some a) (Some b) = match_ordering (compare_dues a b) (Some a) (Some a) (Some b)

@@ -1,23 +1,23 @@
 -- That a row is sound once a deadline is taken.
+use Rattle.ht_tree.specs.Rows.{model_in}
 use Rattle.std.proofs.Common.{◌≡◌, ◌&&◌, ◌||◌, ◌∙◌, ℕ, suc, Bool, true, false, IfSome, IsTrue, if◌then◌else◌, List, [], ◌∷◌, filter, length, not, Option, None, Some, All, ap, refl, sym, subst}
-use Rattle.std.specs.Prelude.{filter_map, nat_lt, slice_get}
+use Rattle.std.specs.Prelude.{filter_map, slice_get}
 use Rattle.std.specs.Option.{option_map_or}
-use Rattle.std.proofs.lemmas.Bool.{and_parts}
 use Rattle.std.proofs.lemmas.Option.{get_or_from_slice_get, slice_get_within}
 use Rattle.ht_base.specs.declared.state.State.{State}
 use Rattle.ht_base.specs.declared.state.State.TheVariants as state
 use Rattle.ht_base.specs.Persons.{has}
-use Rattle.ht_escalate.specs.Escalating.{first_reassignment, given_to, is_triggered, new_owners, reassigned_by, state_then, taken_row, taken_with}
+use Rattle.ht_escalate.specs.Escalating.{first_reassignment, given_to, is_triggered, reassigned_by, state_then, taken_row, taken_with}
 use Rattle.ht_expr.specs.Assignments.{Assignment, is_individual}
 use Rattle.ht_models.specs.Model.{DeadlineOf, EscalationOf, ModelOf}
 use Rattle.ht_models.specs.Reassigning.{ReassignsOwned}
 use Rattle.ht_tree.specs.declared.row.Row.{Row}
-use Rattle.ht_tree.specs.Assigning.{Sight, is_found}
+use Rattle.ht_tree.specs.Assigning.{is_found, potential_owners, Sight}
 use Rattle.ht_tree.specs.Creating.{seen_in}
 use Rattle.ht_base.specs.State.{is_final}
-use Rattle.ht_tree.specs.Soundness.{AreApart, IsHeld, IsHeldBy, IsSoundRow, is_created, is_owned, is_ownerless, is_suspended, needs_owner}
+use Rattle.ht_tree.specs.Soundness.{IsHeld, IsHeldBy, IsSoundRow, is_created, is_owned, is_ownerless, is_suspended, needs_owner}
 use Rattle.ht_tree.specs.Tables.{TablesOf, directory, model_of}
-use Rattle.ht_tree.proofs.PublicLaws.{all_selected, has_selected, selected_ascends, taken_ascends, taken_below}
+use Rattle.ht_tree.proofs.PublicLaws.{all_selected, none_excluded, selected_ascends, taken_ascends, taken_below}
 use Rattle.ht_escalate.proofs.NewOwners.{of_this}
 
 -- ---- states
@@ -92,7 +92,7 @@ module _ (u : TablesOf) (row : Row) (m : ModelOf) (d : DeadlineOf) (place : ℕ)
   held : IsHeldBy persons m row.input row.output row.taken
   held = of_this (λ x. IsHeldBy persons x row.input row.output row.taken) (model_of u row) m of sound.held
 
-  still_held : IsHeld u.models persons row.model row.input row.output (taken_with place row.taken)
+  still_held : IsHeld persons (model_in u.models row) row.input row.output (taken_with place row.taken)
   still_held =
       let P : Option ModelOf → Type 0 = λ o. IfSome o (λ x. IsHeldBy persons x row.input row.output (taken_with place row.taken)) in
       subst P (sym of) (record {
@@ -106,7 +106,7 @@ module _ (u : TablesOf) (row : Row) (m : ModelOf) (d : DeadlineOf) (place : ℕ)
   taken_sound = record { filed = sound.filed; held = still_held; who = sound.who; whose = sound.whose; when = sound.when; how = sound.how }
 
   -- and its task is given to some who aren't excluded
-  given_sound : (s : Sight) (a : Assignment) (by_group : Bool) (ps : List ℕ) → ps ≡ new_owners (directory u) s row a → m.owner_required ≡ true → is_final row.state ≡ false → IsSoundRow u (record row { state = state_then row.state; owner = None; potential_owners = ps; by_group = by_group; taken = taken_with place row.taken })
+  given_sound : (s : Sight) (a : Assignment) (by_group : Bool) (ps : List ℕ) → ps ≡ potential_owners (directory u) s a row.excluded_owners → m.owner_required ≡ true → is_final row.state ≡ false → IsSoundRow u (record row { state = state_then row.state; owner = None; potential_owners = ps; by_group = by_group; taken = taken_with place row.taken })
   given_sound s a by_group ps is needed live =
       let P : List ℕ → Type 0 = λ l. IsSoundRow u (record row { state = state_then row.state; owner = None; potential_owners = l; by_group = by_group; taken = taken_with place row.taken }) in
       subst P (sym is) (record {
@@ -121,7 +121,7 @@ module _ (u : TablesOf) (row : Row) (m : ModelOf) (d : DeadlineOf) (place : ℕ)
             administrators = sound.who.known.administrators;
             stakeholders = sound.who.known.stakeholders;
           };
-          apart = apart;
+          apart = none_excluded (directory u) s a row.excluded_owners;
           potential_ascend = selected_ascends test persons;
           excluded_ascend = sound.who.excluded_ascend;
           administrators_ascend = sound.who.administrators_ascend;
@@ -146,17 +146,8 @@ module _ (u : TablesOf) (row : Row) (m : ModelOf) (d : DeadlineOf) (place : ℕ)
       test : ℕ → Bool
       test p = is_found (directory u) s a p && not (has p row.excluded_owners)
 
-      needs : needs_owner u.models row.model ≡ true
+      needs : needs_owner (model_in u.models row) ≡ true
       needs = ap (λ (o : Option ModelOf). option_map_or (λ (x : ModelOf). x.owner_required) o true) of ∙ needed
-
-      not_true : (b : Bool) → not b ≡ true → b ≡ false
-      not_true true e = cc
-      not_true false e = refl
-
-      apart : AreApart (new_owners (directory u) s row a) row.excluded_owners
-      apart p there =
-          let in_test = (and_parts (nat_lt p persons) (test p) (sym (has_selected test persons p) ∙ there)).1 in
-          not_true (has p row.excluded_owners) (and_parts (is_found (directory u) s a p) (not (has p row.excluded_owners)) in_test).1
 
   pub row_sound : ReassignsOwned m → is_final row.state ≡ false → IsSoundRow u (taken_row u row m d place)
   row_sound law live = go (first_reassignment s d) refl
@@ -164,7 +155,7 @@ module _ (u : TablesOf) (row : Row) (m : ModelOf) (d : DeadlineOf) (place : ℕ)
       s : Sight
       s = seen_in m u.rows row
 
-      some : (a : Assignment) (ps : List ℕ) → ps ≡ new_owners (directory u) s row a → m.owner_required ≡ true → IsSoundRow u (record (given_to row (not (is_individual a)) ps) { taken = taken_with place row.taken })
+      some : (a : Assignment) (ps : List ℕ) → ps ≡ potential_owners (directory u) s a row.excluded_owners → m.owner_required ≡ true → IsSoundRow u (record (given_to row (not (is_individual a)) ps) { taken = taken_with place row.taken })
       some a [] is needed = taken_sound
       some a (p ∷ ps) is needed = given_sound s a (not (is_individual a)) (p ∷ ps) is needed live
 
@@ -174,4 +165,4 @@ module _ (u : TablesOf) (row : Row) (m : ModelOf) (d : DeadlineOf) (place : ℕ)
 
       go : (o : Option Assignment) → first_reassignment s d ≡ o → IsSoundRow u (record (reassigned_by (directory u) s row o) { taken = taken_with place row.taken })
       go None at = taken_sound
-      go (Some a) at = some a (new_owners (directory u) s row a) refl (needs a at m.owner_required refl)
+      go (Some a) at = some a (potential_owners (directory u) s a row.excluded_owners) refl (needs a at m.owner_required refl)

@@ -1,5 +1,5 @@
 -- That a plan goes on by a deadline that is taken.
-use Rattle.std.proofs.Common.{◌≡◌, ◌<◌, ◌≤◌, ◌∙◌, ℕ, false, List, Option, None, Some, length, ap, refl, sym, subst}
+use Rattle.std.proofs.Common.{◌≡◌, ◌<◌, ◌≤◌, ◌∙◌, ℕ, false, List, [], ◌∷◌, Option, None, Some, length, ap, refl, sym, subst}
 use Rattle.std.specs.Prelude.{slice_get}
 use Rattle.std.specs.List.{AllByRecursion}
 use Rattle.std.proofs.lemmas.Bool.{or_parts}
@@ -9,7 +9,7 @@ use Rattle.ht_base.specs.declared.task_id.TaskId.{TaskId}
 use Rattle.ht_base.specs.Moment.{last_moment}
 use Rattle.ht_base.specs.Persons.{Ascends, has}
 use Rattle.ht_escalate.specs.declared.reassigning.Owners.{Owners}
-use Rattle.ht_escalate.specs.Escalating.{IsEscalated, IsOpen, first_reassignment, notices_of, reassigned_by, taken_row, taken_with, with_notices}
+use Rattle.ht_escalate.specs.Escalating.{first_reassignment, given_to, IsEscalated, IsOpen, notices_of, reassigned_by, taken_row, taken_with, with_notices}
 use Rattle.ht_escalate.specs.Seeing.{given_all, owners_of, telling}
 use Rattle.ht_expr.specs.Assignments.{Assignment}
 use Rattle.ht_entries.specs.declared.deadlines.DeadlineKind.{DeadlineKind}
@@ -27,7 +27,7 @@ use Rattle.ht_tree.specs.RowDues.{is_obsolete}
 use Rattle.ht_tree.specs.Rows.{row_at}
 use Rattle.ht_tree.specs.Soundness.{Fits, IsHeldBy, IsSound, IsSoundNotice, IsSoundRow}
 use Rattle.ht_tree.specs.Tables.{TablesOf, directory, model_of, task_row, with_row}
-use Rattle.ht_tree.proofs.PublicLaws.{IsPutAgain, put_again, put_again_of, sound_row_fits}
+use Rattle.ht_tree.proofs.PublicLaws.{IsPutAgain, put_again, put_again_of, sound_row_fits, standing}
 use Rattle.ht_escalate.proofs.EscalatedRows.{row_sound}
 use Rattle.ht_escalate.proofs.NewOwners.{of_this}
 use Rattle.ht_escalate.proofs.Notices.{all_told, telling_goes, told_sound}
@@ -116,6 +116,15 @@ module _ {u : TablesOf} {task place : ℕ} {row : Row} {m : ModelOf} {d : Deadli
       ∙ ap (λ (r : Row). record (given_all r owners) { taken = taken_with place r.taken }) same
       ∙ ap (λ (o : Option Owners). record (given_all row o) { taken = taken_with place row.taken }) are
       ∙ ap (λ (r : Row). record r { taken = taken_with place row.taken }) (given_is (directory u) (seen_in m u.rows row) row (first_reassignment (seen_in m u.rows row) d))
+
+-- to whomever the task is given, it is the same task
+pub given_standing : (row : Row) (o : Option Owners) → standing (given_all row o) ≡ standing row
+given_standing row None = refl
+given_standing row (Some owners) = go owners.persons
+  where
+    go : (ps : List ℕ) → standing (given_to row owners.by_group ps) ≡ standing row
+    go [] = refl
+    go (p ∷ ps) = refl
 
 -- ---- the plan goes on by it
 

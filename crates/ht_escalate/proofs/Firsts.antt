@@ -9,14 +9,14 @@ use Rattle.std.proofs.lemmas.Map.Lookups.{exact_unsigned}
 use Rattle.std.specs.declared.cmp.Ordering.{Ordering}
 use Rattle.std.specs.declared.cmp.Ordering.TheVariants.{Less, Equal, Greater}
 use Rattle.ht_due.specs.declared.due.Due.{Due}
-use Rattle.ht_due.specs.Dues.{Ascends, compare_dues, has, next_after}
-use Rattle.ht_due.proofs.PublicLaws.{due_order, exact, itself, next_none, next_some}
+use Rattle.ht_due.specs.Dues.{Ascends, compare_dues, has, next_after, lesser}
+use Rattle.ht_due.proofs.PublicLaws.{due_order, exact, itself, next_none, next_some, IsLeast, first_is_least, one_least}
 use Rattle.ht_escalate.specs.Kept.{IsFirstKept, IsStaying, is_changed}
 use Rattle.ht_tree.specs.Plans.{IsPlanOf, PlanOf, planned}
-use Rattle.ht_tree.specs.RowDues.{all_dues, changed_dues, due_by, first_due, lesser}
+use Rattle.ht_tree.specs.RowDues.{all_dues, changed_dues, due_by, first_due}
 use Rattle.ht_tree.specs.Soundness.{IsSound}
 use Rattle.ht_tree.specs.Tables.{TablesOf}
-use Rattle.ht_tree.proofs.PublicLaws.{IsLeast, all_dues_ascend, changed_ascend, first_is_least, has_planned, of_changed, one_least}
+use Rattle.ht_tree.proofs.PublicLaws.{all_dues_ascend, changed_ascend, has_planned, of_changed}
 
 -- ---- the order
 

@@ -85,7 +85,7 @@ telling_goes t old p new more u v goes is =
     subst P (sym is) (record {
       from = goes.from;
       to = ap (λ (l : List Notice). record (planned t p) { notices = l }) (sym (append_assoc t.notices (p.changes).notices more)) ∙ ap (λ (w : TablesOf). with_notices w more) goes.to;
-      fits = record { changes_fit = goes.fits.changes_fit; changes_counted = goes.fits.changes_counted; marked_fit = goes.fits.marked_fit; marked_counted = goes.fits.marked_counted };
+      fits = record { changes_fit = goes.fits.changes_fit; changes_counted = goes.fits.changes_counted; marked_fit = goes.fits.marked_fit; marked_counted = goes.fits.marked_counted; marked_filed = goes.fits.marked_filed; changes_filed = goes.fits.changes_filed };
       slot = goes.slot;
       marked = goes.marked;
     })

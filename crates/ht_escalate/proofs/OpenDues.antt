@@ -3,6 +3,7 @@ use Rattle.std.proofs.Common.{◌≡◌, ◌≤◌, ◌∙◌, ℕ, true, [], Op
 use Rattle.std.specs.Prelude.{nat_le, slice_get}
 use Rattle.std.specs.Option.{option_map_or}
 use Rattle.std.proofs.lemmas.Bool.{and_parts, leb-true}
+use Rattle.ht_due.proofs.PublicLaws.{IsLeast, first_is_least}
 use Rattle.ht_due.specs.declared.due.Due.{Due}
 use Rattle.ht_due.specs.Dues.{has}
 use Rattle.ht_escalate.specs.Escalating.{IsOpen}
@@ -12,7 +13,7 @@ use Rattle.ht_tree.specs.RowDues.{all_dues, due_by, first_due}
 use Rattle.ht_tree.specs.Rows.{row_at}
 use Rattle.ht_tree.specs.Soundness.{IsSound}
 use Rattle.ht_tree.specs.Tables.{TablesOf}
-use Rattle.ht_tree.proofs.PublicLaws.{IsLeast, IsOfRow, all_dues_ascend, first_is_least, means_due, row_of_due, some_at}
+use Rattle.ht_tree.proofs.PublicLaws.{IsOfRow, all_dues_ascend, means_due, row_of_due, some_at}
 use Rattle.ht_escalate.proofs.Firsts.{ascends_filter, has_filter}
 
 -- what is due first is due, and by then

@@ -5,14 +5,15 @@ use Rattle.ht_base.specs.declared.state.State.{State}
 use Rattle.ht_base.specs.declared.state.State.TheVariants as state
 use Rattle.ht_base.specs.Persons.{has}
 pub use Rattle.ht_escalate.specs.Leaving.{IsKept}
-use Rattle.ht_escalate.specs.Escalating.{first_reassignment, given_to, new_owners, reassigned_by, state_then, taken_row, taken_with}
+use Rattle.ht_escalate.specs.Escalating.{first_reassignment, given_to, reassigned_by, state_then, taken_row, taken_with}
 use Rattle.ht_expr.specs.Assignments.{Assignment, is_individual}
 use Rattle.ht_models.specs.Model.{DeadlineOf, ModelOf}
 use Rattle.ht_people.specs.Directory.{DirectoryOf}
 use Rattle.ht_tree.specs.declared.row.Row.{Row}
-use Rattle.ht_tree.specs.Assigning.{Sight}
+use Rattle.ht_tree.specs.Assigning.{potential_owners, Sight}
 use Rattle.ht_tree.specs.Creating.{seen_in}
 use Rattle.ht_base.specs.State.{is_final}
+use Rattle.ht_tree.specs.Soundness.{is_created, is_suspended}
 use Rattle.ht_tree.specs.Tables.{TablesOf, directory}
 
 itself : (row : Row) → IsKept row row
@@ -38,7 +39,7 @@ given row by_group (p ∷ ps) = record { task = refl; parent = refl; model = ref
 
 by : (d : DirectoryOf) (s : Sight) (row : Row) (a : Option Assignment) → IsKept row (reassigned_by d s row a)
 by d s row None = itself row
-by d s row (Some a) = given row (not (is_individual a)) (new_owners d s row a)
+by d s row (Some a) = given row (not (is_individual a)) (potential_owners d s a row.excluded_owners)
 
 -- and so it is with the deadline among those that were taken
 pub taken_is_kept : (u : TablesOf) (row : Row) (m : ModelOf) (d : DeadlineOf) (place : ℕ) → IsKept row (taken_row u row m d place)
@@ -99,3 +100,33 @@ taken_has_more place p taken h =
     go false e false f =
         let above : nat_lt place p ≡ true = grind (arith, nat_tests) in
         ap (λ x. low || (x || high)) f ∙ ap (λ x. low || x) (has_filter (λ q. nat_lt place q) p taken above h) ∙ always low
+
+-- ---- the state
+
+-- who is given a task leaves it created, or suspended
+created_still : (s : State) → is_created s ≡ true → is_created (state_then s) ≡ true
+created_still state.Created h = h
+created_still s h = cc
+
+suspended_still : (s : State) → is_suspended s ≡ true → is_suspended (state_then s) ≡ true
+suspended_still state.SuspendedReady h = h
+suspended_still state.SuspendedReserved h = refl
+suspended_still state.SuspendedInProgress h = refl
+suspended_still s h = cc
+
+-- a task that is created or suspended is so still
+abbrev pub StaysSo : Row → Row → Type 0
+StaysSo old new = (is_created old.state ≡ true → is_created new.state ≡ true) × (is_suspended old.state ≡ true → is_suspended new.state ≡ true)
+
+given_so : (row : Row) (by_group : Bool) (ps : List ℕ) → StaysSo row (given_to row by_group ps)
+given_so row by_group [] = (λ h. h, λ h. h)
+given_so row by_group (p ∷ ps) = (created_still row.state, suspended_still row.state)
+
+by_so : (d : DirectoryOf) (s : Sight) (row : Row) (a : Option Assignment) → StaysSo row (reassigned_by d s row a)
+by_so d s row None = (λ h. h, λ h. h)
+by_so d s row (Some a) = given_so row (not (is_individual a)) (potential_owners d s a row.excluded_owners)
+
+pub taken_stays_so : (u : TablesOf) (row : Row) (m : ModelOf) (d : DeadlineOf) (place : ℕ) → StaysSo row (taken_row u row m d place)
+taken_stays_so u row m d place =
+    let s = seen_in m u.rows row in
+    by_so (directory u) s row (first_reassignment s d)

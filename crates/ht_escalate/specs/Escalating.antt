@@ -1,20 +1,19 @@
 -- What comes of a deadline that is missed (WS-HumanTask 1.1, 4.9 "Timeouts/deadlines and escalations"): of
 -- its escalations those are triggered whose condition is true. All conditions and people assignments see
 -- the task as the deadline finds it.
-use Rattle.std.specs.Prelude.{◌≡◌, ℕ, Bool, false, not, ◌&&◌, List, [], ◌∷◌, ◌++◌, filter, filter_map, Option, Some, None, option_map, slice_get}
+use Rattle.std.specs.Prelude.{◌≡◌, ℕ, Bool, false, not, List, [], ◌∷◌, ◌++◌, filter, filter_map, Option, Some, None, option_map, slice_get}
 use Rattle.ht_base.specs.declared.moment.Moment.{Moment}
 use Rattle.ht_base.specs.declared.state.State.{State}
 use Rattle.ht_base.specs.declared.state.State.TheVariants.{Ready, Reserved, InProgress, SuspendedReady, SuspendedReserved, SuspendedInProgress}
 use Rattle.ht_base.specs.declared.task_id.TaskId.{TaskId}
 use Rattle.ht_base.specs.Persons.{has}
 use Rattle.ht_expr.specs.Assignments.{Assignment, is_individual}
-use Rattle.ht_expr.specs.Values.{Outcome, a_truth, value}
+use Rattle.ht_expr.specs.Values.{value}
 use Rattle.ht_models.specs.Model.{DeadlineOf, EscalationOf, ModelOf}
 use Rattle.ht_people.specs.Directory.{DirectoryOf}
-use Rattle.ht_people.specs.Membership as people
 use Rattle.ht_tree.specs.declared.notice.Notice.{Notice}
 use Rattle.ht_tree.specs.declared.row.Row.{Row}
-use Rattle.ht_tree.specs.Assigning.{Sight, is_found, resolved}
+use Rattle.ht_tree.specs.Assigning.{Sight, is_true, potential_owners, resolved}
 use Rattle.ht_tree.specs.Creating.{seen_in}
 pub use Rattle.ht_tree.specs.Passed.{taken_with}
 use Rattle.ht_tree.specs.Plans.{Goes, PlanOf, planned}
@@ -24,12 +23,8 @@ use Rattle.ht_tree.specs.Tables.{TablesOf, directory, model_of, task_row, with_r
 
 -- ---- which are triggered
 
-abbrev pub is_yes : Outcome → Bool
-is_yes (a_truth b) = b
-is_yes _ = false
-
 abbrev pub is_triggered : Sight → EscalationOf → Bool
-is_triggered s e = is_yes (value s.kinds s.env e.when)
+is_triggered s e = is_true (value s.kinds s.env e.when)
 
 abbrev pub triggered : Sight → List EscalationOf → List EscalationOf
 triggered s es = filter (is_triggered s) es
@@ -45,13 +40,9 @@ notices_of d s task deadline at = filter_map (notice_of d s task deadline.name a
 
 -- ---- who is given the task
 
--- the first reassignment counts
+-- the first reassignment counts: whom it finds, without the excluded owners
 abbrev pub first_reassignment : Sight → DeadlineOf → Option Assignment
 first_reassignment s deadline = slice_get (filter_map (λ e. e.reassign) (triggered s deadline.escalations)) 0
-
--- whom it finds, without the excluded owners
-abbrev pub new_owners : DirectoryOf → Sight → Row → Assignment → List ℕ
-new_owners d s row a = filter (λ p. is_found d s a p && not (has p row.excluded_owners)) (people.everybody d)
 
 -- the task is open to them, or would be but for its suspension
 abbrev pub state_then : State → State
@@ -68,7 +59,7 @@ given_to row by_group (p ∷ ps) = record row { state = state_then row.state; ow
 
 abbrev pub reassigned_by : DirectoryOf → Sight → Row → Option Assignment → Row
 reassigned_by d s row None = row
-reassigned_by d s row (Some a) = given_to row (not (is_individual a)) (new_owners d s row a)
+reassigned_by d s row (Some a) = given_to row (not (is_individual a)) (potential_owners d s a row.excluded_owners)
 
 abbrev pub reassigned : DirectoryOf → Sight → DeadlineOf → Row → Row
 reassigned d s deadline row = reassigned_by d s row (first_reassignment s deadline)

@@ -1,14 +1,14 @@
 -- What a deadline is taken by: a row as it would be after a plan, its new owners, and its notifications.
 use Rattle.std.specs.Prelude.{◌≡◌, ◌++◌, not, List, Option, Some, None, option_map}
 use Rattle.ht_escalate.specs.declared.reassigning.Owners.{Owners}
-use Rattle.ht_escalate.specs.Escalating.{given_to, new_owners}
+use Rattle.ht_escalate.specs.Escalating.{given_to}
 use Rattle.ht_expr.specs.Assignments.{Assignment, is_individual}
 use Rattle.ht_models.specs.declared.model.Model.{Model}
 use Rattle.ht_models.specs.Shown as shown
 use Rattle.ht_people.specs.Directory.{DirectoryOf}
 use Rattle.ht_tree.specs.declared.notice.Notice.{Notice}
 use Rattle.ht_tree.specs.declared.row.Row.{Row}
-use Rattle.ht_tree.specs.Assigning.{Sight}
+use Rattle.ht_tree.specs.Assigning.{Sight, potential_owners}
 use Rattle.ht_tree.specs.Plans.{IsPlanOf, PlanOf, planned}
 use Rattle.ht_tree.specs.Soundness.{IsSound}
 use Rattle.ht_tree.specs.Tables.{TablesOf, model_of, task_row}
@@ -22,7 +22,7 @@ pub record IsSeen (t : TablesOf) (p : PlanOf) (row : Row) (m : Model) : Type 0 w
 
 -- by a reassignment
 abbrev pub owners_by : DirectoryOf → Sight → Row → Assignment → Owners
-owners_by d s row a = record { persons = new_owners d s row a; by_group = not (is_individual a) }
+owners_by d s row a = record { persons = potential_owners d s a row.excluded_owners; by_group = not (is_individual a) }
 
 abbrev pub owners_of : DirectoryOf → Sight → Row → Option Assignment → Option Owners
 owners_of d s row a = option_map (owners_by d s row) a

@@ -5,8 +5,8 @@ ghost use Rattle.ht_tree.specs.RowDues.{first_due};
 ghost use Rattle.ht_tree.specs.Soundness.{IsSound};
 
 use ht_base::Moment;
-use ht_due::Due;
-use ht_tree::{Plan, Tables, least_changed, lesser};
+use ht_due::{Due, lesser};
+use ht_tree::{Plan, Tables, least_changed};
 
 /// The first of what is due by a moment, as it would be after the plan (WS-HumanTask 1.1, 4.9). None
 /// where nothing is due by then. It takes no memory, and looks at the first dues of the tables and at the

@@ -15,8 +15,7 @@ use crate::triggering::is_triggered;
 use ht_base::{Memory, Persons, State};
 use ht_expr::{Assign, Env};
 use ht_models::{Deadline, Model};
-use ht_people::except;
-use ht_tree::{Plan, Row, Tables, resolve_seen};
+use ht_tree::{Plan, Row, Tables, resolve_seen, without};
 use std::alloc::Global;
 
 /// To whom a task is given, and whether by a group.
@@ -71,7 +70,7 @@ fn owners_by(
 {
     let found = resolve_seen(alloc, tables, plan, row, assign, view)?;
     Ok(Owners {
-        persons: except(alloc, &found, &row.excluded_owners)?,
+        persons: without(alloc, found, &row.excluded_owners)?,
         by_group: !assign.individual(),
     })
 }

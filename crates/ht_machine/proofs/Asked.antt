@@ -10,7 +10,7 @@ use Rattle.ht_base.specs.declared.retry.Retry.{Retry}
 use Rattle.ht_base.specs.declared.task_id.TaskId.{TaskId}
 use Rattle.ht_base.specs.Events.{IsRetry, IsTaskOf, op_of}
 use Rattle.ht_compose.specs.ByHand.{IsEntryOf}
-use Rattle.ht_machine.specs.declared.asking.Asked.{Asked as Ask}
+use Rattle.ht_machine.specs.declared.asking.CommandAt.{CommandAt}
 use Rattle.ht_machine.specs.declared.sending.Sending.{Sending}
 use Rattle.ht_machine.specs.Commands.{ActsOn, AfterEffect, BehindGate, Comes, DoesOn, MakesEntry, accepted, refused}
 use Rattle.ht_machine.specs.Deciding.{AsksAs, NamesOwner, Shows}
@@ -23,7 +23,7 @@ use Rattle.ht_tree.specs.declared.slot.Slot.{Slot}
 use Rattle.ht_tree.specs.Plans.{ChangesOf, IsPlanOf, PlanOf, planned, slots_after}
 use Rattle.ht_tree.specs.Slots.{IsNamedBy, IsSoundReply}
 use Rattle.ht_tree.specs.Soundness.{IsSound}
-use Rattle.ht_tree.specs.Tables.{TablesOf, directory}
+use Rattle.ht_tree.specs.Tables.{TablesOf}
 use Rattle.ht_tree.proofs.PublicLaws.{keeping_fits, keeping_planned, slot_sound, within}
 
 -- where nothing more changes
@@ -60,7 +60,7 @@ acts_on_it u caller moment task c v about tasks there = at (gate u (op_of c) cal
 
     on_it : (d : Command) → DoesOn u caller moment task d (accepted v about) → (1 ≤ task) × (task ≤ tasks)
     on_it (command.InstantiateSubTask sub) a = made a.0 sub a.1 a.2
-    on_it d a = let h = a.2 in by a.0 (effect (directory a.0) (a.0).rows h.1 caller (record { 0 = moment }) d h.0) h.4
+    on_it d a = let h = a.2 in by a.0 (effect a.0 h.1 caller (record { 0 = moment }) d h.0) h.4
 
     at : (g : Gate) → BehindGate u caller moment task c g (accepted v about) → (1 ≤ task) × (task ≤ tasks)
     at (opens row) a = on_it c a
@@ -85,7 +85,7 @@ reply_is_sound u about reply sound shows names =
 with_reply_sound : (u : TablesOf) (person : ℕ) (retry : Option Retry) (op : Op) (task : TaskId) (reply : Kept) → IsSound u → person < length u.people.persons → IfSome retry IsRetry → IsNamedBy (length u.rows) op task → IsSoundReply u.people (length u.rows) reply → IsSound (with_reply u person retry op task reply)
 with_reply_sound u person None op task reply sound known is names kept = sound
 with_reply_sound u person (Some r) op task reply sound known is names kept =
-    slot_sound u (slot_of person r op task reply) sound (record { person = known; device = is.0; number = is.1; task = names; kept = kept })
+    slot_sound u (slot_of person r op task reply) sound (record { person = known; numbered = is; task = names; kept = kept })
 
 keeping_reply_planned : (t : TablesOf) (p : PlanOf) (person : ℕ) (retry : Option Retry) (op : Op) (task : TaskId) (reply : Kept) → (p.changes).slot ≡ None → planned t (keeping_reply p person retry op task reply) ≡ with_reply (planned t p) person retry op task reply
 keeping_reply_planned t p person None op task reply none = refl
@@ -97,7 +97,7 @@ keeping_reply_fits t p person (Some r) op task reply fit = keeping_fits t p (slo
 
 -- ---- a new command
 
-module _ (t : TablesOf) (p q : PlanOf) (person : ℕ) (a : Ask) (ready : IsReady t p) where
+module _ (t : TablesOf) (p q : PlanOf) (person : ℕ) (a : CommandAt) (ready : IsReady t p) where
   -- that is accepted
   module _ (about : TaskId) (reply : Kept) (later : t.last ≤ a.at.0) (known : person < length t.people.persons) (is : IsAsked a) where
     pub asked_anew : Does t p q (Comes (planned t p) person a.at.0 a.task.0 a.command.now) about → Shows (planned t q) about.0 reply → NamesOwner t.people reply → PlansNew t p (keeping_reply q person a.retry (op_of a.command.now) a.task reply) a.at.0 person a.retry a.task a.command.now (record_of a) (Some (record_of a)) (answer_of reply)
@@ -142,7 +142,7 @@ module _ (t : TablesOf) (p q : PlanOf) (person : ℕ) (a : Ask) (ready : IsReady
 -- ---- any command
 
 -- by what is known of it
-module _ (t : TablesOf) (p : PlanOf) (a : Ask) (op : Op) (sending : Sending) (named : op ≡ op_of a.command.now) (sent : IsSent t a.caller a.retry op a.task sending) (ready : IsReady t p) where
+module _ (t : TablesOf) (p : PlanOf) (a : CommandAt) (op : Op) (sending : Sending) (named : op ≡ op_of a.command.now) (sent : IsSent t a.caller a.retry op a.task sending) (ready : IsReady t p) where
   same : (planned t p).slots ≡ t.slots
   same = ap (λ (o : Option Slot). slots_after t.slots o) ready.fresh
 

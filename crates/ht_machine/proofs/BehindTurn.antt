@@ -5,7 +5,7 @@ use Rattle.ht_base.specs.declared.record.Record.TheVariants as record_of
 use Rattle.ht_base.specs.declared.reply.Answer.{Answer}
 use Rattle.ht_base.specs.declared.reply.Answer.TheVariants.{Turned}
 use Rattle.ht_base.specs.Moment.{last_moment}
-use Rattle.ht_machine.specs.declared.asking.Asked.{Asked as Ask}
+use Rattle.ht_machine.specs.declared.asking.CommandAt.{CommandAt}
 use Rattle.ht_machine.specs.Deciding.{Asks, Behind, Rests, kept_at, last_after, left_with}
 use Rattle.ht_machine.specs.Planning.{Leaves, Makes, PlansAsk}
 use Rattle.ht_machine.specs.Turning.{IsTurn, Turns}
@@ -74,7 +74,7 @@ module _ (t : TablesOf) (start p : PlanOf) (moment n : ℕ) (none : start ≡ no
       )
 
   -- and a command behind it
-  pub then_asks : (a : Ask) (q r : PlanOf) (own left : Option Record) (answer : Answer) → q ≡ record p { marked = p.changes } → moment ≤ last_moment → t.last ≤ moment → left ≡ left_with moment n own → PlansAsk t q r moment a.caller a.retry a.task a.command.now own answer → (after : TablesOf) × Behind t moment (λ u. Asks u moment a.caller a.retry a.task a.command.now) left (record { taken = n; answer = answer }) after × Leaves t r left after
+  pub then_asks : (a : CommandAt) (q r : PlanOf) (own left : Option Record) (answer : Answer) → q ≡ record p { marked = p.changes } → moment ≤ last_moment → t.last ≤ moment → left ≡ left_with moment n own → PlansAsk t q r moment a.caller a.retry a.task a.command.now own answer → (after : TablesOf) × Behind t moment (λ u. Asks u moment a.caller a.retry a.task a.command.now) left (record { taken = n; answer = answer }) after × Leaves t r left after
   then_asks a q r own left answer marked within later is asks =
       let same : planned t q ≡ turns.after = ap (λ (x : PlanOf). planned t x) marked ∙ (turns.goes).to in
       let A : TablesOf → Type 0 = λ u. Asks u moment a.caller a.retry a.task a.command.now own answer asks.after in

@@ -1,4 +1,5 @@
 -- What comes of a command that passes the gate.
+use Rattle.ht_models.specs.Contradictions.{is_automatic}
 use Rattle.std.proofs.Common.{◌≡◌, ℕ, Bool, List, Option, None, Some, Ok, Err, Result, if◌then◌else◌, refl, ap, sym, subst, ◌∙◌, eq-eqb, arith}
 use Rattle.ht_base.specs.declared.event.Command.{Command}
 use Rattle.ht_base.specs.declared.event.Command.TheVariants as command
@@ -10,9 +11,8 @@ use Rattle.ht_base.specs.declared.values.Values.{Values}
 use Rattle.ht_base.specs.Events.{op_of}
 use Rattle.ht_compose.specs.Finishes.{chosen}
 use Rattle.ht_compose.specs.Gathering.{Gathers, GathersBy, IsGathered}
-use Rattle.ht_compose.specs.Items.{is_automatic}
 use Rattle.ht_compose.specs.Reaching.{IsTask}
-use Rattle.ht_machine.specs.Commands.{ActsOn, AfterEffect, BehindGate, DoesOn, HasEffect, Outcome, accepted, refused}
+use Rattle.ht_machine.specs.Commands.{ActsOn, AfterEffect, BehindGate, DoesOn, HasEffect, Consequence, accepted, refused}
 use Rattle.ht_base.specs.declared.reply.Refusal.{Refusal}
 use Rattle.ht_machine.specs.Gate.{Answers, Gate, gate, gate_at, judged, opens}
 use Rattle.ht_machine.specs.Planning.{Does, Tries}
@@ -36,7 +36,7 @@ use Rattle.ht_tree.proofs.PublicLaws.{goes_then, row_at-put_in, within}
 
 -- ---- what is tried, told otherwise
 
-pub tries_as : (t : TablesOf) (old new : PlanOf) (P Q : Outcome → Type 0) (r : Result TaskId ActRefusal) → ((o : Outcome) → P o → Q o) → Tries t old new P r → Tries t old new Q r
+pub tries_as : (t : TablesOf) (old new : PlanOf) (P Q : Consequence → Type 0) (r : Result TaskId ActRefusal) → ((o : Consequence) → P o → Q o) → Tries t old new P r → Tries t old new Q r
 tries_as t old new P Q (Ok task) f d = record { after = d.after; comes = f (accepted d.after task.0) d.comes; goes = d.goes; sound = d.sound; row = d.row; there = d.there }
 tries_as t old new P Q (Err (why.Refused other)) f d = (f (refused other) d.0, d.1)
 tries_as t old new P Q (Err why.Memory) f d = tt
@@ -77,7 +77,7 @@ act_tries t old new caller at task c why.Memory told = tt
 -- ---- behind what is gathered first
 
 -- a command that gathers nothing and makes no sub task
-pub does_plain : (u : TablesOf) (caller moment task : ℕ) (c : Command) (o : Outcome) → ((sub : List ℕ) → c ≡ command.InstantiateSubTask sub → ⊥) → ((output : Parts) → c ≡ command.Complete output → ⊥) → HasEffect u caller moment task c o → DoesOn u caller moment task c o
+pub does_plain : (u : TablesOf) (caller moment task : ℕ) (c : Command) (o : Consequence) → ((sub : List ℕ) → c ≡ command.InstantiateSubTask sub → ⊥) → ((output : Parts) → c ≡ command.Complete output → ⊥) → HasEffect u caller moment task c o → DoesOn u caller moment task c o
 does_plain u caller moment task (command.InstantiateSubTask sub) o makes completes has = absurd (makes sub refl)
 does_plain u caller moment task (command.Complete output) o makes completes has = absurd (completes output refl)
 does_plain u caller moment task c o makes completes has = (u, refl, has)
@@ -132,7 +132,7 @@ gathered_then t old mid new caller at task output (Err why.Memory) g d = tt
 pub gate_opens : (u : TablesOf) (op : Op) (person task : ℕ) (a : IsAllowed u op person task) → gate u op person task ≡ opens a.row
 gate_opens u op person task a = ap (λ o. gate_at u op person task o) a.there ∙ ap (λ (v : Verdict). judged v a.row) a.may
 
-pub behind_gate : (u : TablesOf) (caller moment task : ℕ) (c : Command) (o : Outcome) → IsAllowed u (op_of c) caller task → DoesOn u caller moment task c o → ActsOn u caller moment task c o
+pub behind_gate : (u : TablesOf) (caller moment task : ℕ) (c : Command) (o : Consequence) → IsAllowed u (op_of c) caller task → DoesOn u caller moment task c o → ActsOn u caller moment task c o
 behind_gate u caller moment task c o allowed doing =
     let G : Gate → Type 0 = λ g. BehindGate u caller moment task c g o in
     subst G (sym (gate_opens u (op_of c) caller task allowed)) doing

@@ -1,7 +1,6 @@
 -- What comes of a create.
-use Rattle.std.proofs.Common.{◌≡◌, ℕ, ◌+◌, List, [], ◌∷◌, length, Option, None, Some, Ok, Err, refl, ap, sym, subst, ◌∙◌, Bool, true, if◌then◌else◌, eq-eqb, arith}
-use Rattle.std.proofs.lemmas.Bool.{false_from_ne_true}
-use Rattle.std.proofs.lemmas.Bool.Decides.{nat_tests}
+use Rattle.ht_owner.specs.Faults.{first_of}
+use Rattle.std.proofs.Common.{◌≡◌, ℕ, ◌+◌, List, [], ◌∷◌, length, Option, None, Some, Ok, Err, refl, ap, sym, subst, ◌∙◌, Bool, true, if◌then◌else◌, eq-eqb, arith, false}
 use Rattle.std.specs.Option.{option_and_then}
 use Rattle.std.specs.Prelude.{is_some}
 use Rattle.ht_base.specs.declared.moment.Moment.{Moment}
@@ -15,13 +14,13 @@ use Rattle.ht_base.specs.declared.values.Values.{Values}
 use Rattle.ht_compose.specs.Items.Item.{Activate}
 use Rattle.ht_compose.specs.Reaching.{IsTask}
 use Rattle.ht_compose.specs.Running.{Runs}
-use Rattle.ht_machine.specs.Commands.{ActivatesUnless, Creates, first_of, is_full, limit_at, new_task, place_named, refused, refused_input, too_many, unknown_model, why_not, why_not_created}
+use Rattle.ht_machine.specs.Commands.{ActivatesUnless, Creates, limit_at, new_task, place_named, refused, refused_input, too_many, unknown_model, why_not, why_not_created}
 use Rattle.ht_machine.specs.Planning.{Does, Finds, IsActivated, Tries, refusal_of}
 use Rattle.ht_models.specs.Model.{ModelOf}
 use Rattle.ht_owner.specs.declared.refusal.ActRefusal.TheVariants as act
 use Rattle.ht_tree.specs.declared.creating.CreateRefusal.{CreateRefusal}
 use Rattle.ht_tree.specs.declared.creating.CreateRefusal.TheVariants as create
-use Rattle.ht_tree.specs.Creating.{IsFull, new_row}
+use Rattle.ht_tree.specs.Creating.{is_full, new_row}
 use Rattle.ht_tree.specs.Plans.{Goes, IsNext, PlanOf, planned}
 use Rattle.ht_tree.specs.Rows.{row_at}
 use Rattle.ht_tree.specs.Tables.{TablesOf, directory, model_at, with_row}
@@ -45,11 +44,11 @@ why_of u named place input m finds at =
     ∙ ap (λ (o : Option ℕ). first_of (None ∷ option_and_then (λ x. why_not_created (directory u) x input) (option_and_then (model_at u) o) ∷ option_and_then (limit_at u) o ∷ [])) its
     ∙ ap (λ (o : Option ModelOf). first_of (None ∷ option_and_then (λ x. why_not_created (directory u) x input) o ∷ limit_at u place ∷ [])) at
 
-not_full : (u : TablesOf) (place : ℕ) → (IsFull u place → ⊥) → limit_at u place ≡ None
-not_full u place room = ap (λ (b : Bool). if b then Some (refusal.Limit Tasks) else None) (false_from_ne_true (is_full u place) (λ full. room (grind (arith, nat_tests))))
+not_full : (u : TablesOf) (place : ℕ) → is_full u place ≡ false → limit_at u place ≡ None
+not_full u place room = ap (λ (b : Bool). if b then Some (refusal.Limit Tasks) else None) room
 
-it_is_full : (u : TablesOf) (place : ℕ) → IsFull u place → limit_at u place ≡ Some (refusal.Limit Tasks)
-it_is_full u place full = let yes : is_full u place ≡ true = grind (arith, nat_tests) in ap (λ (b : Bool). if b then Some (refusal.Limit Tasks) else None) yes
+it_is_full : (u : TablesOf) (place : ℕ) → is_full u place ≡ true → limit_at u place ≡ Some (refusal.Limit Tasks)
+it_is_full u place full = ap (λ (b : Bool). if b then Some (refusal.Limit Tasks) else None) full
 
 -- no model has the name
 pub not_found : (u : TablesOf) (named : Option (List ℕ)) (input : Parts) (other : Refusal) → Finds u named (Err (act.Refused other)) → why_not u named input ≡ Some other
@@ -72,7 +71,7 @@ new_row_there u m place parent caller values waits at task number =
       number = same;
     }
 
-pub created : (t : TablesOf) (old mid new : PlanOf) (caller : ℕ) (at : Moment) (place : ℕ) (input : Parts) (waits : Option Moment) (named : Option (List ℕ)) (m : ModelOf) (task : TaskId) → Finds t named (Ok place) → model_at t place ≡ Some m → why_not_created (directory t) m input ≡ None → (IsFull (planned t old) place → ⊥) → task.0 ≡ length (planned t old).rows + 1 → Goes t old mid (planned t old) (with_row (planned t old) (new_task (planned t old) caller at.0 place input waits m)) → IsActivated t mid new at waits task.0 → Does t old new (Creates (planned t old) caller at.0 named input waits) task
+pub created : (t : TablesOf) (old mid new : PlanOf) (caller : ℕ) (at : Moment) (place : ℕ) (input : Parts) (waits : Option Moment) (named : Option (List ℕ)) (m : ModelOf) (task : TaskId) → Finds t named (Ok place) → model_at t place ≡ Some m → why_not_created (directory t) m input ≡ None → is_full (planned t old) place ≡ false → task.0 ≡ length (planned t old).rows + 1 → Goes t old mid (planned t old) (with_row (planned t old) (new_task (planned t old) caller at.0 place input waits m)) → IsActivated t mid new at waits task.0 → Does t old new (Creates (planned t old) caller at.0 named input waits) task
 created t old mid new caller at place input waits named m task finds is fine room number first plans =
     let u = planned t old in
     let u1 = with_row u (new_task u caller at.0 place input waits m) in
@@ -103,13 +102,13 @@ activated t old new at task there runs =
 
 -- ---- or there are too many tasks
 
-not_created : (u : TablesOf) (place : ℕ) (input : Parts) (named : Option (List ℕ)) (m : ModelOf) → Finds u named (Ok place) → model_at u place ≡ Some m → why_not_created (directory u) m input ≡ None → IsFull u place → why_not u named input ≡ Some (refusal.Limit Tasks)
+not_created : (u : TablesOf) (place : ℕ) (input : Parts) (named : Option (List ℕ)) (m : ModelOf) → Finds u named (Ok place) → model_at u place ≡ Some m → why_not_created (directory u) m input ≡ None → is_full u place ≡ true → why_not u named input ≡ Some (refusal.Limit Tasks)
 not_created u place input named m finds at fine full =
     why_of u named place input m finds at
     ∙ ap (λ (o : Option Refusal). first_of (None ∷ o ∷ limit_at u place ∷ [])) fine
     ∙ ap (λ (o : Option Refusal). first_of (None ∷ None ∷ o ∷ [])) (it_is_full u place full)
 
-pub refused_create : (t : TablesOf) (old new : PlanOf) (caller moment place : ℕ) (input : Parts) (waits : Option Moment) (named : Option (List ℕ)) (m : ModelOf) (why : CreateRefusal) → Finds t named (Ok place) → model_at t place ≡ Some m → why_not_created (directory t) m input ≡ None → (why ≡ create.TaskLimit → IsFull (planned t old) place) → new ≡ old → Tries t old new (Creates (planned t old) caller moment named input waits) (Err (refusal_of why))
+pub refused_create : (t : TablesOf) (old new : PlanOf) (caller moment place : ℕ) (input : Parts) (waits : Option Moment) (named : Option (List ℕ)) (m : ModelOf) (why : CreateRefusal) → Finds t named (Ok place) → model_at t place ≡ Some m → why_not_created (directory t) m input ≡ None → (why ≡ create.TaskLimit → is_full (planned t old) place ≡ true) → new ≡ old → Tries t old new (Creates (planned t old) caller moment named input waits) (Err (refusal_of why))
 refused_create t old new caller moment place input waits named m create.Memory finds at fine full same = tt
 refused_create t old new caller moment place input waits named m create.TaskLimit finds at fine full same = (not_created (planned t old) place input named m finds at fine (full refl), ap (λ (p : PlanOf). p.marked) same)
 

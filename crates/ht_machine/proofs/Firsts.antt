@@ -7,10 +7,9 @@ use Rattle.std.specs.declared.cmp.Ordering.TheVariants.{Less, Equal, Greater}
 use Rattle.std.proofs.lemmas.Bool.{cases_eq}
 use Rattle.std.proofs.lemmas.Cmp.{nat_cmp_total, tied_itself}
 use Rattle.ht_due.specs.declared.due.Due.{Due}
-use Rattle.ht_due.specs.Dues.{Ascends, compare_dues, has, next_after}
+use Rattle.ht_due.specs.Dues.{Ascends, compare_dues, has, next_after, lesser}
 use Rattle.ht_due.proofs.PublicLaws.{due_order, exact, itself, least_none, least_some, next_none, next_some}
 use Rattle.ht_machine.specs.Ahead.{IsFirstAhead, in_either, in_list}
-use Rattle.ht_tree.specs.RowDues.{lesser}
 
 -- ---- the order of dues
 

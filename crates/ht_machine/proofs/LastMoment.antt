@@ -1,4 +1,5 @@
 -- What is taken, and what comes of a command, is the same whatever the moment of the last record was.
+use Rattle.ht_models.specs.Contradictions.{is_automatic}
 use Rattle.std.proofs.Common.{◌≡◌, ℕ, zero, suc, List, [], ◌∷◌, Option, None, Some, if◌then◌else◌, refl, ap, ◌∙◌}
 use Rattle.ht_base.specs.declared.event.Command.{Command}
 use Rattle.ht_base.specs.declared.event.Command.TheVariants as command
@@ -15,14 +16,13 @@ use Rattle.ht_compose.proofs.PublicLaws.{ends_at_moment, frees_at_moment}
 use Rattle.ht_compose.specs.Downward.{freed}
 use Rattle.ht_compose.specs.Finishes.{chosen}
 use Rattle.ht_compose.specs.Gathering.{GathersBy}
-use Rattle.ht_compose.specs.Items.{is_automatic}
 use Rattle.ht_compose.specs.Items.Item.{Activate, Begin, Close, Make}
 use Rattle.ht_due.specs.declared.due.Due.{Due}
 use Rattle.ht_escalate.proofs.PublicLaws.{takes_at_moment}
 use Rattle.ht_machine.specs.declared.sending.Sending.{Sending}
 use Rattle.ht_machine.specs.declared.sending.Sending.TheVariants as sending
 use Rattle.ht_machine.specs.declared.sending.Sending.TheVariants.{New, Answered}
-use Rattle.ht_machine.specs.Commands.{ActivatesUnless, ActsOn, AfterEffect, BehindGate, Comes, Creates, DoesOn, GathersFirst, HasEffect, MakesEntry, Outcome, accepted, new_task, refused, waits_until}
+use Rattle.ht_machine.specs.Commands.{ActivatesUnless, ActsOn, AfterEffect, BehindGate, Comes, Creates, DoesOn, GathersFirst, HasEffect, MakesEntry, Consequence, accepted, new_task, refused, waits_until}
 use Rattle.ht_machine.specs.Deciding.{Asks, AsksAs, Settles}
 use Rattle.ht_machine.specs.Following.{Spreads}
 use Rattle.ht_machine.specs.Gate.{Gate, gate, opens, shuts}
@@ -36,7 +36,7 @@ use Rattle.ht_owner.specs.declared.follow.Follow.TheVariants.{Began, Freed, Held
 use Rattle.ht_owner.specs.Effects.{Effect, does, effect, refuses}
 use Rattle.ht_tree.specs.declared.row.Row.{Row}
 use Rattle.ht_tree.specs.declared.slot.Kept.{Kept}
-use Rattle.ht_tree.specs.Tables.{TablesOf, at_moment, directory, with_row}
+use Rattle.ht_tree.specs.Tables.{TablesOf, at_moment, with_row}
 
 module _ (last : ℕ) where
   abbrev with_last : TablesOf → TablesOf
@@ -61,7 +61,7 @@ module _ (last : ℕ) where
 
   -- ---- commands
 
-  abbrev then_with_last : Outcome → Outcome
+  abbrev then_with_last : Consequence → Consequence
   then_with_last (accepted v task) = accepted (with_last v) task
   then_with_last (refused why) = refused why
 
@@ -89,35 +89,35 @@ module _ (last : ℕ) where
     abbrev now : Moment
     now = record { 0 = moment }
 
-    creates : (model : Option (List ℕ)) (input : Parts) (waits : Option Moment) (o : Outcome) → Creates u caller moment model input waits o → Creates (with_last u) caller moment model input waits (then_with_last o)
+    creates : (model : Option (List ℕ)) (input : Parts) (waits : Option Moment) (o : Consequence) → Creates u caller moment model input waits o → Creates (with_last u) caller moment model input waits (then_with_last o)
     creates model input waits (accepted v task) (fine, place, m, at, of, number, act) = (fine, place, m, at, of, number, activates now waits task (with_row u (new_task u caller moment place input waits m)) v act)
     creates model input waits (refused why) is = is
 
-    makes : (task : ℕ) (name : List ℕ) (entry : Option ℕ) (o : Outcome) → MakesEntry u moment task name entry o → MakesEntry (with_last u) moment task name entry (then_with_last o)
+    makes : (task : ℕ) (name : List ℕ) (entry : Option ℕ) (o : Consequence) → MakesEntry u moment task name entry o → MakesEntry (with_last u) moment task name entry (then_with_last o)
     makes task name None o is = ap then_with_last is
     makes task name (Some entry) (accepted v about) (ends, is) = (ends_at_moment now u v (Make task entry ∷ []) ends last, is)
     makes task name (Some entry) (refused why) is = absurd is
 
-    after_effect : (task : ℕ) (e : Effect) (o : Outcome) → AfterEffect u moment task e o → AfterEffect (with_last u) moment task e (then_with_last o)
+    after_effect : (task : ℕ) (e : Effect) (o : Consequence) → AfterEffect u moment task e o → AfterEffect (with_last u) moment task e (then_with_last o)
     after_effect task (does row f) (accepted v about) (is, same) = (spreads now f task (with_row u row) v is, same)
     after_effect task (does row f) (refused why) is = absurd is
     after_effect task (refuses why) o is = ap then_with_last is
 
-    has_effect : (task : ℕ) (c : Command) (o : Outcome) → HasEffect u caller moment task c o → HasEffect (with_last u) caller moment task c (then_with_last o)
-    has_effect task c o (row, m, there, of, is) = (row, m, there, of, after_effect task (effect (directory u) u.rows m caller now c row) o is)
+    has_effect : (task : ℕ) (c : Command) (o : Consequence) → HasEffect u caller moment task c o → HasEffect (with_last u) caller moment task c (then_with_last o)
+    has_effect task c o (row, m, there, of, is) = (row, m, there, of, after_effect task (effect u m caller now c row) o is)
 
-  does_on : (u : TablesOf) (caller moment task : ℕ) (c : Command) (o : Outcome) → DoesOn u caller moment task c o → DoesOn (with_last u) caller moment task c (then_with_last o)
+  does_on : (u : TablesOf) (caller moment task : ℕ) (c : Command) (o : Consequence) → DoesOn u caller moment task c o → DoesOn (with_last u) caller moment task c (then_with_last o)
   does_on u caller moment task (command.InstantiateSubTask name) o (entry, is, made) = (entry, is, makes u caller moment task name entry o made)
   does_on u caller moment task c o is = (with_last is.0, gathers_first c task u is.0 is.1, has_effect is.0 caller moment task c o is.2)
 
-  acts_on : (u : TablesOf) (caller moment task : ℕ) (c : Command) (o : Outcome) → ActsOn u caller moment task c o → ActsOn (with_last u) caller moment task c (then_with_last o)
+  acts_on : (u : TablesOf) (caller moment task : ℕ) (c : Command) (o : Consequence) → ActsOn u caller moment task c o → ActsOn (with_last u) caller moment task c (then_with_last o)
   acts_on u caller moment task c o = behind (gate u (op_of c) caller task)
     where
       behind : (g : Gate) → BehindGate u caller moment task c g o → BehindGate (with_last u) caller moment task c g (then_with_last o)
       behind (opens row) is = does_on u caller moment task c o is
       behind (shuts why) is = ap then_with_last is
 
-  comes : (u : TablesOf) (caller moment task : ℕ) (c : Command) (o : Outcome) → Comes u caller moment task c o → Comes (with_last u) caller moment task c (then_with_last o)
+  comes : (u : TablesOf) (caller moment task : ℕ) (c : Command) (o : Consequence) → Comes u caller moment task c o → Comes (with_last u) caller moment task c (then_with_last o)
   comes u caller moment task (command.Create model input activate_at) o is = creates u caller moment model input (waits_until moment activate_at) o is
   comes u caller moment task c o is = acts_on u caller moment task c o is
 
@@ -131,7 +131,7 @@ module _ (last : ℕ) where
   abbrev Meets : (TablesOf → Type 0) → TablesOf → Type 0
   Meets Left after = (other : TablesOf) × Left other × (with_last after ≡ with_last other)
 
-  settles : (u : TablesOf) (person : ℕ) (retry : Option Retry) (op : Op) (task : TaskId) (asked : Record) (o : Outcome) (left : Option Record) (answer : Answer) (after : TablesOf) → Settles u person retry op task asked o left answer after → Meets (Settles (with_last u) person retry op task asked (then_with_last o) left answer) after
+  settles : (u : TablesOf) (person : ℕ) (retry : Option Retry) (op : Op) (task : TaskId) (asked : Record) (o : Consequence) (left : Option Record) (answer : Answer) (after : TablesOf) → Settles u person retry op task asked o left answer after → Meets (Settles (with_last u) person retry op task asked (then_with_last o) left answer) after
   settles u person retry op task asked (accepted v about) left answer after (reply, shows, kept, is, told) =
       let other = with_reply (with_last v) person retry op task reply in
       (other, (reply, shows, kept, refl, told), ap with_last is ∙ replied v person retry op task reply)

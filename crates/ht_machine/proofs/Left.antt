@@ -15,7 +15,7 @@ use Rattle.ht_base.specs.declared.task_id.TaskId.{TaskId}
 use Rattle.ht_base.specs.Events.{IsValid, op_of}
 use Rattle.ht_base.specs.Moment.{last_moment}
 use Rattle.ht_due.specs.declared.due.Due.{Due}
-use Rattle.ht_machine.specs.Commands.{Outcome, accepted, refused}
+use Rattle.ht_machine.specs.Commands.{Consequence, accepted, refused}
 use Rattle.ht_machine.specs.declared.sending.Sending.{Sending}
 use Rattle.ht_machine.specs.declared.sending.Sending.TheVariants as sending
 use Rattle.ht_machine.specs.declared.sending.Sending.TheVariants.{New, Answered}
@@ -35,7 +35,7 @@ OneOrNone asked u left after = (left ≡ Some asked) ⊎ IsIdle u left after
 asked_leaves : (u : TablesOf) (moment : ℕ) (caller : List ℕ) (retry : Option Retry) (task : TaskId) (c : Command) (left : Option Record) (answer : Answer) (after : TablesOf) → Asks u moment caller retry task c left answer after → OneOrNone (Asked (record { 0 = moment }) caller retry task c) u left after
 asked_leaves u moment caller retry task c left answer after asks = go asks.sending asks.asks
   where
-    settled : (person : ℕ) (o : Outcome) → Settles u person retry (op_of c) task (Asked (record { 0 = moment }) caller retry task c) o left answer after → OneOrNone (Asked (record { 0 = moment }) caller retry task c) u left after
+    settled : (person : ℕ) (o : Consequence) → Settles u person retry (op_of c) task (Asked (record { 0 = moment }) caller retry task c) o left answer after → OneOrNone (Asked (record { 0 = moment }) caller retry task c) u left after
     settled person (accepted v about) (reply, shows, kept, is, told) = inl kept
     settled person (refused why) (idle, told) = inr idle
 

@@ -1,11 +1,14 @@
 mod Asked
 mod BehindTurn
+mod Coming
 mod Commanded
 mod CommentsShown
 mod Coursing
 mod Created
+mod EffectsInOrder
 mod Filtered
 mod Firsts
+mod FirstTaken
 mod Followed
 mod LastMoment
 mod Left
@@ -15,10 +18,13 @@ mod OneOutcome
 mod OneTurn
 mod PartsShown
 pub mod PublicLaws
+mod Refusing
 mod Remembering
 mod Rows
+mod SomeOutcome
 mod StillTaken
 mod Taken
 mod Timing
 mod TurnsApart
+mod TurnsEnd
 mod UnderWay

@@ -14,13 +14,11 @@ use Rattle.ht_base.specs.declared.operation.Op.{Op}
 use Rattle.ht_base.specs.declared.retry.Retry.{Retry}
 use Rattle.ht_base.specs.declared.task_id.TaskId.{TaskId}
 use Rattle.ht_base.specs.Events.{op_of}
-use Rattle.ht_machine.specs.Commands.{ActivatesUnless, ActsOn, AfterEffect, BehindGate, Comes, Creates, DoesOn, GathersFirst, HasEffect, MakesEntry, Outcome, accepted, new_task, place_named, refused, waits_until, why_not}
-use Rattle.ht_compose.proofs.PublicLaws.{determined, one_end, one_gathered}
-use Rattle.ht_compose.specs.Agenda.{Ends}
+use Rattle.ht_machine.specs.Commands.{ActivatesUnless, ActsOn, AfterEffect, BehindGate, Comes, Creates, DoesOn, GathersFirst, HasEffect, MakesEntry, Consequence, accepted, new_task, place_named, refused, waits_until, why_not}
+use Rattle.ht_compose.proofs.PublicLaws.{one_gathered}
 use Rattle.ht_compose.specs.ByHand.{IsEntryOf, entry_of}
 use Rattle.ht_compose.specs.Downward.{freeing}
 use Rattle.ht_compose.specs.Freeing.{checks_of}
-use Rattle.ht_compose.specs.Items as items
 use Rattle.ht_compose.specs.Items.Item.{Activate, Begin, Close, Make}
 use Rattle.ht_machine.specs.declared.sending.Sending.{Sending}
 use Rattle.ht_machine.specs.declared.sending.Sending.TheVariants as sending
@@ -30,7 +28,7 @@ use Rattle.ht_machine.specs.Gate.{Gate, gate, opens, shuts}
 use Rattle.ht_machine.specs.Following.{Spreads}
 use Rattle.ht_machine.specs.Sending.{ByCaller, ByLast, BySlot, answer_of, with_reply}
 use Rattle.ht_due.specs.declared.due.Due.{Due}
-use Rattle.ht_machine.proofs.OneTurn.{one_turn}
+use Rattle.ht_machine.proofs.OneTurn.{one_turn, same_end}
 use Rattle.ht_machine.proofs.Rows.{one}
 use Rattle.ht_models.specs.Model.{ModelOf}
 use Rattle.ht_owner.specs.declared.follow.Follow.{Follow}
@@ -46,11 +44,6 @@ use Rattle.ht_tree.specs.Tables.{TablesOf, device_slot, directory, model_at, mod
 both : (u v : TablesOf) (m n : ℕ) → u ≡ v → m ≡ n → accepted u m ≡ accepted v n
 both u v m n e f = ap (λ x. accepted x m) e ∙ ap (λ k. accepted v k) f
 
--- ---- what is done to its end
-
-same_end : (at : Moment) (u v w : TablesOf) (is : List items.Item) → Ends (items.Does at) u is v → Ends (items.Does at) u is w → v ≡ w
-same_end at u v w is a b = one_end (items.Does at) (determined at) u v w is a b
-
 -- ---- creates
 
 same_activation : (at : Moment) (waits : Option Moment) (task : ℕ) (u v w : TablesOf) → ActivatesUnless at waits task u v → ActivatesUnless at waits task u w → v ≡ w
@@ -60,7 +53,7 @@ same_activation at (Some m) task u v w a b = a ∙ sym b
 not_both : {A : Type 0} {o : Option A} {x : A} → o ≡ None → o ≡ Some x → ⊥
 not_both none some = cc
 
-same_create : (u : TablesOf) (caller moment : ℕ) (name : Option (List ℕ)) (input : Parts) (waits : Option Moment) (o p : Outcome) → Creates u caller moment name input waits o → Creates u caller moment name input waits p → o ≡ p
+same_create : (u : TablesOf) (caller moment : ℕ) (name : Option (List ℕ)) (input : Parts) (waits : Option Moment) (o p : Consequence) → Creates u caller moment name input waits o → Creates u caller moment name input waits p → o ≡ p
 same_create u caller moment name input waits (accepted v j) (accepted w k) (fine, place, m, at, of, number, act) (fine_too, q, n, at_too, of_too, number_too, act_too) =
     let same_place = one (place_named u name) place q at at_too in
     let same_model = one (model_at u q) m n (ap (λ (x : ℕ). model_at u x) (sym same_place) ∙ of) of_too in
@@ -83,26 +76,26 @@ same_spread at Held u task v w a b = a ∙ sym b
 same_spread at Freed u task v w a b = same_end at (with_rows u (freeing task u.rows)) v w (checks_of task u.rows) a b
 same_spread at (follow.Close end) u task v w a b = same_end at u v w (Close task end ∷ []) a b
 
-same_effect : (u : TablesOf) (moment task : ℕ) (e : Effect) (o p : Outcome) → AfterEffect u moment task e o → AfterEffect u moment task e p → o ≡ p
+same_effect : (u : TablesOf) (moment task : ℕ) (e : Effect) (o p : Consequence) → AfterEffect u moment task e o → AfterEffect u moment task e p → o ≡ p
 same_effect u moment task (does row follow) (accepted v j) (accepted w k) a b = both v w j k (same_spread (record { 0 = moment }) follow (with_row u row) task v w a.0 b.0) (a.1 ∙ sym b.1)
 same_effect u moment task (does row follow) (accepted v j) (refused why) a b = absurd b
 same_effect u moment task (does row follow) (refused why) p a b = absurd a
 same_effect u moment task (refuses why) o p a b = a ∙ sym b
 
-same_has : (u : TablesOf) (caller moment task : ℕ) (c : Command) (o p : Outcome) → HasEffect u caller moment task c o → HasEffect u caller moment task c p → o ≡ p
+same_has : (u : TablesOf) (caller moment task : ℕ) (c : Command) (o p : Consequence) → HasEffect u caller moment task c o → HasEffect u caller moment task c p → o ≡ p
 same_has u caller moment task c o p (r, m, there, of, a) (s, n, found, named, b) =
     let row : r ≡ s = one (task_row u task) r s there found in
     let M : Row → Type 0 = λ x. model_of u x ≡ Some m in
     let model : m ≡ n = one (model_of u s) m n (subst M row of) named in
-    let R : Row → Type 0 = λ x. AfterEffect u moment task (effect (directory u) u.rows m caller (record { 0 = moment }) c x) o in
-    let E : ModelOf → Type 0 = λ x. AfterEffect u moment task (effect (directory u) u.rows x caller (record { 0 = moment }) c s) o in
-    same_effect u moment task (effect (directory u) u.rows n caller (record { 0 = moment }) c s) o p (subst E model (subst R row a)) b
+    let R : Row → Type 0 = λ x. AfterEffect u moment task (effect u m caller (record { 0 = moment }) c x) o in
+    let E : ModelOf → Type 0 = λ x. AfterEffect u moment task (effect u x caller (record { 0 = moment }) c s) o in
+    same_effect u moment task (effect u n caller (record { 0 = moment }) c s) o p (subst E model (subst R row a)) b
 
 same_gathered : (c : Command) (task : ℕ) (u v w : TablesOf) → GathersFirst c task u v → GathersFirst c task u w → v ≡ w
 same_gathered (command.Complete output) task u v w a b = one_gathered u task v w a b
 same_gathered c task u v w a b = a ∙ sym b
 
-same_first : (u : TablesOf) (caller moment task : ℕ) (c : Command) (o p : Outcome) (v w : TablesOf) → GathersFirst c task u v → GathersFirst c task u w → HasEffect v caller moment task c o → HasEffect w caller moment task c p → o ≡ p
+same_first : (u : TablesOf) (caller moment task : ℕ) (c : Command) (o p : Consequence) (v w : TablesOf) → GathersFirst c task u v → GathersFirst c task u w → HasEffect v caller moment task c o → HasEffect w caller moment task c p → o ≡ p
 same_first u caller moment task c o p v w a b x y =
     let H : TablesOf → Type 0 = λ t. HasEffect t caller moment task c o in
     same_has w caller moment task c o p (subst H (same_gathered c task u v w a b) x) y
@@ -114,26 +107,26 @@ same_entry u task name o p (r, m, there, of, a) (s, n, found, named, b) =
     let model : m ≡ n = one (model_of u s) m n (subst M row of) named in
     a ∙ ap (λ (x : ModelOf). entry_of u.rows x task name) model ∙ sym b
 
-same_made : (u : TablesOf) (moment task : ℕ) (name : List ℕ) (found : Option ℕ) (o p : Outcome) → MakesEntry u moment task name found o → MakesEntry u moment task name found p → o ≡ p
+same_made : (u : TablesOf) (moment task : ℕ) (name : List ℕ) (found : Option ℕ) (o p : Consequence) → MakesEntry u moment task name found o → MakesEntry u moment task name found p → o ≡ p
 same_made u moment task name None o p a b = a ∙ sym b
 same_made u moment task name (Some entry) (accepted v j) (accepted w k) a b = both v w j k (same_end (record { 0 = moment }) u v w (Make task entry ∷ []) a.0 b.0) (a.1 ∙ sym b.1)
 same_made u moment task name (Some entry) (accepted v j) (refused why) a b = absurd b
 same_made u moment task name (Some entry) (refused why) p a b = absurd a
 
-same_on : (u : TablesOf) (caller moment task : ℕ) (c : Command) (o p : Outcome) → DoesOn u caller moment task c o → DoesOn u caller moment task c p → o ≡ p
+same_on : (u : TablesOf) (caller moment task : ℕ) (c : Command) (o p : Consequence) → DoesOn u caller moment task c o → DoesOn u caller moment task c p → o ≡ p
 same_on u caller moment task (command.InstantiateSubTask sub) o p (f, is, a) (g, as_well, b) =
     let E : Option ℕ → Type 0 = λ k. MakesEntry u moment task sub k o in
     same_made u moment task sub g o p (subst E (same_entry u task sub f g is as_well) a) b
 same_on u caller moment task c o p a b = same_first u caller moment task c o p a.0 b.0 a.1 b.1 a.2 b.2
 
-same_act : (u : TablesOf) (caller moment task : ℕ) (c : Command) (o p : Outcome) → ActsOn u caller moment task c o → ActsOn u caller moment task c p → o ≡ p
+same_act : (u : TablesOf) (caller moment task : ℕ) (c : Command) (o p : Consequence) → ActsOn u caller moment task c o → ActsOn u caller moment task c p → o ≡ p
 same_act u caller moment task c o p = at (gate u (op_of c) caller task)
   where
     at : (g : Gate) → BehindGate u caller moment task c g o → BehindGate u caller moment task c g p → o ≡ p
     at (opens row) a b = same_on u caller moment task c o p a b
     at (shuts why) a b = a ∙ sym b
 
-same_outcome : (t : TablesOf) (person moment task : ℕ) (c : Command) (o p : Outcome) → Comes t person moment task c o → Comes t person moment task c p → o ≡ p
+same_outcome : (t : TablesOf) (person moment task : ℕ) (c : Command) (o p : Consequence) → Comes t person moment task c o → Comes t person moment task c p → o ≡ p
 same_outcome t person moment task (command.Create model input activate_at) o p a b = same_create t person moment model input (waits_until moment activate_at) o p a b
 same_outcome t person moment task c o p a b = same_act t person moment task c o p a b
 
@@ -177,7 +170,7 @@ pub record AreSame (k l : Option Record) (a b : Answer) (u v : TablesOf) : Type 
   pub answer : a ≡ b
   pub after : u ≡ v
 
-same_settled : (t : TablesOf) (person : ℕ) (retry : Option Retry) (op : Op) (task : TaskId) (asked : Record) (o : Outcome) (k l : Option Record) (a b : Answer) (u v : TablesOf) → Settles t person retry op task asked o k a u → Settles t person retry op task asked o l b v → AreSame k l a b u v
+same_settled : (t : TablesOf) (person : ℕ) (retry : Option Retry) (op : Op) (task : TaskId) (asked : Record) (o : Consequence) (k l : Option Record) (a b : Answer) (u v : TablesOf) → Settles t person retry op task asked o k a u → Settles t person retry op task asked o l b v → AreSame k l a b u v
 same_settled t person retry op task asked (accepted w about) k l a b u v s r =
     let reply = same_reply_of w about s.0 r.0 s.1 r.1 in
     record {
@@ -189,7 +182,7 @@ same_settled t person retry op task asked (refused why) k l a b u v s r = record
 
 same_asks : (t : TablesOf) (moment : ℕ) (retry : Option Retry) (task : TaskId) (c : Command) (asked : Record) (known : Sending) (k l : Option Record) (a b : Answer) (u v : TablesOf) → AsksAs t moment retry task c asked known k a u → AsksAs t moment retry task c asked known l b v → AreSame k l a b u v
 same_asks t moment retry task c asked (New person) k l a b u v s r =
-    let P : Outcome → Type 0 = λ o. Settles t person retry (op_of c) task asked o k a u in
+    let P : Consequence → Type 0 = λ o. Settles t person retry (op_of c) task asked o k a u in
     same_settled t person retry (op_of c) task asked r.0 k l a b u v (subst P (same_outcome t person moment task.0 c s.0 r.0 s.1 r.1) s.2) r.2
 same_asks t moment retry task c asked (Answered reply) k l a b u v s r = record { left = s.0.0 ∙ sym r.0.0; answer = s.1 ∙ sym r.1; after = s.0.1 ∙ sym r.0.1 }
 same_asks t moment retry task c asked (sending.Refused why) k l a b u v s r = record { left = s.0.0 ∙ sym r.0.0; answer = s.1 ∙ sym r.1; after = s.0.1 ∙ sym r.0.1 }

@@ -1,6 +1,5 @@
 -- A turn has one end, and changes rows and notifications alone.
-use Rattle.std.proofs.Common.{◌≡◌, ℕ, zero, suc, List, [], ◌∷◌, None, Some, refl, ap, sym, subst, ◌∙◌}
-use Rattle.std.specs.Prelude.{slice_get}
+use Rattle.std.proofs.Common.{◌≡◌, ℕ, zero, suc, List, [], ◌∷◌, None, refl, ap, sym, subst, ◌∙◌}
 use Rattle.ht_base.specs.declared.moment.Moment.{Moment}
 use Rattle.ht_compose.proofs.PublicLaws.{determined, ends_rows, frees_rows, one_end}
 use Rattle.ht_compose.specs.Agenda.{Ends}
@@ -9,20 +8,18 @@ use Rattle.ht_compose.specs.Freeing.{Resumes, checks_of}
 use Rattle.ht_compose.specs.Items.{Does, Item}
 use Rattle.ht_compose.specs.Items.Item.{Activate}
 use Rattle.ht_due.specs.declared.due.Due.{Due}
-use Rattle.ht_escalate.specs.Escalating.{TakesDeadline, notices_of, taken_row, with_notices}
+use Rattle.ht_escalate.proofs.PublicLaws.{one_taking as one_deadline}
 use Rattle.ht_machine.specs.Turning.{IsTurn, Takes, TakesKind, Takings}
 use Rattle.ht_machine.specs.Turning.Takings.{end, on}
 use Rattle.ht_machine.proofs.Rows.{one}
-use Rattle.ht_models.specs.Model.{DeadlineOf, ModelOf}
 use Rattle.ht_tree.specs.declared.notice.Notice.{Notice}
 use Rattle.ht_tree.specs.declared.row.Row.{Row}
-use Rattle.ht_tree.specs.Creating.{seen_in}
 use Rattle.ht_tree.specs.RowDues.{first_due}
-use Rattle.ht_tree.specs.Tables.{TablesOf, directory, model_of, task_row, with_row, with_rows}
+use Rattle.ht_tree.specs.Tables.{TablesOf, task_row, with_row, with_rows}
 
 -- ---- one end
 
-same_end : (at : Moment) (u v w : TablesOf) (is : List Item) → Ends (Does at) u is v → Ends (Does at) u is w → v ≡ w
+pub same_end : (at : Moment) (u v w : TablesOf) (is : List Item) → Ends (Does at) u is v → Ends (Does at) u is w → v ≡ w
 same_end at u v w is a b = one_end (Does at) (determined at) u v w is a b
 
 one_resumption : (at : Moment) (task : ℕ) (u v w : TablesOf) → Resumes at task u v → Resumes at task u w → v ≡ w
@@ -33,27 +30,13 @@ one_resumption at task u v w (r, there, a) (s, found, b) =
     let A : Row → Type 0 = λ x. Ends (Does at) (start x) (items x) v in
     same_end at (start s) v w (items s) (subst A row a) b
 
-one_escalation : (at : Moment) (task place : ℕ) (u v w : TablesOf) → TakesDeadline at task place u v → TakesDeadline at task place u w → v ≡ w
-one_escalation at task place u v w (r, m, d, there, of, listed, a) (s, n, e, found, named, at_place, b) =
-    let result : Row → ModelOf → DeadlineOf → TablesOf = λ x y z. with_notices (with_row u (taken_row u x y z place)) (notices_of (directory u) (seen_in y u.rows x) x.task z at) in
-    let row : r ≡ s = one (task_row u task) r s there found in
-    let M : Row → Type 0 = λ x. model_of u x ≡ Some m in
-    let model : m ≡ n = one (model_of u s) m n (subst M row of) named in
-    let D : ModelOf → Type 0 = λ x. slice_get x.deadlines place ≡ Some d in
-    let deadline : d ≡ e = one (slice_get n.deadlines place) d e (subst D model listed) at_place in
-    a
-    ∙ ap (λ (x : Row). result x m d) row
-    ∙ ap (λ (x : ModelOf). result s x d) model
-    ∙ ap (λ (x : DeadlineOf). result s n x) deadline
-    ∙ sym b
-
 pub one_taking : (u v w : TablesOf) (due : Due) → Takes u due v → Takes u due w → v ≡ w
 one_taking u v w due = go due.kind
   where
     go : (k : ℕ) → TakesKind k due.at due.task.0 due.place u v → TakesKind k due.at due.task.0 due.place u w → v ≡ w
     go zero a b = same_end due.at u v w (Activate due.task.0 ∷ []) a b
     go (suc zero) a b = one_resumption due.at due.task.0 u v w a b
-    go (suc (suc n)) a b = one_escalation due.at due.task.0 due.place u v w a b
+    go (suc (suc n)) a b = one_deadline due.at due.task.0 due.place u v w a b
 
 pub record IsSameEnd (ds es : List Due) (v w : TablesOf) : Type 0 where
   pub dues : ds ≡ es

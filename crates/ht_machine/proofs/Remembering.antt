@@ -20,7 +20,7 @@ use Rattle.ht_base.specs.Ordered.{AscendBy}
 use Rattle.ht_machine.specs.declared.sending.Sending.{Sending}
 use Rattle.ht_machine.specs.declared.sending.Sending.TheVariants as sending
 use Rattle.ht_machine.specs.declared.sending.Sending.TheVariants.{New, Answered}
-use Rattle.ht_machine.specs.Commands.{ActivatesUnless, ActsOn, AfterEffect, BehindGate, Comes, DoesOn, GathersFirst, HasEffect, MakesEntry, Outcome, accepted, new_task, refused, waits_until}
+use Rattle.ht_machine.specs.Commands.{ActivatesUnless, ActsOn, AfterEffect, BehindGate, Comes, DoesOn, GathersFirst, HasEffect, MakesEntry, Consequence, accepted, new_task, refused, waits_until}
 use Rattle.ht_machine.specs.Deciding.{Asks, AsksAs, Behind, Decides, Doing, IsIdle, Rests, Settles, effective, kept_at, left_with}
 use Rattle.ht_machine.specs.Gate.{Gate, gate, opens, shuts}
 use Rattle.ht_machine.specs.History.{History, IsHistory, IsStep}
@@ -163,7 +163,7 @@ made_keeps u moment task name (Some entry) v about a = ends_keep (record { 0 = m
 
 first_keeps : (u w : TablesOf) (caller moment task : ℕ) (c : Command) (v : TablesOf) (about : ℕ) → GathersFirst c task u w → HasEffect w caller moment task c (accepted v about) → v.slots ≡ u.slots
 first_keeps u w caller moment task c v about first (row, m, there, of, a) =
-    effect_keeps w moment task (effect (directory w) w.rows m caller (record { 0 = moment }) c row) v about a ∙ gathered_keeps c task u w first
+    effect_keeps w moment task (effect w m caller (record { 0 = moment }) c row) v about a ∙ gathered_keeps c task u w first
 
 on_keeps : (u : TablesOf) (caller moment task : ℕ) (c : Command) (v : TablesOf) (about : ℕ) → DoesOn u caller moment task c (accepted v about) → v.slots ≡ u.slots
 on_keeps u caller moment task (command.InstantiateSubTask sub) v about a = made_keeps u moment task sub a.0 v about a.2
@@ -267,7 +267,7 @@ module _ (s : Slot) (t : TablesOf) where
   asks_since : (moment : ℕ) (caller : List ℕ) (retry : Option Retry) (task : TaskId) (c : Command) (asked : Record) (known : Sending) (left : Option Record) (answer : Answer) (after : TablesOf) → IsSent t caller retry (op_of c) task known → AsksAs t moment retry task c asked known left answer after → IsSince s t → IsSince s after
   asks_since moment caller retry task c asked (New person) left answer after sent asks h = at asks.0 asks.1 asks.2
     where
-      at : (o : Outcome) → Comes t person moment task.0 c o → Settles t person retry (op_of c) task asked o left answer after → IsSince s after
+      at : (o : Consequence) → Comes t person moment task.0 c o → Settles t person retry (op_of c) task asked o left answer after → IsSince s after
       at (accepted v about) comes settles =
           subst (IsSince s) (sym settles.3)
           (slots_after t v person retry (op_of c) task settles.0 s (comes_keeps t person moment task.0 c v about comes) (new_number t (op_of c) task retry (find caller (directory t)) person sent) h)
@@ -298,7 +298,7 @@ step_since s t e reply after (inr none) h = idle_since s t after none.1 h
 
 -- ---- a command that is accepted
 
-settled_is_kept : (t : TablesOf) (moment person : ℕ) (caller : List ℕ) (r : Retry) (task : TaskId) (c : Command) (asked kept : Record) (o : Outcome) (answer : Answer) (after : TablesOf) → AscendBy slot_cmp t.slots → IsSent t caller (Some r) (op_of c) task (New person) → Comes t person moment task.0 c o → Settles t person (Some r) (op_of c) task asked o (Some kept) answer after → (s : Slot) × IsAccepted t caller r task c answer s × IsSince s after
+settled_is_kept : (t : TablesOf) (moment person : ℕ) (caller : List ℕ) (r : Retry) (task : TaskId) (c : Command) (asked kept : Record) (o : Consequence) (answer : Answer) (after : TablesOf) → AscendBy slot_cmp t.slots → IsSent t caller (Some r) (op_of c) task (New person) → Comes t person moment task.0 c o → Settles t person (Some r) (op_of c) task asked o (Some kept) answer after → (s : Slot) × IsAccepted t caller r task c answer s × IsSince s after
 settled_is_kept t moment person caller r task c asked kept (accepted v about) answer after up sent comes settles =
     let slot = slot_of person r (op_of c) task settles.0 in
     let same = comes_keeps t person moment task.0 c v about comes in

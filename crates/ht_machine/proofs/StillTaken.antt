@@ -1,4 +1,5 @@
 -- What was taken of a task's deadlines stays taken, whatever comes.
+use Rattle.ht_models.specs.Contradictions.{is_automatic}
 use Rattle.std.proofs.Common.{◌≡◌, ◌≤◌, ℕ, ◌+◌, ◌==◌, zero, suc, Bool, true, false, ◌&&◌, ◌||◌, if◌then◌else◌, List, [], ◌∷◌, length, map, Option, None, Some, option_map, refl, sym, ap, subst, ◌∙◌, eq-eqb, arith}
 use Rattle.std.proofs.lemmas.Bool.{and_parts, eqb-true, leb-true}
 use Rattle.std.specs.Prelude.{nat_le}
@@ -31,7 +32,6 @@ use Rattle.ht_compose.specs.Families.{is_above}
 use Rattle.ht_compose.specs.Finishes.{chosen}
 use Rattle.ht_compose.specs.Gathering.{GathersBy}
 use Rattle.ht_compose.specs.Items as items
-use Rattle.ht_compose.specs.Items.{is_automatic}
 use Rattle.ht_compose.specs.Items.Item.{Activate, Begin, Close, Make}
 use Rattle.ht_due.specs.declared.due.Due.{Due}
 use Rattle.ht_escalate.proofs.PublicLaws.{due_of_first, taken_has_it, taken_is_kept}
@@ -39,7 +39,7 @@ use Rattle.ht_escalate.specs.Escalating.{taken_row}
 use Rattle.ht_machine.specs.declared.sending.Sending.{Sending}
 use Rattle.ht_machine.specs.declared.sending.Sending.TheVariants as sending
 use Rattle.ht_machine.specs.declared.sending.Sending.TheVariants.{New, Answered}
-use Rattle.ht_machine.specs.Commands.{ActivatesUnless, ActsOn, AfterEffect, BehindGate, Comes, Creates, DoesOn, GathersFirst, HasEffect, MakesEntry, Outcome, accepted, new_task, refused, waits_until}
+use Rattle.ht_machine.specs.Commands.{ActivatesUnless, ActsOn, AfterEffect, BehindGate, Comes, Creates, DoesOn, GathersFirst, HasEffect, MakesEntry, Consequence, accepted, new_task, refused, waits_until}
 use Rattle.ht_machine.specs.Deciding.{Asks, AsksAs, Behind, Decides, Doing, Rests, Settles, effective}
 use Rattle.ht_machine.specs.Following.{Spreads}
 use Rattle.ht_machine.specs.Gate.{Gate, gate, opens, shuts}
@@ -67,14 +67,14 @@ use Rattle.ht_tree.specs.Rows.{row_at}
 use Rattle.ht_tree.specs.Tables.{TablesOf, directory, task_row, with_row, with_rows}
 
 -- each task is there still, and what was taken of it is so
-record StillTaken (u v : TablesOf) : Type 0 where
+pub record StillTaken (u v : TablesOf) : Type 0 where
   pub there : (task : ℕ) (row : Row) → task_row u task ≡ Some row → (after : Row) × (task_row v task ≡ Some after) × ((place : ℕ) → has place row.taken ≡ true → has place after.taken ≡ true)
   pub numbered : AreNumbered v.rows
 
 still : (u v : TablesOf) (task place : ℕ) → StillTaken u v → WasTaken u task place → WasTaken v task place
 still u v task place kept (row, is, taken) = let x = kept.there task row is in (x.0, x.1, x.2 place taken)
 
-further : (u v w : TablesOf) → StillTaken u v → StillTaken v w → StillTaken u w
+pub further : (u v w : TablesOf) → StillTaken u v → StillTaken v w → StillTaken u w
 further u v w a b = record {
   there = λ task row is.
       let x = a.there task row is in
@@ -85,7 +85,7 @@ further u v w a b = record {
 
 -- ---- one row
 
-abbrev same_task : Row → Row → Type 0
+abbrev pub same_task : Row → Row → Type 0
 same_task old new = (new.task ≡ old.task) × (new.taken ≡ old.taken)
 
 module _ (u : TablesOf) (numbered : AreNumbered u.rows) where
@@ -119,7 +119,7 @@ module _ (u : TablesOf) (numbered : AreNumbered u.rows) where
           ap (λ (x : Row). x.task.0) (sym its) ∙ eqb-true row.task.0 id test
       number id r is false test = numbered id r (sym (found id false test) ∙ is)
 
-  put_again : (task : ℕ) (old new : Row) → task_row u task ≡ Some old → same_task old new → StillTaken u (with_row u new)
+  pub put_again : (task : ℕ) (old new : Row) → task_row u task ≡ Some old → same_task old new → StillTaken u (with_row u new)
   put_again task old new there same =
       let number : new.task.0 ≡ task = ap (λ (id : TaskId). id.0) same.0 ∙ numbered task old there in
       let place = within u.rows old task there in
@@ -127,7 +127,7 @@ module _ (u : TablesOf) (numbered : AreNumbered u.rows) where
       let high = place.1 in
       put new (omega (arith, number, low), omega (arith, number, high)) (λ row is. same.1 ∙ ap (λ (r : Row). r.taken) (one (task_row u task) old row there (ap (λ (n : ℕ). row_at n u.rows) (sym number) ∙ is)))
 
-  put_new : (row : Row) → row.task.0 ≡ length u.rows + 1 → StillTaken u (with_row u row)
+  pub put_new : (row : Row) → row.task.0 ≡ length u.rows + 1 → StillTaken u (with_row u row)
   put_new row number = put row (omega (arith, number), omega (arith, number)) (λ old is. let place = within u.rows old row.task.0 is in let high = place.1 in absurd (omega (arith, number, high)))
 
   each : (f : Row → Row) → ((row : Row) → same_task row (f row)) → StillTaken u (with_rows u (map f u.rows))
@@ -148,11 +148,11 @@ module _ (u : TablesOf) (numbered : AreNumbered u.rows) where
   ends : (at : Moment) (v : TablesOf) (is : List items.Item) → Ends (items.Does at) u is v → StillTaken u v
   ends at v is done = ages at v (all_age at u v is numbered done)
 
-  activates : (at : Moment) (waits : Option Moment) (task : ℕ) (v : TablesOf) → ActivatesUnless at waits task u v → StillTaken u v
+  pub activates : (at : Moment) (waits : Option Moment) (task : ℕ) (v : TablesOf) → ActivatesUnless at waits task u v → StillTaken u v
   activates at None task v done = ends at v (Activate task ∷ []) done
   activates at (Some m) task v is = unchanged v is
 
-  spreads : (at : Moment) (f : Follow) (task : ℕ) (v : TablesOf) → Spreads at f task u v → StillTaken u v
+  pub spreads : (at : Moment) (f : Follow) (task : ℕ) (v : TablesOf) → Spreads at f task u v → StillTaken u v
   spreads at Nothing task v is = unchanged v is
   spreads at Began task v done = ends at v (Begin task ∷ []) done
   spreads at follow.Activate task v done = ends at v (Activate task ∷ []) done
@@ -189,7 +189,7 @@ prepared_same d m caller at (command.SetRole role names) row = with_role_same d 
 prepared_same d m caller at c row = (refl, refl)
 
 -- where the operation is done
-abbrev Leaves : Row → Effect → Type 0
+abbrev pub Leaves : Row → Effect → Type 0
 Leaves row (does new f) = same_task row new
 Leaves row (refuses why) = Unit {0}
 
@@ -197,75 +197,75 @@ unless_leaves : (row : Row) (o : Option Refusal) (e : Effect) → Leaves row e �
 unless_leaves row None e is = is
 unless_leaves row (Some why) e is = tt
 
-effect_leaves : (d : DirectoryOf) (rows : List Row) (m : ModelOf) (caller : ℕ) (at : Moment) (c : Command) (row : Row) → Leaves row (effect d rows m caller at c row)
-effect_leaves d rows m caller at c row = unless_leaves row (fault d rows m at row c) (prepared_leaves d m caller c new) (unless_leaves row (no_output m new c) (leaves d caller c new (ending new.state (op_of c))) (left (ending new.state (op_of c))))
+pub effect_leaves : (u : TablesOf) (m : ModelOf) (caller : ℕ) (at : Moment) (c : Command) (row : Row) → Leaves row (effect u m caller at c row)
+effect_leaves u m caller at c row = unless_leaves row (fault u m at row c) (prepared_leaves (directory u) m caller c new) (unless_leaves row (no_output m new c) (leaves (directory u) caller c new (ending new.state (op_of c))) (left (ending new.state (op_of c))))
   where
     new : Row
-    new = prepared d m caller at c row
+    new = prepared (directory u) m caller at c row
 
     same : same_task row new
-    same = prepared_same d m caller at c row
+    same = prepared_same (directory u) m caller at c row
 
-    now : (f : Follow) → same_task row (moved_now f new (moved (op_of c) caller (named_owner d caller c) new))
+    now : (f : Follow) → same_task row (moved_now f new (moved (op_of c) caller (named_owner (directory u) caller c) new))
     now follow.Activate = same
     now f = same
 
-    left : (o : Option State) → Leaves row (leaves d caller c new o)
+    left : (o : Option State) → Leaves row (leaves (directory u) caller c new o)
     left (Some state) = same
     left None = now (following c)
 
 -- ---- what comes of a command
 
-abbrev Accepts : TablesOf → Outcome → Type 0
+abbrev Accepts : TablesOf → Consequence → Type 0
 Accepts u (accepted v task) = StillTaken u v
 Accepts u (refused why) = Unit {0}
 
-refuses_it : (u : TablesOf) (o : Outcome) (why : Refusal) → o ≡ refused why → Accepts u o
+refuses_it : (u : TablesOf) (o : Consequence) (why : Refusal) → o ≡ refused why → Accepts u o
 refuses_it u o why is = subst (Accepts u) (sym is) tt
 
 module _ (u : TablesOf) (caller moment : ℕ) (numbered : AreNumbered u.rows) where
-  creates : (model : Option (List ℕ)) (input : Parts) (waits : Option Moment) (o : Outcome) → Creates u caller moment model input waits o → Accepts u o
+  creates : (model : Option (List ℕ)) (input : Parts) (waits : Option Moment) (o : Consequence) → Creates u caller moment model input waits o → Accepts u o
   creates model input waits (accepted v task) (fine, place, m, at, of, number, act) =
       let row = new_task u caller moment place input waits m in
       let first = put_new u numbered row refl in
       further u (with_row u row) v first (activates (with_row u row) first.numbered (record { 0 = moment }) waits task v act)
   creates model input waits (refused why) is = tt
 
-  makes : (task : ℕ) (name : List ℕ) (entry : Option ℕ) (o : Outcome) → MakesEntry u moment task name entry o → Accepts u o
+  makes : (task : ℕ) (name : List ℕ) (entry : Option ℕ) (o : Consequence) → MakesEntry u moment task name entry o → Accepts u o
   makes task name None o is = refuses_it u o _ is
   makes task name (Some entry) (accepted v about) (done, is) = ends u numbered (record { 0 = moment }) v (Make task entry ∷ []) done
   makes task name (Some entry) (refused why) is = tt
 
-  after_effect : (task : ℕ) (row : Row) (e : Effect) (o : Outcome) → task_row u task ≡ Some row → Leaves row e → AfterEffect u moment task e o → Accepts u o
+  after_effect : (task : ℕ) (row : Row) (e : Effect) (o : Consequence) → task_row u task ≡ Some row → Leaves row e → AfterEffect u moment task e o → Accepts u o
   after_effect task row (does new f) (accepted v about) there same (is, number) =
       let first = put_again u numbered task row new there same in
       further u (with_row u new) v first (spreads (with_row u new) first.numbered (record { 0 = moment }) f task v is)
   after_effect task row (does new f) (refused why) there same is = tt
   after_effect task row (refuses why) o there same is = refuses_it u o why is
 
-  has_effect : (task : ℕ) (c : Command) (o : Outcome) → HasEffect u caller moment task c o → Accepts u o
+  has_effect : (task : ℕ) (c : Command) (o : Consequence) → HasEffect u caller moment task c o → Accepts u o
   has_effect task c o (row, m, there, of, is) =
       let at : Moment = record { 0 = moment } in
-      after_effect task row (effect (directory u) u.rows m caller at c row) o there (effect_leaves (directory u) u.rows m caller at c row) is
+      after_effect task row (effect u m caller at c row) o there (effect_leaves u m caller at c row) is
 
-accepts_further : (u v : TablesOf) (o : Outcome) → StillTaken u v → Accepts v o → Accepts u o
+accepts_further : (u v : TablesOf) (o : Consequence) → StillTaken u v → Accepts v o → Accepts u o
 accepts_further u v (accepted w task) first rest = further u v w first rest
 accepts_further u v (refused why) first rest = tt
 
-does_on : (u : TablesOf) (caller moment task : ℕ) (c : Command) (o : Outcome) → AreNumbered u.rows → DoesOn u caller moment task c o → Accepts u o
+does_on : (u : TablesOf) (caller moment task : ℕ) (c : Command) (o : Consequence) → AreNumbered u.rows → DoesOn u caller moment task c o → Accepts u o
 does_on u caller moment task (command.InstantiateSubTask name) o numbered (entry, is, made) = makes u caller moment numbered task name entry o made
 does_on u caller moment task c o numbered is =
     let first = gathers u numbered c task is.0 is.1 in
     accepts_further u is.0 o first (has_effect is.0 caller moment first.numbered task c o is.2)
 
-acts_on : (u : TablesOf) (caller moment task : ℕ) (c : Command) (o : Outcome) → AreNumbered u.rows → ActsOn u caller moment task c o → Accepts u o
+acts_on : (u : TablesOf) (caller moment task : ℕ) (c : Command) (o : Consequence) → AreNumbered u.rows → ActsOn u caller moment task c o → Accepts u o
 acts_on u caller moment task c o numbered = behind (gate u (op_of c) caller task)
   where
     behind : (g : Gate) → BehindGate u caller moment task c g o → Accepts u o
     behind (opens row) is = does_on u caller moment task c o numbered is
     behind (shuts why) is = refuses_it u o why is
 
-comes : (u : TablesOf) (caller moment task : ℕ) (c : Command) (o : Outcome) → AreNumbered u.rows → Comes u caller moment task c o → Accepts u o
+comes : (u : TablesOf) (caller moment task : ℕ) (c : Command) (o : Consequence) → AreNumbered u.rows → Comes u caller moment task c o → Accepts u o
 comes u caller moment task (command.Create model input activate_at) o numbered is = creates u caller moment numbered model input (waits_until moment activate_at) o is
 comes u caller moment task c o numbered is = acts_on u caller moment task c o numbered is
 
@@ -350,7 +350,7 @@ replied_still u v person (Some r) op task reply is = record { there = is.there; 
 asked_still : (u : TablesOf) (moment : ℕ) (caller : List ℕ) (retry : Option Retry) (task : TaskId) (c : Command) (left : Option Record) (answer : Answer) (after : TablesOf) → AreNumbered u.rows → Asks u moment caller retry task c left answer after → StillTaken u after
 asked_still u moment caller retry task c left answer after numbered asks = go asks.sending asks.asks
   where
-    settles : (person : ℕ) (o : Outcome) → Accepts u o → Settles u person retry (op_of c) task (Asked (record { 0 = moment }) caller retry task c) o left answer after → StillTaken u after
+    settles : (person : ℕ) (o : Consequence) → Accepts u o → Settles u person retry (op_of c) task (Asked (record { 0 = moment }) caller retry task c) o left answer after → StillTaken u after
     settles person (accepted v about) kept (reply, shows, left_is, is, told) = subst (StillTaken u) (sym is) (replied_still u v person retry (op_of c) task reply kept)
     settles person (refused why) kept ((none, is), told) = unchanged u numbered after is
 

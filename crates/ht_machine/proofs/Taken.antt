@@ -144,7 +144,7 @@ module _ (u v : TablesOf) (due : Due) (before : IsSound u) (after : IsSound v) (
       at row there (IsOfRow.deadline is) waits model = absurd (not_waiting (is.d).kind (sym kind ∙ is.kind))
       at row there (IsOfRow.waits k p m) waits (model, of_model) =
           let created = waits (ap is_some m) in
-          let new = activated model row in
+          let new = activated u model row in
           let puts = if model.owner_required then [] else Begin row.task.0 ∷ [] in
           let does_so : d ≡ does (with_row u new) puts =
           doing
@@ -152,13 +152,13 @@ module _ (u v : TablesOf) (due : Due) (before : IsSound u) (after : IsSound v) (
           ∙ ap (λ (o : Option ModelOf). on_model u row (activates u) o) of_model
           ∙ ap (λ (b : Bool). if b then does (with_row u new) puts else still u) created in
           let E : Step → Type 0 = λ x. Ends (Does due.at) x.tables (x.puts ++ []) v in
-          let ages = activated_ages model row created in
+          let ages = activated_ages u model row created in
           let first = put_ages due.at u due.task.0 row new before.numbered there ages in
           let all = all_age due.at (with_row u new) v (puts ++ []) (numbered_still due.at u (with_row u new) before.numbered first) (subst E does_so rest) in
           let its = aged_from due.at u v due.task.0 row new before there ages all in
           not_then its.0 its.1 (by its.0 (none_left new.waits (its.0).waits (no_wait model.owner_required row) (its.2).waits))
         where
-          no_wait : (b : Bool) (r : Row) → (activated_as b r).waits ≡ None
+          no_wait : (b : Bool) (r : Row) → (activated_as b r.potential_owners r).waits ≡ None
           no_wait true r = refl
           no_wait false r = refl
 

@@ -17,7 +17,7 @@ use Rattle.ht_due.specs.declared.due.Due.{Due}
 use Rattle.ht_machine.specs.declared.sending.Sending.{Sending}
 use Rattle.ht_machine.specs.declared.sending.Sending.TheVariants as sending
 use Rattle.ht_machine.specs.declared.sending.Sending.TheVariants.{New, Answered}
-use Rattle.ht_machine.specs.Commands.{Outcome, accepted, refused}
+use Rattle.ht_machine.specs.Commands.{Consequence, accepted, refused}
 use Rattle.ht_machine.specs.Deciding.{Asks, AsksAs, Behind, Decides, Doing, Rests, Settles, effective, kept_at, last_after, left_with}
 use Rattle.ht_machine.specs.History.{History, IsHistory, IsStep}
 use Rattle.ht_machine.specs.Timer.{AreAlike, AddsTurns, HadMemory, IsTimely, NeverFall, answers_of, events_of, is_command, moment_of_last, moment_after}
@@ -77,7 +77,7 @@ low_rests u moment own answer acted low ((none, is), told) = no_record u moment 
 low_asks : (u : TablesOf) (moment : ℕ) (caller : List ℕ) (retry : Option Retry) (task : TaskId) (c : Command) (own : Option Record) (answer : Answer) (acted : TablesOf) → u.last ≤ moment → Asks u moment caller retry task c own answer acted → last_after acted own ≤ moment
 low_asks u moment caller retry task c own answer acted low asks = go asks.sending asks.asks
   where
-    settled : (person : ℕ) (o : Outcome) → Settles u person retry (op_of c) task (Asked (record { 0 = moment }) caller retry task c) o own answer acted → last_after acted own ≤ moment
+    settled : (person : ℕ) (o : Consequence) → Settles u person retry (op_of c) task (Asked (record { 0 = moment }) caller retry task c) o own answer acted → last_after acted own ≤ moment
     settled person (accepted v about) (reply, shows, kept, is, told) = subst (λ (k : Option Record). last_after acted k ≤ moment) (sym kept) (omega arith)
     settled person (refused why) ((none, is), told) = no_record u moment own acted low none is
 

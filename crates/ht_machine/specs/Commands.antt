@@ -1,5 +1,6 @@
 -- What comes of a command of a person (WS-HumanTask 1.1, 4.10 and 7.1.1).
-use Rattle.std.specs.Prelude.{◌≡◌, ℕ, ◌+◌, nat_lt, Bool, true, List, [], ◌∷◌, length, Option, Some, None, is_some, option_map, if◌then◌else◌}
+use Rattle.ht_owner.specs.Faults.{first_of}
+use Rattle.std.specs.Prelude.{◌≡◌, ℕ, ◌+◌, nat_lt, true, List, [], ◌∷◌, length, Option, Some, None, is_some, option_map, if◌then◌else◌}
 use Rattle.std.specs.Option.{option_and_then}
 use Rattle.ht_base.specs.declared.event.Command.{Command}
 use Rattle.ht_base.specs.declared.event.Command.TheVariants as command
@@ -19,17 +20,16 @@ use Rattle.ht_models.specs.Model.{ModelOf}
 use Rattle.ht_owner.specs.Effects.{Effect, does, effect, refuses}
 use Rattle.ht_people.specs.Directory.{DirectoryOf}
 use Rattle.ht_tree.specs.declared.row.Row.{Row}
-use Rattle.ht_tree.specs.Creating.{new_row}
+use Rattle.ht_tree.specs.Creating.{is_full, new_row}
 use Rattle.ht_tree.specs.Giving.{refused_part, values_given}
-use Rattle.ht_tree.specs.Sizes.{most_tasks, size_of, total_size}
 use Rattle.ht_tree.specs.Tables.{TablesOf, directory, model_at, model_named, model_of, task_row, with_row}
 use Rattle.ht_machine.specs.Following.{Spreads}
 use Rattle.ht_machine.specs.Gate.{Gate, gate, opens, shuts}
 
 -- It is accepted: the tables after it, and the task that it is about. Or it is refused.
-pub data Outcome : Type 0 where
-  accepted : TablesOf → ℕ → Outcome
-  refused : Refusal → Outcome
+pub data Consequence : Type 0 where
+  accepted : TablesOf → ℕ → Consequence
+  refused : Refusal → Consequence
 
 -- ---- create
 
@@ -64,26 +64,18 @@ abbrev pub refused_input : TablesOf → Option (List ℕ) → Parts → Option R
 refused_input u name input = option_and_then (λ m. why_not_created (directory u) m input) (option_and_then (model_at u) (place_named u name))
 
 -- with the tree of the new task there would be
-abbrev pub is_full : TablesOf → ℕ → Bool
-is_full u place = nat_lt most_tasks (total_size u.models u.rows + size_of u.models place)
-
 abbrev pub limit_at : TablesOf → ℕ → Option Refusal
 limit_at u place = if is_full u place then Some (refusal.Limit Tasks) else None
 
 abbrev pub too_many : TablesOf → Option (List ℕ) → Option Refusal
 too_many u name = option_and_then (limit_at u) (place_named u name)
 
-abbrev pub first_of : List (Option Refusal) → Option Refusal
-first_of [] = None
-first_of (None ∷ more) = first_of more
-first_of (Some why ∷ more) = Some why
-
 -- why a create is refused: by the first of these
 abbrev pub why_not : TablesOf → Option (List ℕ) → Parts → Option Refusal
 why_not u name input = first_of (unknown_model u name ∷ refused_input u name input ∷ too_many u name ∷ [])
 
 -- Where nothing speaks against it, a task of the model is put behind the others, and activated unless it waits.
-abbrev pub Creates : TablesOf → ℕ → ℕ → Option (List ℕ) → Parts → Option Moment → Outcome → Type 0
+abbrev pub Creates : TablesOf → ℕ → ℕ → Option (List ℕ) → Parts → Option Moment → Consequence → Type 0
 Creates u caller moment name input waits (accepted v task) =
     (why_not u name input ≡ None) × (place : ℕ) × (m : ModelOf) × (place_named u name ≡ Some place) × (model_at u place ≡ Some m)
     × (task ≡ length u.rows + 1) × ActivatesUnless (record { 0 = moment }) waits task (with_row u (new_task u caller moment place input waits m)) v
@@ -91,13 +83,13 @@ Creates u caller moment name input waits (refused why) = why_not u name input �
 
 -- ---- a sub task that is made by hand
 
-abbrev pub MakesEntry : TablesOf → ℕ → ℕ → List ℕ → Option ℕ → Outcome → Type 0
+abbrev pub MakesEntry : TablesOf → ℕ → ℕ → List ℕ → Option ℕ → Consequence → Type 0
 MakesEntry u moment task name None o = o ≡ refused (refusal.SubRefused name)
 MakesEntry u moment task name (Some entry) (accepted v about) = Ends (items.Does (record { 0 = moment })) u (Make task entry ∷ []) v × (about ≡ length u.rows + 1)
 MakesEntry u moment task name (Some entry) (refused why) = ⊥
 
 -- of the entry with this name
-abbrev pub MakesByHand : TablesOf → ℕ → ℕ → List ℕ → Outcome → Type 0
+abbrev pub MakesByHand : TablesOf → ℕ → ℕ → List ℕ → Consequence → Type 0
 MakesByHand u moment task name o = (found : Option ℕ) × IsEntryOf u task name found × MakesEntry u moment task name found o
 
 -- ---- the other commands
@@ -108,30 +100,30 @@ GathersFirst (command.Complete output) task u v = Gathers u task v
 GathersFirst _ task u v = v ≡ u
 
 -- from the tables after the effect on
-abbrev pub AfterEffect : TablesOf → ℕ → ℕ → Effect → Outcome → Type 0
+abbrev pub AfterEffect : TablesOf → ℕ → ℕ → Effect → Consequence → Type 0
 AfterEffect u moment task (does row follow) (accepted v number) = Spreads (record { 0 = moment }) follow task (with_row u row) v × (number ≡ task)
 AfterEffect u moment task (does row follow) (refused why) = ⊥
 AfterEffect u moment task (refuses why) o = o ≡ refused why
 
 -- of a task's row, as it is then
-abbrev pub HasEffect : TablesOf → ℕ → ℕ → ℕ → Command → Outcome → Type 0
+abbrev pub HasEffect : TablesOf → ℕ → ℕ → ℕ → Command → Consequence → Type 0
 HasEffect u caller moment task command o =
-    (row : Row) × (m : ModelOf) × (task_row u task ≡ Some row) × (model_of u row ≡ Some m) × AfterEffect u moment task (effect (directory u) u.rows m caller (record { 0 = moment }) command row) o
+    (row : Row) × (m : ModelOf) × (task_row u task ≡ Some row) × (model_of u row ≡ Some m) × AfterEffect u moment task (effect u m caller (record { 0 = moment }) command row) o
 
 -- on a task on which the caller may act
-abbrev pub DoesOn : TablesOf → ℕ → ℕ → ℕ → Command → Outcome → Type 0
+abbrev pub DoesOn : TablesOf → ℕ → ℕ → ℕ → Command → Consequence → Type 0
 DoesOn u caller moment task (command.InstantiateSubTask sub) o = MakesByHand u moment task sub o
 DoesOn u caller moment task command o = (v : TablesOf) × GathersFirst command task u v × HasEffect v caller moment task command o
 
-abbrev pub BehindGate : TablesOf → ℕ → ℕ → ℕ → Command → Gate → Outcome → Type 0
+abbrev pub BehindGate : TablesOf → ℕ → ℕ → ℕ → Command → Gate → Consequence → Type 0
 BehindGate u caller moment task command (opens row) o = DoesOn u caller moment task command o
 BehindGate u caller moment task command (shuts why) o = o ≡ refused why
 
-abbrev pub ActsOn : TablesOf → ℕ → ℕ → ℕ → Command → Outcome → Type 0
+abbrev pub ActsOn : TablesOf → ℕ → ℕ → ℕ → Command → Consequence → Type 0
 ActsOn u caller moment task command o = BehindGate u caller moment task command (gate u (op_of command) caller task) o
 
 -- ---- all commands
 
-abbrev pub Comes : TablesOf → ℕ → ℕ → ℕ → Command → Outcome → Type 0
+abbrev pub Comes : TablesOf → ℕ → ℕ → ℕ → Command → Consequence → Type 0
 Comes u caller moment task (command.Create model input activate_at) o = Creates u caller moment model input (waits_until moment activate_at) o
 Comes u caller moment task command o = ActsOn u caller moment task command o

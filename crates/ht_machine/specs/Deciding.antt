@@ -23,7 +23,7 @@ use Rattle.ht_tree.specs.declared.row.Row.{Row}
 use Rattle.ht_tree.specs.declared.slot.Kept.{Kept}
 use Rattle.ht_tree.specs.declared.slot.Kept.TheVariants as reply
 use Rattle.ht_tree.specs.Tables.{TablesOf, at_moment, directory, task_row}
-use Rattle.ht_machine.specs.Commands.{Comes, Outcome, accepted, refused}
+use Rattle.ht_machine.specs.Commands.{Comes, Consequence, accepted, refused}
 use Rattle.ht_machine.specs.Gate.{Gate, gate, opens, shuts}
 use Rattle.ht_machine.specs.Naming.{name_or_none}
 use Rattle.ht_machine.specs.declared.sending.Sending.{Sending}
@@ -60,7 +60,7 @@ NamesOwner d (reply.Done task state owner) = IfSome owner (λ name. IsSome (find
 
 -- Of a new command of a person: what is accepted leaves its record, the reply shows the task in the tables
 -- after it, and where the command has a number the reply is kept too.
-abbrev pub Settles : TablesOf → ℕ → Option Retry → Op → TaskId → Record → Outcome → Option Record → Answer → TablesOf → Type 0
+abbrev pub Settles : TablesOf → ℕ → Option Retry → Op → TaskId → Record → Consequence → Option Record → Answer → TablesOf → Type 0
 Settles t person retry op task asked (accepted u about) left answer after =
     (reply : Kept) × Shows u about reply × (left ≡ Some asked) × (after ≡ with_reply u person retry op task reply) × (answer ≡ answer_of reply)
 Settles t person retry op task asked (refused why) left answer after = IsIdle t left after × (answer ≡ Refused why)
@@ -69,7 +69,7 @@ Settles t person retry op task asked (refused why) left answer after = IsIdle t 
 -- to its first answer or to a refusal.
 abbrev pub AsksAs : TablesOf → ℕ → Option Retry → TaskId → Command → Record → Sending → Option Record → Answer → TablesOf → Type 0
 AsksAs t moment retry task command asked (New person) left answer after =
-    (o : Outcome) × Comes t person moment task.0 command o × Settles t person retry (op_of command) task asked o left answer after
+    (o : Consequence) × Comes t person moment task.0 command o × Settles t person retry (op_of command) task asked o left answer after
 AsksAs t moment retry task command asked (Answered reply) left answer after = IsIdle t left after × (answer ≡ answer_of reply)
 AsksAs t moment retry task command asked (sending.Refused why) left answer after = IsIdle t left after × (answer ≡ Refused why)
 

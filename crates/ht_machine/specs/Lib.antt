@@ -9,7 +9,10 @@ pub mod Gate
 pub mod History
 pub mod Naming
 pub mod Once
+pub mod Outcomes
 pub mod Planning
+pub mod RefusalExamples
+pub mod Refusals
 pub mod Sending
 pub mod Sheets
 pub mod TakenOnce

@@ -26,9 +26,9 @@ use Rattle.ht_tree.specs.Soundness.{IsSound, KeepsSound}
 use Rattle.ht_tree.specs.Tables.{RoomyTables, TablesOf, model_named, task_row}
 use Rattle.ht_machine.specs.declared.answering.Response.{Response}
 use Rattle.ht_machine.specs.declared.answering.Response.TheVariants as response
-use Rattle.ht_machine.specs.declared.asking.Asked.{Asked as Ask}
+use Rattle.ht_machine.specs.declared.asking.CommandAt.{CommandAt}
 use Rattle.ht_machine.specs.declared.deciding.Decision.{Decision}
-use Rattle.ht_machine.specs.Commands.{ActivatesUnless, Outcome, accepted, refused}
+use Rattle.ht_machine.specs.Commands.{ActivatesUnless, Consequence, accepted, refused}
 use Rattle.ht_machine.specs.declared.leaving.Left.{Left}
 use Rattle.ht_machine.specs.declared.leaving.Left.TheVariants as left
 use Rattle.ht_machine.specs.declared.sending.Sending.TheVariants.{New}
@@ -39,7 +39,7 @@ use Rattle.ht_machine.specs.Sending.{answer_of}
 -- ---- commands
 
 -- the plan goes on to tables that may come of a command, with the task that it is about
-pub record Does (t : TablesOf) (old new : PlanOf) (May : Outcome → Type 0) (task : TaskId) : Type 0 where
+pub record Does (t : TablesOf) (old new : PlanOf) (May : Consequence → Type 0) (task : TaskId) : Type 0 where
   pub after : TablesOf
   pub comes : May (accepted after task.0)
   pub goes : Goes t old new (planned t old) after
@@ -48,7 +48,7 @@ pub record Does (t : TablesOf) (old new : PlanOf) (May : Outcome → Type 0) (ta
   pub there : task_row after task.0 ≡ Some row
 
 -- or it is refused, and the plan can go back to its mark
-abbrev pub Tries : TablesOf → PlanOf → PlanOf → (Outcome → Type 0) → Result TaskId ActRefusal → Type 0
+abbrev pub Tries : TablesOf → PlanOf → PlanOf → (Consequence → Type 0) → Result TaskId ActRefusal → Type 0
 Tries t old new May (Ok task) = Does t old new May task
 Tries t old new May (Err (why.Refused other)) = May (refused other) × (new.marked ≡ old.marked)
 Tries t old new May (Err why.Memory) = Unit {0}
@@ -78,21 +78,21 @@ pub record IsActivated (t : TablesOf) (old new : PlanOf) (at : Moment) (waits : 
 -- ---- decisions
 
 -- a command as it is asked is valid
-pub record IsAsked (a : Ask) : Type 0 where
+pub record IsAsked (a : CommandAt) : Type 0 where
   pub within : a.at.0 ≤ last_moment
   pub retry : IfSome a.retry IsRetry
   pub task : IsTaskOf a.command.now a.task
   pub command : IsCommand a.command.now
 
 -- as what a command is kept, at a moment and at its own
-abbrev pub record_as : Ask → Moment → Record
+abbrev pub record_as : CommandAt → Moment → Record
 record_as a at = record_at (event.Ask a.at a.caller a.retry a.task a.command.now) at
 
-abbrev pub record_of : Ask → Record
+abbrev pub record_of : CommandAt → Record
 record_of a = record_as a a.at
 
 -- the record that a command leaves itself, by how it is answered, and its answer
-abbrev pub record_left : Ask → Response → Option Record
+abbrev pub record_left : CommandAt → Response → Option Record
 record_left a (response.Accepted kept) = Some (record_of a)
 record_left a _ = None
 
@@ -138,7 +138,7 @@ pub record PlansAsk (t : TablesOf) (old new : PlanOf) (moment : ℕ) (caller : L
   pub makes : Makes t new left after
 
 -- and of all that is due before it
-pub record PlansBehindTurn (t : TablesOf) (p : PlanOf) (a : Ask) (left : Option Record) (reply : Reply) : Type 0 where
+pub record PlansBehindTurn (t : TablesOf) (p : PlanOf) (a : CommandAt) (left : Option Record) (reply : Reply) : Type 0 where
   pub after : TablesOf
   pub decides : Behind t a.at.0 (λ u. Asks u a.at.0 a.caller a.retry a.task a.command.now) left reply after
   pub leaves : Leaves t p left after

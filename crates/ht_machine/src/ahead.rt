@@ -4,8 +4,7 @@ ghost use Rattle.ht_due.specs.Dues.{AreAbsent, Ascends, has};
 ghost use Rattle.ht_machine.specs.Ahead.{IsFirstAhead, in_either, in_list};
 
 use ht_base::Memory;
-use ht_due::{Due, DueQueue};
-use ht_tree::lesser;
+use ht_due::{Due, DueQueue, lesser};
 
 /// The first due of both queues that comes behind the last that was passed.
 pub(crate) fn next(kept: &DueQueue, news: &DueQueue, passed: Option<Due>) -> Option<Due>

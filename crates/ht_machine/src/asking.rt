@@ -12,7 +12,7 @@ use std::alloc::Global;
 
 /// A command of a caller, and the moment at which it acts.
 #[derive(Clone, Copy)]
-pub(crate) struct Asked<'a> {
+pub(crate) struct CommandAt<'a> {
     pub(crate) at: Moment,
     pub(crate) caller: Name,
     pub(crate) retry: Option<Retry>,
@@ -25,7 +25,7 @@ pub(crate) fn ask(
     alloc: Global,
     tables: &Tables,
     plan: &mut Plan,
-    asked: &Asked<'_>,
+    asked: &CommandAt<'_>,
 ) -> Result<Response, Memory>
     requires ready { IsReady tables.now.tables plan.old }
     requires later { tables.now.tables.last ≤ asked.now.at.0 }
@@ -46,7 +46,7 @@ fn ask_anew(
     tables: &Tables,
     plan: &mut Plan,
     person: Person,
-    asked: &Asked<'_>,
+    asked: &CommandAt<'_>,
 ) -> Result<Response, Memory>
     requires ready { IsReady tables.now.tables plan.old }
     requires later { tables.now.tables.last ≤ asked.now.at.0 }

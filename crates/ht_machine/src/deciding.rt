@@ -9,7 +9,7 @@ ghost use Rattle.ht_tree.specs.Plans.{IsPrepared, committed, no_plan};
 ghost use Rattle.ht_tree.specs.Soundness.{IsSound};
 
 use crate::answering::{Response, answer_of};
-use crate::asking::{Asked, ask};
+use crate::asking::{CommandAt, ask};
 use crate::leaving::Left;
 use crate::reading::read;
 use crate::turning::turn;
@@ -96,7 +96,7 @@ fn plan_event(
             task,
             command,
         } => {
-            let asked = Asked {
+            let asked = CommandAt {
                 at: effective(last, *at),
                 caller: *caller,
                 retry: *retry,
@@ -124,7 +124,7 @@ fn turn_then_ask(
     alloc: Global,
     tables: &Tables,
     plan: &mut Plan,
-    asked: &Asked<'_>,
+    asked: &CommandAt<'_>,
 ) -> Result<(Left, Reply), Memory>
     requires sound { IsSound tables.now.tables }
     requires later { tables.now.tables.last ≤ asked.now.at.0 }

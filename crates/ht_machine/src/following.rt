@@ -2,7 +2,7 @@ ghost use Rattle.std.specs.Prelude.{◌≡◌, ◌≤◌, OnOk};
 ghost use Rattle.ht_base.specs.Moment.{last_moment};
 ghost use Rattle.ht_machine.specs.Following.{IsFollowed};
 ghost use Rattle.ht_compose.specs.Reaching.{IsTask};
-ghost use Rattle.ht_owner.specs.Acting.{Ends};
+ghost use Rattle.ht_owner.specs.Acting.{FollowIsFinal};
 ghost use Rattle.ht_tree.specs.Plans.{IsPlanOf, planned};
 ghost use Rattle.ht_tree.specs.Soundness.{IsSound};
 
@@ -26,7 +26,7 @@ pub(crate) fn follow(
     requires sound { IsSound (planned tables.now.tables plan.old) }
     requires there { IsTask (planned tables.now.tables plan.old) task.0 }
     requires at { at.0 ≤ last_moment }
-    requires ends { Ends next }
+    requires ends { FollowIsFinal next }
     ensures { OnOk result (IsFollowed tables.now.tables plan.old plan.new at task.0 next) }
 {
     match next {

@@ -13,14 +13,19 @@ ghost use Rattle.ht_base.specs.History.{end_of};
 ghost use Rattle.ht_base.specs.Moment.{last_moment};
 ghost use Rattle.ht_base.specs.Ordered.{AscendBy};
 ghost use Rattle.ht_due.specs.declared.due.Due.{Due};
+ghost use Rattle.ht_machine.specs.Commands.{Comes, Consequence};
 ghost use Rattle.ht_machine.specs.Deciding.{Decides, moment_of};
 ghost use Rattle.ht_machine.specs.History.{Applies, History, IsHistory, IsLeftAt, event_of};
 ghost use Rattle.ht_machine.specs.Once.{IsAccepted, IsSince, Remembers};
+ghost use Rattle.ht_machine.specs.Outcomes.{AreRead, HasEnd, HasOutcome, HaveOutcomes};
+ghost use Rattle.ht_machine.specs.Refusals.{IsRefusedInOrder};
 ghost use Rattle.ht_machine.specs.TakenOnce.{AreNumbered, WasTaken, is_among};
 ghost use Rattle.ht_machine.specs.Timer.{AreAlike, AddsTurns, IsTimely, answers_of, events_of, moment_of_last};
 ghost use Rattle.ht_machine.specs.Turning.{IsTurn};
+ghost use Rattle.ht_models.specs.TreeSizes.{AreSized};
 ghost use Rattle.ht_tree.specs.declared.slot.Slot.{Slot};
 ghost use Rattle.ht_tree.specs.Slots.{slot_cmp};
+ghost use Rattle.ht_tree.specs.Soundness.{IsSound};
 ghost use Rattle.ht_tree.specs.Tables.{TablesOf};
 
 /// Apart from want of memory an event has at most one outcome on given tables: one record that it leaves,
@@ -47,6 +52,12 @@ pub fn what_is_left_is_of_its_moment()
 pub fn a_record_leads_to_the_same()
     ensures again { (t : TablesOf) (e : Event) (k : Record) (r : Reply) (u : TablesOf) → Decides t e (Some k) r u → Applies t k u }
     ensures once { (t : TablesOf) (k : Record) (u v : TablesOf) → Applies t k u → Applies t k v → u ≡ v }
+{}
+
+/// A person's command is refused for the first of its refusals that holds, in the order of one list, and
+/// accepted where none does.
+pub fn a_refusal_is_the_first_that_holds()
+    ensures { (u : TablesOf) (caller moment task : ℕ) (c : Command) (o : Consequence) → Comes u caller moment task c o → IsRefusedInOrder u caller (record { 0 = moment }) task c o }
 {}
 
 /// A numbered command that was accepted acts once: whenever it is sent again in a history, by the same
@@ -93,4 +104,17 @@ pub fn a_deadline_is_taken_once()
     ensures stays { (t : TablesOf) (e : Event) (k : Option Record) (r : Reply) (after : TablesOf) (task place : ℕ) → AreNumbered t.rows → Decides t e k r after → WasTaken t task place → WasTaken after task place }
     ensures never_again { (by : ℕ) (t after : TablesOf) (dues : List Due) (task place : ℕ) → AreNumbered t.rows → IsTurn by t dues after → WasTaken t task place → is_among task place dues ≡ false }
     ensures taken { (by : ℕ) (t after : TablesOf) (dues : List Due) (task place : ℕ) → AreNumbered t.rows → IsTurn by t dues after → is_among task place dues ≡ true → WasTaken after task place }
+{}
+
+/// A turn always comes to its end, on sound tables where each model's tree is counted.
+pub fn a_turn_comes_to_its_end()
+    ensures { (t : TablesOf) (by : ℕ) → AreSized t.models → IsSound t → HasEnd t by }
+{}
+
+/// An event always has an outcome, on sound tables of models that were read: there is a model, and each
+/// one's tree is counted. What is due before it comes to an end, and so does what follows of a command. And
+/// so it goes on: events have outcomes one after another.
+pub fn an_event_has_an_outcome()
+    ensures one { (t : TablesOf) (e : Event) → AreRead t.models → IsSound t → HasOutcome t e }
+    ensures more { (t : TablesOf) (events : List Event) → AreRead t.models → IsSound t → HaveOutcomes t events }
 {}

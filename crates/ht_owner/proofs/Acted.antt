@@ -6,7 +6,7 @@ use Rattle.ht_base.specs.Events.{IsCommand, op_of}
 use Rattle.ht_base.specs.Moment.{last_moment}
 use Rattle.ht_models.specs.Model.{ModelOf}
 use Rattle.ht_owner.specs.declared.follow.Follow.{Follow}
-use Rattle.ht_owner.specs.Acting.{Ends, IsAllowed}
+use Rattle.ht_owner.specs.Acting.{FollowIsFinal, IsAllowed}
 use Rattle.ht_owner.specs.Effects.{does, effect}
 use Rattle.ht_owner.proofs.EffectsSound.{effect_makes}
 use Rattle.ht_rules.specs.declared.judging.Verdict.TheVariants.{Yes}
@@ -14,7 +14,7 @@ use Rattle.ht_rules.specs.Judging.{verdict}
 use Rattle.ht_tree.specs.declared.row.Row.{Row}
 use Rattle.ht_tree.specs.Roles.{roles_in}
 use Rattle.ht_tree.specs.Soundness.{Fits, IsSound}
-use Rattle.ht_tree.specs.Tables.{TablesOf, directory, model_of, task_row}
+use Rattle.ht_tree.specs.Tables.{TablesOf, model_of, task_row}
 use Rattle.ht_tree.proofs.PublicLaws.{IsPutAgain, put_again_of, sound_row_fits}
 
 one : {A : Type 0} (o : Option A) (x y : A) → o ≡ Some x → o ≡ Some y → x ≡ y
@@ -30,9 +30,9 @@ may_of u task caller command row at allowed =
 pub record IsLeft (u : TablesOf) (task : ℕ) (row new : Row) (follow : Follow) : Type 0 where
   pub again : IsPutAgain u task row new
   pub fits : Fits u new
-  pub ends : Ends follow
+  pub ends : FollowIsFinal follow
 
-pub made : (u : TablesOf) (m : ModelOf) (caller task : ℕ) (at : Moment) (command : Command) (row new : Row) (follow : Follow) → IsSound u → task_row u task ≡ Some row → model_of u row ≡ Some m → caller < length u.people.persons → at.0 ≤ last_moment → IsCommand command → verdict (op_of command) row.state (roles_in u row caller) ≡ Yes → effect (directory u) u.rows m caller at command row ≡ does new follow → IsLeft u task row new follow
+pub made : (u : TablesOf) (m : ModelOf) (caller task : ℕ) (at : Moment) (command : Command) (row new : Row) (follow : Follow) → IsSound u → task_row u task ≡ Some row → model_of u row ≡ Some m → caller < length u.people.persons → at.0 ≤ last_moment → IsCommand command → verdict (op_of command) row.state (roles_in u row caller) ≡ Yes → effect u m caller at command row ≡ does new follow → IsLeft u task row new follow
 made u m caller task at command row new follow sound there of_model known within valid may is =
     let after = effect_makes u m caller at row (sound.rows_sound task row there) of_model known within command new follow valid may is in
     record {

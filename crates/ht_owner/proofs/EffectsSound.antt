@@ -1,4 +1,5 @@
 -- That the effects of commands keep rows sound.
+use Rattle.ht_tree.specs.Rows.{model_in}
 use Rattle.std.proofs.Common.{◌≡◌, ℕ, ◌<◌, nat_lt, Bool, true, false, ◌&&◌, ◌||◌, not, ◌+◌, ◌≤◌, if◌then◌else◌, List, [], ◌∷◌, ◌++◌, filter, Option, Some, None, IfSome, IsTrue, is_some, unwrap_or, length, get_or, slice_get, zero, suc, refl, ap, sym, ◌∙◌, subst, arith}
 use Rattle.std.proofs.lemmas.Bool.Decides.{nat_tests}
 use Rattle.std.proofs.lemmas.List.{length-append}
@@ -29,9 +30,9 @@ use Rattle.ht_models.specs.Kinded.{parts_of}
 use Rattle.ht_models.specs.Model.{ModelOf}
 use Rattle.ht_owner.specs.declared.follow.Follow.{Follow}
 use Rattle.ht_owner.specs.declared.follow.Follow.TheVariants as follow
-use Rattle.ht_owner.specs.Acting.{Ends}
+use Rattle.ht_owner.specs.Acting.{FollowIsFinal}
 use Rattle.ht_owner.specs.Effects.{Effect, does, effect, following, is_forwarder, leaves, moved_now, named_owner, prepared, prepared_leaves, refuses, unless, with_comment, with_output, with_role}
-use Rattle.ht_owner.specs.Faults.{fully_commented, excluded, fault, faults, first_fault, no_output, owned, ownerless, role_faults, told, unknown_person}
+use Rattle.ht_owner.specs.Faults.{fully_commented, excluded, fault, faults, first_of, no_output, owner_named, ownerless, role_faults, told, unknown_person}
 use Rattle.ht_base.specs.State.{is_final}
 use Rattle.ht_owner.specs.Moving.{end_of, ending, moved, only_if}
 use Rattle.ht_owner.specs.Naming.{is_named, persons_named}
@@ -69,7 +70,7 @@ apart_one : (g : ℕ → Bool) (n : ℕ) (qs : List ℕ) → ((p : ℕ) → g p 
 apart_one g n qs out p h = out p (both_true (nat_lt p n) (g p) (sym (has_selected g n p) ∙ h))
 
 -- an operation ends a task only in a final state
-ending_final : (s : State) (o : Op) (end : State) → ending s o ≡ Some end → IsTrue (is_final end)
+pub ending_final : (s : State) (o : Op) (end : State) → ending s o ≡ Some end → IsTrue (is_final end)
 ending_final s o end e = at (changing s o).after e
   where
     test : (t : State) (b : Bool) → is_final t ≡ b → (if b then Some t else None) ≡ Some end → IsTrue (is_final end)
@@ -83,7 +84,7 @@ ending_final s o end e = at (changing s o).after e
 
 -- ---- suspensions that end by themselves
 
-abbrev HasBegun : Command → Type 0
+abbrev pub HasBegun : Command → Type 0
 HasBegun (command.SuspendUntil end) = ⊥
 HasBegun _ = Unit {0}
 
@@ -91,7 +92,7 @@ never_ends : (s : State) → ending s op.SuspendUntil ≡ None
 never_ends state.Created = refl
 never_ends s = refl
 
-begun_before : (c : Command) (s : State) (end : State) → ending s (op_of c) ≡ Some end → HasBegun c
+pub begun_before : (c : Command) (s : State) (end : State) → ending s (op_of c) ≡ Some end → HasBegun c
 begun_before (command.SuspendUntil e) s end ends = let never = never_ends s in cc
 begun_before c s end ends = tt
 
@@ -122,7 +123,7 @@ pub record IsMade (u : TablesOf) (row new : Row) (next : Follow) : Type 0 where
   pub sound : IsSoundRow u new
   pub same : filed_of new ≡ filed_of row
   pub final : is_final row.state ≡ is_final new.state
-  pub ends : Ends next
+  pub ends : FollowIsFinal next
 
 -- what holds of one comment holds of each of a list of it
 alone : (P : Comment → Type 0) (c : Comment) → P c → (k : ℕ) (d : Comment) → k < 1 → P (get_or (c ∷ []) k d)
@@ -167,7 +168,7 @@ module _ (u : TablesOf) (m : ModelOf) (caller : ℕ) (moment : Moment) (row : Ro
       (sound.whose).allowed
 
   -- with other excluded owners, of whom the owner is none
-  owner_stays : (names : List (List ℕ)) (owner : Option ℕ) → owned d owner names ≡ None → IfSome owner (λ p. has p (persons_named d names) ≡ false)
+  owner_stays : (names : List (List ℕ)) (owner : Option ℕ) → owner_named d owner names ≡ None → IfSome owner (λ p. has p (persons_named d names) ≡ false)
   owner_stays names None none = tt
   owner_stays names (Some p) none = has_selected (is_named d names) n p ∙ out (nat_lt p n) (is_named d names p) (owner_unnamed d p names none)
     where
@@ -175,13 +176,13 @@ module _ (u : TablesOf) (m : ModelOf) (caller : ℕ) (moment : Moment) (row : Ro
       out true b h = h
       out false b h = refl
 
-  role_sound : (role : RoleList) (names : List (List ℕ)) → first_fault (role_faults d m row names role) ≡ None → IsSoundRow u (with_role d row names role)
+  role_sound : (role : RoleList) (names : List (List ℕ)) → first_of (role_faults d m row names role) ≡ None → IsSoundRow u (with_role d row names role)
   role_sound list.PotentialOwners names none =
       let out = no_fault (role_faults d m row names list.PotentialOwners) none 2 (excluded d row.excluded_owners names) refl in
       with_owners (is_named d names) false (apart_one (is_named d names) n row.excluded_owners (none_excluded d row.excluded_owners names out))
   role_sound list.ExcludedOwners names none =
       let who = sound.who in
-      let out = no_fault (role_faults d m row names list.ExcludedOwners) none 1 (owned d row.owner names) refl in
+      let out = no_fault (role_faults d m row names list.ExcludedOwners) none 1 (owner_named d row.owner names) refl in
       let named = is_named d names in
       let stays = λ (p : ℕ). has p row.potential_owners && not (is_named d names p) in
       with_people (filter stays (range_with_len 0 n)) (persons_named d names) row.administrators row.stakeholders row.by_group
@@ -245,15 +246,15 @@ module _ (u : TablesOf) (m : ModelOf) (caller : ℕ) (moment : Moment) (row : Ro
           few false low h = cc
 
   -- a suspension that ends by itself begins first
-  prepared_sound : (c : Command) → HasBegun c → IsCommand c → fault d u.rows m moment row c ≡ None → IsSoundRow u (prepared d m caller moment c row)
+  prepared_sound : (c : Command) → HasBegun c → IsCommand c → fault u m moment row c ≡ None → IsSoundRow u (prepared d m caller moment c row)
   prepared_sound (command.Delegate name) begun is none =
-      let out = no_fault (faults d u.rows m moment row (command.Delegate name)) none 2 (excluded d row.excluded_owners (name ∷ [])) refl in
+      let out = no_fault (faults u m moment row (command.Delegate name)) none 2 (excluded d row.excluded_owners (name ∷ [])) refl in
       with_owners (λ p. has p row.potential_owners || is_named d (name ∷ []) p) row.by_group (apart_of (λ p. has p row.potential_owners) (is_named d (name ∷ [])) n row.excluded_owners (sound.who).apart (none_excluded d row.excluded_owners (name ∷ []) out))
   prepared_sound (command.Forward names) begun is none =
-      let out = no_fault (faults d u.rows m moment row (command.Forward names)) none 3 (excluded d row.excluded_owners names) refl in
+      let out = no_fault (faults u m moment row (command.Forward names)) none 3 (excluded d row.excluded_owners names) refl in
       with_owners (λ p. (has p row.potential_owners && not (is_forwarder caller row.state row.owner p)) || is_named d names p) row.by_group (apart_of (λ p. has p row.potential_owners && not (is_forwarder caller row.state row.owner p)) (is_named d names) n row.excluded_owners (λ p h. (sound.who).apart p (first_true _ _ h)) (none_excluded d row.excluded_owners names out))
   prepared_sound (command.Nominate names) begun is none =
-      let out = no_fault (faults d u.rows m moment row (command.Nominate names)) none 2 (excluded d row.excluded_owners names) refl in
+      let out = no_fault (faults u m moment row (command.Nominate names)) none 2 (excluded d row.excluded_owners names) refl in
       with_owners (is_named d names) false (apart_one (is_named d names) n row.excluded_owners (none_excluded d row.excluded_owners names out))
   prepared_sound (command.SetRole role names) begun is none = role_sound role names none
   prepared_sound (command.SetPriority priority) begun is none =
@@ -269,7 +270,7 @@ module _ (u : TablesOf) (m : ModelOf) (caller : ℕ) (moment : Moment) (row : Ro
   prepared_sound (command.SetOutput output) begun is none = output_sound output is.0
   prepared_sound (command.Complete output) begun is none = output_sound output is
   prepared_sound (command.Fail name) begun is none = record { filed = sound.filed; held = sound.held; who = sound.who; whose = sound.whose; when = sound.when; how = sound.how }
-  prepared_sound (command.AddComment text) begun is none = comment_sound text is.0 is.1 (no_fault (faults d u.rows m moment row (command.AddComment text)) none 0 (fully_commented row) refl)
+  prepared_sound (command.AddComment text) begun is none = comment_sound text is.0 is.1 (no_fault (faults u m moment row (command.AddComment text)) none 0 (fully_commented row) refl)
   prepared_sound (command.SuspendUntil end) begun is none = absurd begun
   prepared_sound c begun is none = sound
 
@@ -280,14 +281,14 @@ module _ (u : TablesOf) (m : ModelOf) (caller : ℕ) (moment : Moment) (row : Ro
   owns o h may = record { known = known; allowed = (sound.who).apart caller (caller_is_potential (roles_in u row caller) row.state o h may) }
 
   -- who is named as the owner
-  named_owns : (name : List ℕ) → fault d u.rows m moment row (command.Delegate name) ≡ None → MayOwn n (unwrap_or (find name d) caller) row.excluded_owners
+  named_owns : (name : List ℕ) → fault u m moment row (command.Delegate name) ≡ None → MayOwn n (unwrap_or (find name d) caller) row.excluded_owners
   named_owns name none = at (find name d) refl
     where
       out : excluded d row.excluded_owners (name ∷ []) ≡ None
-      out = no_fault (faults d u.rows m moment row (command.Delegate name)) none 2 (excluded d row.excluded_owners (name ∷ [])) refl
+      out = no_fault (faults u m moment row (command.Delegate name)) none 2 (excluded d row.excluded_owners (name ∷ [])) refl
 
       there : unknown_person d (name ∷ []) ≡ None
-      there = no_fault (faults d u.rows m moment row (command.Delegate name)) none 1 (unknown_person d (name ∷ [])) refl
+      there = no_fault (faults u m moment row (command.Delegate name)) none 1 (unknown_person d (name ∷ [])) refl
 
       at : (o : Option ℕ) → find name d ≡ o → MayOwn n (unwrap_or o caller) row.excluded_owners
       at None is = absurd (known_name d name there is)
@@ -309,7 +310,7 @@ module _ (u : TablesOf) (m : ModelOf) (caller : ℕ) (moment : Moment) (row : Ro
   not_named : (o : Op) (s : State) (persons p : ℕ) (others : List ℕ) → (o ≡ op.Delegate → ⊥) → IsNamed (changing s o).owner → MayOwn persons p others
   not_named o s persons p others other h = absurd (other (named_is_delegate s o h))
 
-  told_owns : (c : Command) → fault d u.rows m moment row c ≡ None → IsNamed (changing (prepared d m caller moment c row).state (op_of c)).owner → MayOwn n (named_owner d caller c) (prepared d m caller moment c row).excluded_owners
+  told_owns : (c : Command) → fault u m moment row c ≡ None → IsNamed (changing (prepared d m caller moment c row).state (op_of c)).owner → MayOwn n (named_owner d caller c) (prepared d m caller moment c row).excluded_owners
   told_owns (command.Delegate name) none h = named_owns name none
   told_owns (command.SetRole role names) none h = not_named op.SetRole (prepared d m caller moment (command.SetRole role names) row).state n caller _ (λ e. cc) h
   told_owns c none h = not_named (op_of c) row.state n caller _ (λ e. cc) h
@@ -317,14 +318,14 @@ module _ (u : TablesOf) (m : ModelOf) (caller : ℕ) (moment : Moment) (row : Ro
   -- ---- the whole effect
 
   -- a command whose first fault is that a task never has an owner is done on one that has
-  has_owner : (c : Command) → fault d u.rows m moment row c ≡ None → slice_get (faults d u.rows m moment row c) 0 ≡ Some (ownerless m) → needs_owner u.models row.model ≡ true
-  has_owner c none first = ap (λ (o : Option ModelOf). option_map_or (λ x. x.owner_required) o true) of_model ∙ required m.owner_required (no_fault (faults d u.rows m moment row c) none 0 (ownerless m) first)
+  has_owner : (c : Command) → fault u m moment row c ≡ None → slice_get (faults u m moment row c) 0 ≡ Some (ownerless m) → needs_owner (model_in u.models row) ≡ true
+  has_owner c none first = ap (λ (o : Option ModelOf). option_map_or (λ x. x.owner_required) o true) of_model ∙ required m.owner_required (no_fault (faults u m moment row c) none 0 (ownerless m) first)
     where
       required : (b : Bool) → told (not b) refusal.Ownerless ≡ None → b ≡ true
       required true h = refl
       required false h = cc
 
-  moves_sound : (c : Command) → HasBegun c → IsCommand c → verdict (op_of c) row.state (roles_in u row caller) ≡ Yes → fault d u.rows m moment row c ≡ None → (serves_ownerless (op_of c) || needs_owner u.models (prepared d m caller moment c row).model) ≡ true → IsSoundRow u (moved (op_of c) caller (named_owner d caller c) (prepared d m caller moment c row))
+  moves_sound : (c : Command) → HasBegun c → IsCommand c → verdict (op_of c) row.state (roles_in u row caller) ≡ Yes → fault u m moment row c ≡ None → (serves_ownerless (op_of c) || needs_owner (model_in u.models (prepared d m caller moment c row))) ≡ true → IsSoundRow u (moved (op_of c) caller (named_owner d caller c) (prepared d m caller moment c row))
   moves_sound c begun is may none serves = moved_sound u n caller (named_owner d caller c) (prepared d m caller moment c row) (prepared_sound c begun is none) (op_of c) serves (caller_owns c may) (told_owns c none)
 
   -- the row of a command that is no end
@@ -352,7 +353,7 @@ module _ (u : TablesOf) (m : ModelOf) (caller : ℕ) (moment : Moment) (row : Ro
         how = base.how;
       }
 
-  now_sound : (c : Command) → IsCommand c → verdict (op_of c) row.state (roles_in u row caller) ≡ Yes → fault d u.rows m moment row c ≡ None → IsSoundRow u (row_now c)
+  now_sound : (c : Command) → IsCommand c → verdict (op_of c) row.state (roles_in u row caller) ≡ Yes → fault u m moment row c ≡ None → IsSoundRow u (row_now c)
   now_sound command.Activate is may none = sound
   now_sound (command.SuspendUntil end) is may none = until_sound end is may
   now_sound command.Stop is may none = moves_sound command.Stop tt is may none (has_owner command.Stop none refl)
@@ -386,7 +387,7 @@ module _ (u : TablesOf) (m : ModelOf) (caller : ℕ) (moment : Moment) (row : Ro
       let before = prepared d m caller moment c row in
       final_before c ∙ no_end before.state (op_of c) before.potential_owners none
 
-  quiet : (c : Command) → Ends (following c)
+  quiet : (c : Command) → FollowIsFinal (following c)
   quiet command.Start = tt
   quiet c = tt
 
@@ -398,27 +399,27 @@ module _ (u : TablesOf) (m : ModelOf) (caller : ℕ) (moment : Moment) (row : Ro
   follow_in (does r f) = f
   follow_in (refuses why) = follow.Nothing
 
-  left_by : (c : Command) (new : Row) (next : Follow) → IsCommand c → verdict (op_of c) row.state (roles_in u row caller) ≡ Yes → fault d u.rows m moment row c ≡ None → (o : Option State) → ending (prepared d m caller moment c row).state (op_of c) ≡ o → leaves d caller c (prepared d m caller moment c row) o ≡ does new next → IsMade u row new next
+  left_by : (c : Command) (new : Row) (next : Follow) → IsCommand c → verdict (op_of c) row.state (roles_in u row caller) ≡ Yes → fault u m moment row c ≡ None → (o : Option State) → ending (prepared d m caller moment c row).state (op_of c) ≡ o → leaves d caller c (prepared d m caller moment c row) o ≡ does new next → IsMade u row new next
   left_by c new next is may none None e h =
       let before = prepared d m caller moment c row in
       let R : Row → Type 0 = λ r. IsSoundRow u r × (filed_of r ≡ filed_of row) × (is_final row.state ≡ is_final r.state) in
       let file = same_file_now (following c) before (moved (op_of c) caller (named_owner d caller c) before) refl ∙ same_file c in
       let made : R new = subst R (ap row_in h) (now_sound c is may none, file, final_now c e) in
-      let F : Follow → Type 0 = λ f. Ends f in
+      let F : Follow → Type 0 = λ f. FollowIsFinal f in
       record { sound = made.0; same = made.1; final = made.2; ends = subst F (ap follow_in h) (quiet c) }
   left_by c new next is may none (Some end) e h =
       let R : Row → Type 0 = λ r. IsSoundRow u r × (filed_of r ≡ filed_of row) × (is_final row.state ≡ is_final r.state) in
       let made : R new = subst R (ap row_in h) (prepared_sound c (begun_before c (prepared d m caller moment c row).state end e) is none, same_file c, final_before c) in
-      let F : Follow → Type 0 = λ f. Ends f in
+      let F : Follow → Type 0 = λ f. FollowIsFinal f in
       record { sound = made.0; same = made.1; final = made.2; ends = subst F (ap follow_in h) (ending_final (prepared d m caller moment c row).state (op_of c) end e) }
 
-  pub effect_makes : (c : Command) (new : Row) (next : Follow) → IsCommand c → verdict (op_of c) row.state (roles_in u row caller) ≡ Yes → effect d u.rows m caller moment c row ≡ does new next → IsMade u row new next
-  effect_makes c new next is may done = first (fault d u.rows m moment row c) refl done
+  pub effect_makes : (c : Command) (new : Row) (next : Follow) → IsCommand c → verdict (op_of c) row.state (roles_in u row caller) ≡ Yes → effect u m caller moment c row ≡ does new next → IsMade u row new next
+  effect_makes c new next is may done = first (fault u m moment row c) refl done
     where
-      second : (o : Option Refusal) → fault d u.rows m moment row c ≡ None → unless o (leaves d caller c (prepared d m caller moment c row) (ending (prepared d m caller moment c row).state (op_of c))) ≡ does new next → IsMade u row new next
+      second : (o : Option Refusal) → fault u m moment row c ≡ None → unless o (leaves d caller c (prepared d m caller moment c row) (ending (prepared d m caller moment c row).state (op_of c))) ≡ does new next → IsMade u row new next
       second (Some why) none h = cc
       second None none h = left_by c new next is may none (ending (prepared d m caller moment c row).state (op_of c)) refl h
 
-      first : (o : Option Refusal) → fault d u.rows m moment row c ≡ o → unless o (prepared_leaves d m caller c (prepared d m caller moment c row)) ≡ does new next → IsMade u row new next
+      first : (o : Option Refusal) → fault u m moment row c ≡ o → unless o (prepared_leaves d m caller c (prepared d m caller moment c row)) ≡ does new next → IsMade u row new next
       first (Some why) e h = cc
       first None none h = second (no_output m (prepared d m caller moment c row) c) none h

@@ -1,4 +1,6 @@
 mod Acted
+mod Closing
 mod EffectsSound
 mod Moved
 mod Named
+pub mod PublicLaws

@@ -1,4 +1,5 @@
 -- That a row stays sound as an operation moves it.
+use Rattle.ht_tree.specs.Rows.{model_in}
 use Rattle.std.proofs.Common.{◌≡◌, ℕ, ◌<◌, Bool, true, false, ◌&&◌, ◌||◌, if◌then◌else◌, List, [], ◌∷◌, Some, None, refl, sym, ◌∙◌}
 use Rattle.ht_base.specs.declared.operation.Op.{Op}
 use Rattle.ht_base.specs.declared.operation.Op.TheVariants.{Claim, Stop, Release, Delegate, Forward, Nominate, Activate}
@@ -171,20 +172,20 @@ module _ (t : TablesOf) (persons caller named : ℕ) (row : Row) (sound : IsSoun
   timed state false true c s = record { waits = λ f. c ∙ f; until = λ _. s; created_within = (sound.when).created_within; waits_within = tt; until_within = (sound.when).until_within }
   timed state false false c s = record { waits = λ f. c ∙ f; until = λ f. s ∙ f; created_within = (sound.when).created_within; waits_within = tt; until_within = tt }
 
-  changed_sound : (c : Change) → Fits row.state c → (needs_owner t.models row.model || stays_ownerless c.after c.owner) ≡ true → (IsCaller c.owner → MayOwn persons caller row.excluded_owners) → (IsNamed c.owner → MayOwn persons named row.excluded_owners) → IsSoundIn t.models persons (changed c caller named row)
+  changed_sound : (c : Change) → Fits row.state c → (needs_owner (model_in t.models row) || stays_ownerless c.after c.owner) ≡ true → (IsCaller c.owner → MayOwn persons caller row.excluded_owners) → (IsNamed c.owner → MayOwn persons named row.excluded_owners) → IsSoundIn t.models persons (changed c caller named row)
   changed_sound c fit stays may told =
       let state = state_after c.after row.potential_owners row.state in
       record {
         filed = sound.filed;
         held = sound.held;
         who = sound.who;
-        whose = whose (needs_owner t.models row.model) sound.whose c fit stays may told;
+        whose = whose (needs_owner (model_in t.models row)) sound.whose c fit stays may told;
         when = timed state (is_created state) (is_suspended state) refl refl;
         how = sound.how;
       }
 
   -- whichever operation of the table moves it, if it serves a task that never has an owner or this has one
-  pub moved_sound : (op : Op) → (serves_ownerless op || needs_owner t.models row.model) ≡ true → (IsCaller (changing row.state op).owner → MayOwn persons caller row.excluded_owners) → (IsNamed (changing row.state op).owner → MayOwn persons named row.excluded_owners) → IsSoundIn t.models persons (moved op caller named row)
+  pub moved_sound : (op : Op) → (serves_ownerless op || needs_owner (model_in t.models row)) ≡ true → (IsCaller (changing row.state op).owner → MayOwn persons caller row.excluded_owners) → (IsNamed (changing row.state op).owner → MayOwn persons named row.excluded_owners) → IsSoundIn t.models persons (moved op caller named row)
   moved_sound op serves =
       let c = changing row.state op in
-      changed_sound c (fits row.state op) (either_stays (needs_owner t.models row.model) (is_ownerless row.state) (serves_ownerless op) (stays_ownerless c.after c.owner) (sound.whose).ownerless serves (leaves_ownerless row.state op))
+      changed_sound c (fits row.state op) (either_stays (needs_owner (model_in t.models row)) (is_ownerless row.state) (serves_ownerless op) (stays_ownerless c.after c.owner) (sound.whose).ownerless serves (leaves_ownerless row.state op))

@@ -10,13 +10,13 @@ use Rattle.ht_base.specs.declared.reply.Refusal.{Refusal}
 use Rattle.ht_base.specs.declared.reply.Refusal.TheVariants as refusal
 use Rattle.ht_base.specs.declared.reply.Unknown.TheVariants as unknown
 use Rattle.ht_base.specs.Persons.{has}
-use Rattle.ht_owner.specs.Faults.{excluded, first_fault, is_among, is_owner, owned, unknown_person}
+use Rattle.ht_owner.specs.Faults.{excluded, first_of, is_among, is_owner, owner_named, unknown_person}
 use Rattle.ht_owner.specs.Naming.{is_named, is_this}
 use Rattle.ht_people.specs.Directory as people
 use Rattle.ht_people.specs.Directory.{DirectoryOf}
 
 -- where the first of some faults isn't there, neither is each
-pub no_fault : (faults : List (Option Refusal)) → first_fault faults ≡ None → (i : ℕ) (o : Option Refusal) → slice_get faults i ≡ Some o → o ≡ None
+pub no_fault : (faults : List (Option Refusal)) → first_of faults ≡ None → (i : ℕ) (o : Option Refusal) → slice_get faults i ≡ Some o → o ≡ None
 no_fault [] none i o at = cc
 no_fault (None ∷ faults) none zero o at = cc
 no_fault (None ∷ faults) none (suc i) o at = no_fault faults none i o at
@@ -45,7 +45,7 @@ none_excluded d persons (name ∷ names) none p named =
 turned : (p q : ℕ) → (p == q) ≡ false → (q == p) ≡ false
 turned p q other = grind (arith, nat_tests)
 
-pub owner_unnamed : (d : DirectoryOf) (owner : ℕ) (names : List (List ℕ)) → owned d (Some owner) names ≡ None → is_named d names owner ≡ false
+pub owner_unnamed : (d : DirectoryOf) (owner : ℕ) (names : List (List ℕ)) → owner_named d (Some owner) names ≡ None → is_named d names owner ≡ false
 owner_unnamed d owner [] none = refl
 owner_unnamed d owner (name ∷ names) none =
     let both = found_none (is_owner d (Some owner)) name names (is_owner d (Some owner) name) refl none in

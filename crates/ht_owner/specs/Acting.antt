@@ -17,7 +17,7 @@ use Rattle.ht_tree.specs.declared.row.Row.{Row}
 use Rattle.ht_tree.specs.Plans.{Goes, PlanOf, planned}
 use Rattle.ht_tree.specs.Roles.{roles_in}
 use Rattle.ht_tree.specs.Soundness.{KeepsSound}
-use Rattle.ht_tree.specs.Tables.{TablesOf, directory, model_of, task_row, with_row}
+use Rattle.ht_tree.specs.Tables.{TablesOf, model_of, task_row, with_row}
 
 -- the task is there, and the person may do this with it in its state
 pub record IsAllowed (u : TablesOf) (op : Op) (person task : ℕ) : Type 0 where
@@ -26,9 +26,9 @@ pub record IsAllowed (u : TablesOf) (op : Op) (person task : ℕ) : Type 0 where
   pub may : verdict op row.state (roles_in u row person) ≡ Yes
 
 -- a task is closed in a final state
-abbrev pub Ends : Follow → Type 0
-Ends (follow.Close end) = IsTrue (is_final end)
-Ends _ = Unit {0}
+abbrev pub FollowIsFinal : Follow → Type 0
+FollowIsFinal (follow.Close end) = IsTrue (is_final end)
+FollowIsFinal _ = Unit {0}
 
 -- the task's row is as the command makes it, and the tables stay sound
 pub record Makes (t : TablesOf) (old new : PlanOf) (task caller : ℕ) (at : Moment) (command : Command) (follow : Follow) : Type 0 where
@@ -37,8 +37,8 @@ pub record Makes (t : TablesOf) (old new : PlanOf) (task caller : ℕ) (at : Mom
   pub after : Row
   pub there : task_row (planned t old) task ≡ Some before
   pub of_model : model_of (planned t old) before ≡ Some model
-  pub effect_is : effect (directory t) (planned t old).rows model caller at command before ≡ does after follow
-  pub ends : Ends follow
+  pub effect_is : effect (planned t old) model caller at command before ≡ does after follow
+  pub ends : FollowIsFinal follow
   pub goes : Goes t old new (planned t old) (with_row (planned t old) after)
   pub sound : KeepsSound (planned t old) (with_row (planned t old) after)
   pub found : task_row (with_row (planned t old) after) task ≡ Some after
@@ -49,7 +49,7 @@ pub record Refuses (t : TablesOf) (old new : PlanOf) (task caller : ℕ) (at : M
   pub model : ModelOf
   pub there : task_row (planned t old) task ≡ Some before
   pub of_model : model_of (planned t old) before ≡ Some model
-  pub effect_is : effect (directory t) (planned t old).rows model caller at command before ≡ refuses refusal
+  pub effect_is : effect (planned t old) model caller at command before ≡ refuses refusal
   pub same : new ≡ old
 
 -- what a command makes of the plan, by its result; want of memory leaves the plan

@@ -1,4 +1,5 @@
 -- What comes of each command on a task's row (WS-HumanTask 1.1, 7.1.1 "Participant operations").
+use Rattle.ht_tree.specs.Tables.{directory, TablesOf}
 use Rattle.std.specs.Prelude.{◌≡◌, ℕ, ◌==◌, Bool, false, not, ◌&&◌, ◌||◌, List, [], ◌∷◌, ◌++◌, filter, Option, Some, None, unwrap_or, Result, Ok, Err}
 use Rattle.ht_base.specs.declared.event.Command.{Command}
 use Rattle.ht_base.specs.declared.event.Command.TheVariants as command
@@ -109,8 +110,8 @@ abbrev pub prepared_leaves : DirectoryOf → ModelOf → ℕ → Command → Row
 prepared_leaves d m caller c row = unless (no_output m row c) (leaves d caller c row (ending row.state (op_of c)))
 
 -- of a caller's command at a moment on a task of this model, among the rows of all tasks
-abbrev pub effect : DirectoryOf → List Row → ModelOf → ℕ → Moment → Command → Row → Effect
-effect d rows m caller at c row = unless (fault d rows m at row c) (prepared_leaves d m caller c (prepared d m caller at c row))
+abbrev pub effect : TablesOf → ModelOf → ℕ → Moment → Command → Row → Effect
+effect u m caller at c row = unless (fault u m at row c) (prepared_leaves (directory u) m caller c (prepared (directory u) m caller at c row))
 
 -- what is answered is what comes of it, with this row where it is done
 abbrev pub Gives : Effect → Row → Result Follow ActRefusal → Type 0

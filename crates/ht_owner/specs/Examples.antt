@@ -1,4 +1,5 @@
 -- Worked examples of rows that operations move. A wrong reading of one fails the check.
+use Rattle.ht_tree.specs.Tables.{empty_tables, TablesOf}
 use Rattle.std.specs.Prelude.{◌≡◌, refl, ℕ, List, replicate, [], ◌∷◌, Some, None, codes, true, false}
 use Rattle.ht_base.specs.declared.end.End.TheVariants as ends
 use Rattle.ht_base.specs.declared.event.Command.{Command}
@@ -51,9 +52,13 @@ held = record reserved { state = state.SuspendedReserved; until = Some (at 9000)
 abbrev started : Row
 started = record reserved { state = state.InProgress }
 
+-- tables with these tasks
+abbrev among : List Row → TablesOf
+among rows = record (empty_tables [] office) { rows = rows }
+
 -- what comes of a caller's command on the only task
 abbrev comes : ModelOf → ℕ → Command → Row → Effect
-comes m caller c row = effect office (row ∷ []) m caller (at 2000) c row
+comes m caller c row = effect (among (row ∷ [])) m caller (at 2000) c row
 
 a_claim : comes unit 0 command.Claim ready ≡ does reserved Nothing
 a_claim = refl
@@ -96,10 +101,10 @@ completed_below parent = record reserved { task = record { 0 = 9 }; parent = Som
 to_cora_too_early : comes to_cora_after_one 0 (command.Delegate (codes "cora")) reserved ≡ refuses (refusal.NotDelegatee (codes "cora"))
 to_cora_too_early = refl
 
-after_a_sub_task : effect office (reserved ∷ completed_below 1 ∷ []) to_cora_after_one 0 (at 2000) (command.Delegate (codes "cora")) reserved ≡ does (record reserved { owner = Some 2; potential_owners = 0 ∷ 1 ∷ 2 ∷ [] }) Nothing
+after_a_sub_task : effect (among (reserved ∷ completed_below 1 ∷ [])) to_cora_after_one 0 (at 2000) (command.Delegate (codes "cora")) reserved ≡ does (record reserved { owner = Some 2; potential_owners = 0 ∷ 1 ∷ 2 ∷ [] }) Nothing
 after_a_sub_task = refl
 
-after_another_sub_task : effect office (reserved ∷ completed_below 2 ∷ []) to_cora_after_one 0 (at 2000) (command.Delegate (codes "cora")) reserved ≡ refuses (refusal.NotDelegatee (codes "cora"))
+after_another_sub_task : effect (among (reserved ∷ completed_below 2 ∷ [])) to_cora_after_one 0 (at 2000) (command.Delegate (codes "cora")) reserved ≡ refuses (refusal.NotDelegatee (codes "cora"))
 after_another_sub_task = refl
 
 -- the owner hands it on, and then has nothing to do with it

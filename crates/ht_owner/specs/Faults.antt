@@ -1,5 +1,6 @@
 -- Why a command isn't done that its caller may do (WS-HumanTask 1.1, 7.1.1): the faults of each
 -- operation, of which the first is told.
+use Rattle.ht_tree.specs.Tables.{directory, potential_owners_of, TablesOf}
 use Rattle.std.specs.Prelude.{ℕ, ◌==◌, nat_lt, Bool, true, false, not, ◌&&◌, List, [], ◌∷◌, find, is_none, length, Option, Some, None, option_map, if◌then◌else◌}
 use Rattle.std.specs.Option.{option_map_or}
 use Rattle.ht_base.specs.declared.end.End.{End}
@@ -39,8 +40,8 @@ abbrev pub ownerless : ModelOf → Option Refusal
 ownerless m = told (not m.owner_required) refusal.Ownerless
 
 -- nobody could own it
-abbrev pub no_owners : ModelOf → Row → Option Refusal
-no_owners m row = told (m.owner_required && (length row.potential_owners == 0)) refusal.NoOwners
+abbrev pub no_owners : TablesOf → ModelOf → Row → Option Refusal
+no_owners u m row = told (m.owner_required && (length (potential_owners_of u row) == 0)) refusal.NoOwners
 
 abbrev pub by_group : Row → Option Refusal
 by_group row = told row.by_group refusal.ByGroup
@@ -62,18 +63,18 @@ abbrev pub is_owner : DirectoryOf → Option ℕ → List ℕ → Bool
 is_owner d owner name = option_map_or (λ p. is_this p owner) (people.find name d) false
 
 -- the first of the names that is the actual owner's
-abbrev pub owned : DirectoryOf → Option ℕ → List (List ℕ) → Option Refusal
-owned d owner names = option_map refusal.Excluded (find (is_owner d owner) names)
+abbrev pub owner_named : DirectoryOf → Option ℕ → List (List ℕ) → Option Refusal
+owner_named d owner names = option_map refusal.Excluded (find (is_owner d owner) names)
 
 -- the task may be delegated to this person, by its model, whose assignment sees the task among all rows
-abbrev pub may_delegate : DirectoryOf → List Row → ModelOf → Row → ℕ → Delegation → Bool
-may_delegate d rows m row person delegation.Anybody = true
-may_delegate d rows m row person delegation.Nobody = false
-may_delegate d rows m row person delegation.PotentialOwners = has person row.potential_owners
-may_delegate d rows m row person delegation.Other = option_map_or (λ a. has person (resolved d (seen_in m rows row) a)) m.delegatees false
+abbrev pub may_delegate : TablesOf → ModelOf → Row → ℕ → Delegation → Bool
+may_delegate u m row person delegation.Anybody = true
+may_delegate u m row person delegation.Nobody = false
+may_delegate u m row person delegation.PotentialOwners = has person (potential_owners_of u row)
+may_delegate u m row person delegation.Other = option_map_or (λ a. has person (resolved (directory u) (seen_in m u.rows row) a)) m.delegatees false
 
-abbrev pub not_delegatee : DirectoryOf → List Row → ModelOf → Row → List ℕ → Option Refusal
-not_delegatee d rows m row name = option_map_or (λ p. told (not (may_delegate d rows m row p m.delegation)) (refusal.NotDelegatee name)) (people.find name d) None
+abbrev pub not_delegatee : TablesOf → ModelOf → Row → List ℕ → Option Refusal
+not_delegatee u m row name = option_map_or (λ p. told (not (may_delegate u m row p m.delegation)) (refusal.NotDelegatee name)) (people.find name (directory u)) None
 
 -- the part that the model doesn't declare of the output, or of whose kind the value isn't
 abbrev pub output_refused : DirectoryOf → ModelOf → Parts → Option Refusal
@@ -95,41 +96,42 @@ until_past at end = told (not (nat_lt at.0 (end_at at end).0)) refusal.UntilPast
 
 abbrev pub role_faults : DirectoryOf → ModelOf → Row → List (List ℕ) → RoleList → List (Option Refusal)
 role_faults d m row names list.PotentialOwners = ownerless m ∷ unknown_person d names ∷ excluded d row.excluded_owners names ∷ []
-role_faults d m row names list.ExcludedOwners = unknown_person d names ∷ owned d row.owner names ∷ []
+role_faults d m row names list.ExcludedOwners = unknown_person d names ∷ owner_named d row.owner names ∷ []
 role_faults d m row names list.Administrators = unknown_person d names ∷ []
 role_faults d m row names list.Stakeholders = unknown_person d names ∷ []
 
-abbrev pub faults : DirectoryOf → List Row → ModelOf → Moment → Row → Command → List (Option Refusal)
-faults d rows m at row (command.Create model input activate_at) = []
-faults d rows m at row command.Claim = []
-faults d rows m at row command.Start = []
-faults d rows m at row command.Stop = ownerless m ∷ []
-faults d rows m at row command.Release = ownerless m ∷ []
-faults d rows m at row (command.Delegate name) = ownerless m ∷ unknown_person d (name ∷ []) ∷ excluded d row.excluded_owners (name ∷ []) ∷ not_delegatee d rows m row name ∷ []
-faults d rows m at row (command.Forward names) = ownerless m ∷ by_group row ∷ unknown_person d names ∷ excluded d row.excluded_owners names ∷ []
-faults d rows m at row (command.Nominate names) = ownerless m ∷ unknown_person d names ∷ excluded d row.excluded_owners names ∷ []
-faults d rows m at row command.Activate = no_owners m row ∷ []
-faults d rows m at row (command.SetRole role names) = role_faults d m row names role
-faults d rows m at row (command.SetPriority priority) = []
-faults d rows m at row command.Suspend = []
-faults d rows m at row (command.SuspendUntil end) = until_past at end ∷ []
-faults d rows m at row command.Resume = []
-faults d rows m at row (command.SetOutput output) = output_refused d m output ∷ []
-faults d rows m at row (command.Complete output) = output_refused d m output ∷ []
-faults d rows m at row (command.Fail name) = []
-faults d rows m at row command.Skip = not_skipable m ∷ []
-faults d rows m at row command.Exit = []
-faults d rows m at row command.Error = []
-faults d rows m at row (command.AddComment text) = fully_commented row ∷ []
-faults d rows m at row (command.InstantiateSubTask sub) = []
+abbrev pub faults : TablesOf → ModelOf → Moment → Row → Command → List (Option Refusal)
+faults u m at row (command.Create model input activate_at) = []
+faults u m at row command.Claim = []
+faults u m at row command.Start = []
+faults u m at row command.Stop = ownerless m ∷ []
+faults u m at row command.Release = ownerless m ∷ []
+faults u m at row (command.Delegate name) = ownerless m ∷ unknown_person (directory u) (name ∷ []) ∷ excluded (directory u) row.excluded_owners (name ∷ []) ∷ not_delegatee u m row name ∷ []
+faults u m at row (command.Forward names) = ownerless m ∷ by_group row ∷ unknown_person (directory u) names ∷ excluded (directory u) row.excluded_owners names ∷ []
+faults u m at row (command.Nominate names) = ownerless m ∷ unknown_person (directory u) names ∷ excluded (directory u) row.excluded_owners names ∷ []
+faults u m at row command.Activate = no_owners u m row ∷ []
+faults u m at row (command.SetRole role names) = role_faults (directory u) m row names role
+faults u m at row (command.SetPriority priority) = []
+faults u m at row command.Suspend = []
+faults u m at row (command.SuspendUntil end) = until_past at end ∷ []
+faults u m at row command.Resume = []
+faults u m at row (command.SetOutput output) = output_refused (directory u) m output ∷ []
+faults u m at row (command.Complete output) = output_refused (directory u) m output ∷ []
+faults u m at row (command.Fail name) = []
+faults u m at row command.Skip = not_skipable m ∷ []
+faults u m at row command.Exit = []
+faults u m at row command.Error = []
+faults u m at row (command.AddComment text) = fully_commented row ∷ []
+faults u m at row (command.InstantiateSubTask sub) = []
 
-abbrev pub first_fault : List (Option Refusal) → Option Refusal
-first_fault [] = None
-first_fault (None ∷ fs) = first_fault fs
-first_fault (Some why ∷ fs) = Some why
+-- the first of these, if there is one
+abbrev pub first_of : List (Option Refusal) → Option Refusal
+first_of [] = None
+first_of (None ∷ fs) = first_of fs
+first_of (Some why ∷ fs) = Some why
 
-abbrev pub fault : DirectoryOf → List Row → ModelOf → Moment → Row → Command → Option Refusal
-fault d rows m at row c = first_fault (faults d rows m at row c)
+abbrev pub fault : TablesOf → ModelOf → Moment → Row → Command → Option Refusal
+fault u m at row c = first_of (faults u m at row c)
 
 -- ---- behind what a command sets
 

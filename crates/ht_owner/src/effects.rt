@@ -39,7 +39,7 @@ pub(crate) fn effect(
     requires row { Fits tables.now.tables row.old }
     requires model { tables_of.model_of tables.now.tables row.old ≡ Some (model_of model.now) }
     requires kinds { IsKinded model.now }
-    ensures { Gives (spec.effect (directory tables.now.tables) (planned tables.now.tables plan.now).rows (model_of model.now) caller at command.now row.old) row.new result }
+    ensures { Gives (spec.effect (planned tables.now.tables plan.now) (model_of model.now) caller at command.now row.old) row.new result }
 {
     if let Some(refusal) = fault(alloc, tables, plan, model, at, row, command)? {
         return Err(ActRefusal::Refused(refusal));

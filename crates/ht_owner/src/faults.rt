@@ -5,7 +5,7 @@ ghost use Rattle.ht_owner.specs.Faults as spec;
 ghost use Rattle.ht_tree.specs.Plans.{IsPlanOf, planned};
 ghost use Rattle.ht_tree.specs.Soundness.{Fits, IsSound};
 ghost use Rattle.ht_tree.specs.Tables as tables_of;
-ghost use Rattle.ht_tree.specs.Tables.{directory};
+ghost use Rattle.ht_tree.specs.Tables.{directory, TablesOf};
 
 use crate::suspending::end_at;
 use ht_base::{
@@ -36,7 +36,7 @@ pub(crate) fn fault(
     requires row { Fits tables.now.tables row.now }
     requires model { tables_of.model_of tables.now.tables row.now ≡ Some (model_of model.now) }
     requires kinds { IsKinded model.now }
-    ensures { IfOk result (λ o. o ≡ spec.fault (directory tables.now.tables) (planned tables.now.tables plan.now).rows (model_of model.now) at row.now command.now) }
+    ensures { IfOk result (λ o. o ≡ spec.fault (planned tables.now.tables plan.now) (model_of model.now) at row.now command.now) }
 {
     let people = tables.people();
     let excluded_owners = &row.excluded_owners;
@@ -89,7 +89,7 @@ fn role_fault(
     role: RoleList,
     names: &[Name],
 ) -> Option<Refusal>
-    ensures { result ≡ spec.first_fault (spec.role_faults people.now (model_of model.now) row.now names.now role) }
+    ensures { result ≡ spec.first_of (spec.role_faults people.now (model_of model.now) row.now names.now role) }
 {
     match role {
         RoleList::PotentialOwners => first(&[
@@ -97,7 +97,9 @@ fn role_fault(
             unknown(people, names),
             excluded(people, &row.excluded_owners, names),
         ]),
-        RoleList::ExcludedOwners => { first(&[unknown(people, names), owned(people, row, names)]) }
+        RoleList::ExcludedOwners => {
+            first(&[unknown(people, names), owner_named(people, row, names)])
+        }
         RoleList::Administrators => first(&[unknown(people, names)]),
         RoleList::Stakeholders => first(&[unknown(people, names)]),
     }
@@ -105,7 +107,7 @@ fn role_fault(
 
 // The first of these faults that there is.
 fn first(faults: &[Option<Refusal>]) -> Option<Refusal>
-    ensures { result ≡ spec.first_fault faults.now }
+    ensures { result ≡ spec.first_of faults.now }
 {
     for fault in faults {
         if let Some(refusal) = fault {
@@ -126,7 +128,7 @@ fn ownerless(model: &Model) -> Option<Refusal>
 }
 
 fn no_owners(model: &Model, row: &Row) -> Option<Refusal>
-    ensures { result ≡ spec.no_owners (model_of model.now) row.now }
+    ensures { (u : TablesOf) → result ≡ spec.no_owners u (model_of model.now) row.now }
 {
     if model.owner_required && row.potential_owners.as_slice().is_empty() {
         Some(Refusal::NoOwners)
@@ -240,8 +242,8 @@ fn is_among(people: &Directory, persons: &Persons, name: Name) -> bool
 }
 
 // The first of the names that is the actual owner's.
-fn owned(people: &Directory, row: &Row, names: &[Name]) -> Option<Refusal>
-    ensures { result ≡ spec.owned people.now row.now.owner names.now }
+fn owner_named(people: &Directory, row: &Row, names: &[Name]) -> Option<Refusal>
+    ensures { result ≡ spec.owner_named people.now row.now.owner names.now }
 {
     for name in names {
         if is_owner(people, row, *name) {
@@ -274,7 +276,7 @@ fn not_delegatee(
     requires row { Fits tables.now.tables row.now }
     requires model { tables_of.model_of tables.now.tables row.now ≡ Some (model_of model.now) }
     requires kinds { IsKinded model.now }
-    ensures { IfOk result (λ o. o ≡ spec.not_delegatee (directory tables.now.tables) (planned tables.now.tables plan.now).rows (model_of model.now) row.now name) }
+    ensures { IfOk result (λ o. o ≡ spec.not_delegatee (planned tables.now.tables plan.now) (model_of model.now) row.now name) }
 {
     let Some(person) = tables.people().find(name) else {
         return Ok(None);
@@ -300,7 +302,7 @@ fn may_delegate(
     requires row { Fits tables.now.tables row.now }
     requires model { tables_of.model_of tables.now.tables row.now ≡ Some (model_of model.now) }
     requires kinds { IsKinded model.now }
-    ensures { IfOk result (λ may. may ≡ spec.may_delegate (directory tables.now.tables) (planned tables.now.tables plan.now).rows (model_of model.now) row.now person model.now.delegation) }
+    ensures { IfOk result (λ may. may ≡ spec.may_delegate (planned tables.now.tables plan.now) (model_of model.now) row.now person model.now.delegation) }
 {
     match model.delegation {
         Delegation::Anybody => Ok(true),

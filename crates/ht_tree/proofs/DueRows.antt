@@ -12,7 +12,7 @@ use Rattle.ht_base.specs.declared.moment.Moment.{Moment}
 use Rattle.ht_base.specs.Persons as persons
 use Rattle.ht_due.specs.declared.due.Due.{Due}
 use Rattle.ht_due.specs.Dues.{Ascends, compare_dues, has}
-use Rattle.ht_due.proofs.PublicLaws.{exact, itself}
+use Rattle.ht_due.proofs.PublicLaws.{exact, itself, has_append, has_in_order, in_order_ascends}
 use Rattle.ht_entries.specs.declared.deadlines.DeadlineKind.{DeadlineKind}
 use Rattle.ht_entries.specs.declared.deadlines.DeadlineKind.TheVariants.{Start, Completion}
 use Rattle.ht_models.specs.Model.{DeadlineOf, ModelOf}
@@ -22,7 +22,7 @@ use Rattle.ht_tree.specs.Soundness.{IsSound}
 use Rattle.ht_tree.specs.RowDues.{all_dues, changed_dues, deadline_as, deadline_due, deadline_dues, deadline_moment, deadlines_of, due_of, is_obsolete, kind_of, moment_as, open_moment, row_dues, task_dues}
 use Rattle.ht_tree.specs.Rows.{row_at}
 use Rattle.ht_tree.specs.Tables.{TablesOf}
-use Rattle.ht_tree.proofs.DuesInStep.{Numbered, has_append, has_flat, has_in_order, in_order_ascends, kept_or_new, new_there, not_of_task, or_false}
+use Rattle.ht_tree.proofs.DuesInStep.{Numbered, has_flat, kept_or_new, new_there, not_of_task, or_false}
 use Rattle.ht_tree.proofs.Sounding.{within}
 
 -- ---- of all rows

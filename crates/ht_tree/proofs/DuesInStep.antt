@@ -2,7 +2,7 @@
 use Rattle.std.proofs.Common.{◌≡◌, ℕ, ◌+◌, ◌<◌, ◌==◌, zero, suc, Bool, true, false, if◌then◌else◌, List, [], ◌∷◌, ◌++◌, fold, Option, Some, None, is_some, refl, sym, ap, subst, ◌∙◌, inl, inr, arith, ◌||◌, ◌&&◌, not, eq-eqb}
 use Rattle.std.specs.Prelude.{slice_get}
 use Rattle.std.specs.List.{flat_map}
-use Rattle.std.specs.Option.{option_map_or}
+use Rattle.std.specs.Option.{option_map_or, option_or}
 use Rattle.std.specs.Ordering.{is_eq}
 use Rattle.std.specs.declared.cmp.Ordering.{Ordering}
 use Rattle.std.specs.declared.cmp.Ordering.TheVariants.{Less, Equal, Greater}
@@ -10,39 +10,21 @@ use Rattle.std.proofs.lemmas.Bool.{and_parts, cases_eq, eqb-true}
 use Rattle.std.proofs.lemmas.Bool.Decides.{nat_tests}
 use Rattle.ht_base.specs.declared.moment.Moment.{Moment}
 use Rattle.ht_due.specs.declared.due.Due.{Due}
-use Rattle.ht_due.specs.Dues.{AreNew, Ascends, compare_dues, has, merged}
-use Rattle.ht_due.proofs.PublicLaws.{ascends_all_put, ascends_merged, exact, has_all_put, has_merged, same_dues}
+use Rattle.ht_due.specs.Dues.{AreNew, Ascends, compare_dues, has, merged, in_order}
+use Rattle.ht_due.proofs.PublicLaws.{ascends_merged, exact, has_append, has_in_order, has_merged, in_order_ascends, ordered}
 use Rattle.ht_models.specs.Model.{DeadlineOf, ModelOf}
 use Rattle.ht_tree.specs.declared.row.Row.{Row}
-use Rattle.ht_tree.specs.Places.{last_of, later_or}
+use Rattle.ht_tree.specs.Places.{last_of}
 use Rattle.ht_tree.specs.Plans.{AreDuesPrepared, Follow, IsPlanOf, PlanOf, committed, planned}
-use Rattle.ht_tree.specs.RowDues.{all_dues, changed_dues, deadline_due, deadline_dues, deadlines_of, due_of, in_order, kind_of, open_moment, row_dues, task_dues}
+use Rattle.ht_tree.specs.RowDues.{all_dues, changed_dues, deadline_due, deadline_dues, deadlines_of, due_of, kind_of, open_moment, row_dues, task_dues}
 use Rattle.ht_tree.specs.Rows.{put_in, row_at}
 use Rattle.ht_tree.specs.Soundness.{IsSound}
 use Rattle.ht_tree.specs.Tables.{RoomyTables, TablesOf}
 use Rattle.ht_tree.proofs.Putting.{row_at-fold}
 
-pub has_append : (q : Due) (xs ys : List Due) → has q (xs ++ ys) ≡ (has q xs || has q ys)
-has_append q [] ys = refl
-has_append q (x ∷ xs) ys = ap (λ b. is_eq (compare_dues q x) || b) (has_append q xs ys) ∙ turn (is_eq (compare_dues q x)) (has q xs) (has q ys)
-  where
-    turn : (a b c : Bool) → (a || (b || c)) ≡ ((a || b) || c)
-    turn true b c = refl
-    turn false b c = refl
-
 pub or_false : (b : Bool) → (b || false) ≡ b
 or_false true = refl
 or_false false = refl
-
-pub has_in_order : (q : Due) (ds : List Due) → has q (in_order ds) ≡ has q ds
-has_in_order q ds = has_all_put q [] ds ∙ or_false (has q ds)
-
-pub in_order_ascends : (ds : List Due) → Ascends (in_order ds)
-in_order_ascends ds = ascends_all_put [] ds tt
-
--- dues that were put in order
-pub ordered : (xs ds : List Due) → Ascends xs → ((q : Due) → has q xs ≡ has q ds) → xs ≡ in_order ds
-ordered xs ds up same = same_dues xs (in_order ds) up (in_order_ascends ds) (λ q. same q ∙ sym (has_in_order q ds))
 
 -- ---- the dues of a row are of its task
 
@@ -133,11 +115,11 @@ has_changed models rows (p ∷ puts) q numbered =
           ap (λ n. has q (task_dues models rows n) || (is_some last && own)) e
           ∙ itself (is_some last) own
           ∙ ap (λ b. b && own) (sym (later_some last))
-          ∙ ap (λ (b : Bool). is_some (later_or last (if b then Some p else None)) && own) (sym (eq-eqb p.task.0 q.task.0 e))
+          ∙ ap (λ (b : Bool). is_some (option_or last (if b then Some p else None)) && own) (sym (eq-eqb p.task.0 q.task.0 e))
       | inr d ↦
           ap (λ b. b || (is_some last && own)) (not_of_task models rows q p.task.0 numbered d)
           ∙ ap (λ b. b && own) (sym (later_none last))
-          ∙ ap (λ (b : Bool). is_some (later_or last (if b then Some p else None)) && own) (sym (apart p.task.0 q.task.0 d))
+          ∙ ap (λ (b : Bool). is_some (option_or last (if b then Some p else None)) && own) (sym (apart p.task.0 q.task.0 d))
     ]
   where
     own : Bool
@@ -155,11 +137,11 @@ has_changed models rows (p ∷ puts) q numbered =
     itself false true = refl
     itself false false = refl
 
-    later_some : (o : Option Row) → is_some (later_or o (Some p)) ≡ true
+    later_some : (o : Option Row) → is_some (option_or o (Some p)) ≡ true
     later_some None = refl
     later_some (Some r) = refl
 
-    later_none : (o : Option Row) → is_some (later_or o None) ≡ is_some o
+    later_none : (o : Option Row) → is_some (option_or o None) ≡ is_some o
     later_none None = refl
     later_none (Some r) = refl
 
@@ -188,7 +170,7 @@ module _ (t : TablesOf) (puts : List Row) (follow : Follow t t.rows puts) (befor
   kept : (q : Due) → is_some (last_of q.task.0 puts) ≡ false → has q (task_dues t.models t.rows q.task.0) ≡ has q (task_dues t.models rows_after q.task.0)
   kept q none = ap (λ (o : Option Row). has q (option_map_or (row_dues t.models) o [])) (sym (row_at-fold t t.rows puts q.task.0 follow ∙ not_put (last_of q.task.0 puts) none))
     where
-      not_put : (o : Option Row) → is_some o ≡ false → later_or o (row_at q.task.0 t.rows) ≡ row_at q.task.0 t.rows
+      not_put : (o : Option Row) → is_some o ≡ false → option_or o (row_at q.task.0 t.rows) ≡ row_at q.task.0 t.rows
       not_put None e = refl
       not_put (Some r) e = cc
 
@@ -246,7 +228,7 @@ last_number : (puts : List Row) (task : ℕ) (row : Row) → last_of task puts �
 last_number [] task row at = cc
 last_number (p ∷ puts) task row at = here (last_of task puts) (p.task.0 == task) refl at (λ e. last_number puts task row e)
   where
-    here : (o : Option Row) (b : Bool) → (p.task.0 == task) ≡ b → later_or o (if b then Some p else None) ≡ Some row → (o ≡ Some row → row.task.0 ≡ task) → row.task.0 ≡ task
+    here : (o : Option Row) (b : Bool) → (p.task.0 == task) ≡ b → option_or o (if b then Some p else None) ≡ Some row → (o ≡ Some row → row.task.0 ≡ task) → row.task.0 ≡ task
     here (Some r) b is e rest = rest e
     here None true is e rest = let same : p ≡ row = cc in sym (ap (λ (r : Row). r.task.0) same) ∙ eqb-true p.task.0 task is
     here None false is e rest = cc
@@ -254,7 +236,7 @@ last_number (p ∷ puts) task row at = here (last_of task puts) (p.task.0 == tas
 pub numbered_after : (t : TablesOf) (puts : List Row) → Follow t t.rows puts → Numbered t.rows → Numbered (fold put_in t.rows puts)
 numbered_after t puts follow before task row at = here (last_of task puts) refl (sym (row_at-fold t t.rows puts task follow) ∙ at)
   where
-    here : (o : Option Row) → last_of task puts ≡ o → later_or o (row_at task t.rows) ≡ Some row → row.task.0 ≡ task
+    here : (o : Option Row) → last_of task puts ≡ o → option_or o (row_at task t.rows) ≡ Some row → row.task.0 ≡ task
     here (Some r) is e = last_number puts task row (is ∙ e)
     here None is e = before task row e
 

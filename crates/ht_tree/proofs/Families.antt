@@ -8,13 +8,13 @@ use Rattle.ht_base.proofs.PublicLaws.{found_there}
 use Rattle.ht_base.specs.declared.task_id.TaskId.{TaskId}
 use Rattle.ht_models.specs.Model.{ModelOf, names}
 use Rattle.ht_entries.specs.SubEntries.{SubEntry}
-use Rattle.ht_models.specs.TreeSizes.{entries_size, entry_size}
+use Rattle.ht_models.specs.TreeSizes.{entries_size, entry_size, size_at}
 use Rattle.ht_tree.specs.declared.row.Row.{Row}
 use Rattle.ht_base.specs.State.{is_final}
 use Rattle.ht_tree.specs.Families.{AreFamilies, HaveEndedBelow, IsNewSub, IsOfEntry, is_made, is_of_entry, model_of_entry, parent_at, to_come, to_come_from, to_come_in, to_come_of}
 use Rattle.ht_tree.specs.Plans.{IsNext, Replaces}
-use Rattle.ht_tree.specs.Rows.{put_in, row_at}
-use Rattle.ht_tree.specs.Sizes.{size_of, size_under, top_size, total_size}
+use Rattle.ht_tree.specs.Rows.{model_in, put_in, row_at}
+use Rattle.ht_tree.specs.Sizes.{size_under, top_size, total_size}
 use Rattle.ht_tree.proofs.Counting.{total_push}
 use Rattle.ht_tree.proofs.Putting.{put_old, row_at-put_in}
 
@@ -56,8 +56,8 @@ from_alike models xs ys a task place (entry ∷ entries) =
 of_alike : (models : List ModelOf) (xs ys : List Row) → Alike xs ys → (x y : Row) → standing x ≡ standing y → to_come_of models xs x ≡ to_come_of models ys y
 of_alike models xs ys a x y h =
     ap (λ (k : ℕ). option_map_or (λ (m : ModelOf). to_come_from models xs x.task.0 0 m.subs) (slice_get models k) 0) (model_of x y h)
-    ∙ ap (λ (n : ℕ). option_map_or (λ (m : ModelOf). to_come_from models xs n 0 m.subs) (slice_get models y.model) 0) (task_of x y h)
-    ∙ go (slice_get models y.model)
+    ∙ ap (λ (n : ℕ). option_map_or (λ (m : ModelOf). to_come_from models xs n 0 m.subs) (model_in models y) 0) (task_of x y h)
+    ∙ go (model_in models y)
   where
     go : (o : Option ModelOf) → option_map_or (λ (m : ModelOf). to_come_from models xs y.task.0 0 m.subs) o 0 ≡ option_map_or (λ (m : ModelOf). to_come_from models ys y.task.0 0 m.subs) o 0
     go None = refl
@@ -80,7 +80,7 @@ to_come_alike models xs ys a = in_alike models xs ys a xs ys a
 -- ---- what stays of them
 
 same_size : (models : List ModelOf) (x y : Row) (p q : Option (TaskId × ℕ)) → p ≡ q → x.model ≡ y.model → size_under models x p ≡ size_under models y q
-same_size models x y None None e m = ap (λ (k : ℕ). size_of models k) m
+same_size models x y None None e m = ap (λ (k : ℕ). size_at models k) m
 same_size models x y None (Some q) e m = absurd cc
 same_size models x y (Some p) None e m = absurd cc
 same_size models x y (Some p) (Some q) e m = refl
@@ -132,20 +132,20 @@ parent_alike xs ys a task = of_standing (row_at task xs) (row_at task ys) (at_al
     of_standing (Some x) None e = absurd cc
     of_standing (Some x) (Some y) e = parent_of x y (let h : standing x ≡ standing y = cc in h)
 
-entry_alike : (models : List ModelOf) (xs ys : List Row) → Alike xs ys → (x y : Row) → standing x ≡ standing y → IfSome x.parent (IsOfEntry models xs x.model) → IfSome y.parent (IsOfEntry models ys y.model)
+entry_alike : (models : List ModelOf) (xs ys : List Row) → Alike xs ys → (x y : Row) → standing x ≡ standing y → IfSome x.parent (IsOfEntry models xs (model_in models x)) → IfSome y.parent (IsOfEntry models ys (model_in models y))
 entry_alike models xs ys a x y h e =
-    let P : Option (TaskId × ℕ) → Type 0 = λ o. IfSome o (IsOfEntry models ys y.model) in
-    let Q : ℕ → Type 0 = λ m. IfSome x.parent (IsOfEntry models ys m) in
+    let P : Option (TaskId × ℕ) → Type 0 = λ o. IfSome o (IsOfEntry models ys (model_in models y)) in
+    let Q : ℕ → Type 0 = λ m. IfSome x.parent (IsOfEntry models ys (slice_get models m)) in
     subst P (parent_of x y h) (subst Q (model_of x y h) (go x.parent e))
   where
-    go : (o : Option (TaskId × ℕ)) → IfSome o (IsOfEntry models xs x.model) → IfSome o (IsOfEntry models ys x.model)
+    go : (o : Option (TaskId × ℕ)) → IfSome o (IsOfEntry models xs (model_in models x)) → IfSome o (IsOfEntry models ys (model_in models x))
     go None e = tt
     go (Some p) e =
         let there = there_alike ys xs (sym a) p.0.0 e.above e.there in
         record {
           above = there.0;
           there = there.1;
-          named = ap (λ (k : ℕ). model_of_entry models k p.1) (model_of there.0 e.above there.2) ∙ e.named;
+          named = ap (λ (k : ℕ). model_of_entry (slice_get models k) p.1) (model_of there.0 e.above there.2) ∙ e.named;
         }
 
 pub families_alike : (models : List ModelOf) (xs ys : List Row) → AreFamilies models xs → Alike xs ys → HaveEndedBelow ys → AreFamilies models ys
@@ -242,7 +242,7 @@ from_le models rows row task place (entry ∷ entries) =
     rw (made_push task place rows row) (omega (arith, h, i))
 
 of_le : (models : List ModelOf) (rows : List Row) (row x : Row) → to_come_of models (rows ++ row ∷ []) x ≤ to_come_of models rows x
-of_le models rows row x = go (slice_get models x.model)
+of_le models rows row x = go (model_in models x)
   where
     go : (o : Option ModelOf) → option_map_or (λ (m : ModelOf). to_come_from models (rows ++ row ∷ []) x.task.0 0 m.subs) o 0 ≤ option_map_or (λ (m : ModelOf). to_come_from models rows x.task.0 0 m.subs) o 0
     go None = omega arith
@@ -284,7 +284,7 @@ from_less models rows row task e k (suc j) entry (x ∷ entries) of made at is =
     let l = from_less models rows row task e (suc k) j entry entries of made at (omega arith) in
     rw (made_push task k rows row) (omega (arith, h, l))
 
-pub of_less : (models : List ModelOf) (rows : List Row) (row above : Row) (m : ModelOf) (e : ℕ) (entry : SubEntry) → slice_get models above.model ≡ Some m → is_of_entry above.task.0 e row ≡ true → is_made above.task.0 e rows ≡ false → slice_get m.subs e ≡ Some entry → to_come_of models (rows ++ row ∷ []) above + entry_size models entry ≤ to_come_of models rows above
+pub of_less : (models : List ModelOf) (rows : List Row) (row above : Row) (m : ModelOf) (e : ℕ) (entry : SubEntry) → model_in models above ≡ Some m → is_of_entry above.task.0 e row ≡ true → is_made above.task.0 e rows ≡ false → slice_get m.subs e ≡ Some entry → to_come_of models (rows ++ row ∷ []) above + entry_size models entry ≤ to_come_of models rows above
 of_less models rows row above m e entry known of made at = rw known (from_less models rows row above.task.0 e 0 e entry m.subs of made at (omega arith))
 
 pub in_less : (models : List ModelOf) (rows : List Row) (row above : Row) (n i : ℕ) (more : List Row) → to_come_of models (rows ++ row ∷ []) above + n ≤ to_come_of models rows above → slice_get more i ≡ Some above → to_come_in models (rows ++ row ∷ []) more + n ≤ to_come_in models rows more
@@ -309,7 +309,7 @@ from_small models rows task place (entry ∷ entries) = let h = here (is_made ta
     here true = omega arith
     here false = omega arith
 
-pub new_small : (models : List ModelOf) (rows : List Row) (row : Row) (m : ModelOf) → slice_get models row.model ≡ Some m → m.size ≡ 1 + entries_size models m.subs → to_come_of models rows row + 1 ≤ size_of models row.model
+pub new_small : (models : List ModelOf) (rows : List Row) (row : Row) (m : ModelOf) → model_in models row ≡ Some m → m.size ≡ 1 + entries_size models m.subs → to_come_of models rows row + 1 ≤ size_at models row.model
 new_small models rows row m known counted = rw known (let small = from_small models rows row.task.0 0 m.subs in omega (arith, small, counted))
 
 -- ---- which rows are there then
@@ -362,15 +362,15 @@ made_by rows zero p at = absurd cc
 made_by rows (suc i) p at = let r = row_of_parent rows (suc i) p at in made_at rows i r.0 p.0.0 p.1 r.1 (of_itself p.0.0 p.1 r.0 p.0 r.2 refl)
 
 -- an entry stays what it is
-entry_behind : (models : List ModelOf) (rows : List Row) (row : Row) (model : ℕ) (o : Option (TaskId × ℕ)) → IfSome o (IsOfEntry models rows model) → IfSome o (IsOfEntry models (rows ++ row ∷ []) model)
+entry_behind : (models : List ModelOf) (rows : List Row) (row : Row) (model : Option ModelOf) (o : Option (TaskId × ℕ)) → IfSome o (IsOfEntry models rows model) → IfSome o (IsOfEntry models (rows ++ row ∷ []) model)
 entry_behind models rows row model None e = tt
 entry_behind models rows row model (Some p) e = record { above = e.above; there = still_there rows row e.above p.0.0 e.there; named = e.named }
 
 -- the row of a parent was there
-above_there : (models : List ModelOf) (rows : List Row) (row r above : Row) (p : TaskId × ℕ) → IfSome r.parent (IsOfEntry models rows r.model) → r.parent ≡ Some p → row_at p.0.0 (rows ++ row ∷ []) ≡ Some above → row_at p.0.0 rows ≡ Some above
+above_there : (models : List ModelOf) (rows : List Row) (row r above : Row) (p : TaskId × ℕ) → IfSome r.parent (IsOfEntry models rows (model_in models r)) → r.parent ≡ Some p → row_at p.0.0 (rows ++ row ∷ []) ≡ Some above → row_at p.0.0 rows ≡ Some above
 above_there models rows row r above p e parent at =
-    let P : Option (TaskId × ℕ) → Type 0 = λ o. IfSome o (IsOfEntry models rows r.model) in
-    let f : IsOfEntry models rows r.model p = subst P parent e in
+    let P : Option (TaskId × ℕ) → Type 0 = λ o. IfSome o (IsOfEntry models rows (model_in models r)) in
+    let f : IsOfEntry models rows (model_in models r) p = subst P parent e in
     let same : Some f.above ≡ Some above = sym (still_there rows row f.above p.0.0 f.there) ∙ at in
     f.there ∙ same
 
@@ -390,9 +390,9 @@ no_parent rows row top task p at =
 pub families_push_top : (models : List ModelOf) (rows : List Row) (row : Row) → AreFamilies models rows → row.parent ≡ None → to_come_of models (rows ++ row ∷ []) row + 1 ≤ top_size models row → AreFamilies models (rows ++ row ∷ [])
 families_push_top models rows row f top small = record {
   entries = λ task r at. elim (behind_is rows row r task at) [
-    | inl h ↦ entry_behind models rows row r.model r.parent (f.entries task r h)
+    | inl h ↦ entry_behind models rows row (model_in models r) r.parent (f.entries task r h)
     | inr h ↦
-        let P : Option (TaskId × ℕ) → Type 0 = λ o. IfSome o (IsOfEntry models (rows ++ row ∷ []) r.model) in
+        let P : Option (TaskId × ℕ) → Type 0 = λ o. IfSome o (IsOfEntry models (rows ++ row ∷ []) (model_in models r)) in
         subst P (sym top ∙ ap (λ (x : Row). x.parent) h.1) tt
   ];
   made_once = λ a b p x y. f.made_once a b p (no_parent rows row top a p x) (no_parent rows row top b p y);
@@ -412,7 +412,7 @@ families_push_top models rows row f top small = record {
 -- ---- a sub task behind the others
 
 module _ (models : List ModelOf) (rows : List Row) (row : Row) (p : TaskId × ℕ) (f : AreFamilies models rows) (parent : row.parent ≡ Some p) (new : IsNewSub models rows row.model p) where
-  of_new_entry : IsOfEntry models (rows ++ row ∷ []) row.model p
+  of_new_entry : IsOfEntry models (rows ++ row ∷ []) (model_in models row) p
   of_new_entry =
       let there : slice_get (names models) row.model ≡ Some (new.entry).model = found_there (new.entry).model (names models) row.model new.named in
       record {
@@ -455,22 +455,22 @@ module _ (models : List ModelOf) (rows : List Row) (row : Row) (p : TaskId × �
   no_top : top_size models row ≡ 0
   no_top = ap (λ (o : Option (TaskId × ℕ)). size_under models row o) parent
 
-  less_to_come : (n : ℕ) → n ≡ p.0.0 → (new.above).task.0 ≡ p.0.0 → row_at n rows ≡ Some new.above → to_come_in models (rows ++ row ∷ []) rows + size_of models row.model ≤ to_come_in models rows rows
+  less_to_come : (n : ℕ) → n ≡ p.0.0 → (new.above).task.0 ≡ p.0.0 → row_at n rows ≡ Some new.above → to_come_in models (rows ++ row ∷ []) rows + size_at models row.model ≤ to_come_in models rows rows
   less_to_come zero e number at = absurd cc
   less_to_come (suc i) e number at =
       let of : is_of_entry (new.above).task.0 p.1 row ≡ true = of_itself (new.above).task.0 p.1 row p.0 parent (sym number) in
       let made : is_made (new.above).task.0 p.1 rows ≡ false = ap (λ (k : ℕ). is_made k p.1 rows) number ∙ new.not_made in
-      let size : entry_size models new.entry ≡ size_of models row.model = ap (λ (o : Option ℕ). option_map_or (size_of models) o 0) new.named in
+      let size : entry_size models new.entry ≡ size_at models row.model = ap (λ (o : Option ℕ). option_map_or (size_at models) o 0) new.named in
       let P : ℕ → Type 0 = λ n. to_come_in models (rows ++ row ∷ []) rows + n ≤ to_come_in models rows rows in
       subst P size (in_less models rows row new.above (entry_size models new.entry) i rows (of_less models rows row new.above new.of_model p.1 new.entry new.known of made new.listed) at)
 
-  pub families_push_sub : (new.above).task.0 ≡ p.0.0 → to_come_of models (rows ++ row ∷ []) row + 1 ≤ size_of models row.model → AreFamilies models (rows ++ row ∷ [])
+  pub families_push_sub : (new.above).task.0 ≡ p.0.0 → to_come_of models (rows ++ row ∷ []) row + 1 ≤ size_at models row.model → AreFamilies models (rows ++ row ∷ [])
   families_push_sub number small = record {
     entries = λ task r at. elim (behind_is rows row r task at) [
-      | inl h ↦ entry_behind models rows row r.model r.parent (f.entries task r h)
+      | inl h ↦ entry_behind models rows row (model_in models r) r.parent (f.entries task r h)
       | inr h ↦
-          let P : Row → Type 0 = λ x. IfSome x.parent (IsOfEntry models (rows ++ row ∷ []) x.model) in
-          let Q : Option (TaskId × ℕ) → Type 0 = λ o. IfSome o (IsOfEntry models (rows ++ row ∷ []) row.model) in
+          let P : Row → Type 0 = λ x. IfSome x.parent (IsOfEntry models (rows ++ row ∷ []) (model_in models x)) in
+          let Q : Option (TaskId × ℕ) → Type 0 = λ o. IfSome o (IsOfEntry models (rows ++ row ∷ []) (model_in models row)) in
           subst P h.1 (subst Q (sym parent) of_new_entry)
     ];
     made_once = once;

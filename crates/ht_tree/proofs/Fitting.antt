@@ -2,7 +2,7 @@
 use Rattle.std.proofs.Common.{◌==◌, if◌then◌else◌, ◌≡◌, ℕ, ◌+◌, ◌<◌, ◌≤◌, zero, suc, Bool, true, false, cond, List, [], ◌∷◌, length, filter, fold, Option, Some, None, IfSome, Bor, refl, sym, ◌∙◌, subst, arith}
 use Rattle.std.specs.List.{range_with_len}
 use Rattle.std.specs.Prelude.{pos, negsuc, slice_get}
-use Rattle.std.specs.Option.{option_map_or}
+use Rattle.std.specs.Option.{option_map_or, option_or}
 use Rattle.ht_base.specs.declared.moment.Moment.{Moment}
 use Rattle.ht_base.specs.declared.state.State.TheVariants.{Created}
 use Rattle.ht_base.specs.declared.task_id.TaskId.{TaskId}
@@ -16,14 +16,15 @@ use Rattle.ht_tree.specs.declared.comments.Comment.{Comment}
 use Rattle.std.specs.List.{All}
 use Rattle.ht_tree.specs.Creating.{IsInput, bare_row, level_of, new_row, parent_row, role_or, seen, with_priority}
 use Rattle.ht_tree.specs.Plans.{Follow, IsPlanOf, PlanOf, planned}
-use Rattle.ht_tree.specs.Places.{emptied, last_of, later_or}
+use Rattle.ht_tree.specs.Places.{emptied, last_of}
 use Rattle.ht_tree.specs.Rows.{put_in, row_at}
 use Rattle.ht_base.specs.Persons.{AllBelow, Ascends}
 use Rattle.ht_base.specs.Moment.{last_moment}
 use Rattle.ht_tree.specs.Soundness.{AreKnown, Fits, FitsIn, IsFiled, IsHeldBy, IsSound, IsSoundIn, IsSoundRow, IsWhose, needs_owner}
 use Rattle.ht_tree.specs.Tables.{TablesOf, administrators_of, stakeholders_of, task_row}
 use Rattle.ht_tree.proofs.Putting.{row_at-put_in}
-use Rattle.ht_tree.proofs.Selecting.{selected_apart, selected_ascends}
+use Rattle.ht_tree.proofs.Excluding.{none_excluded}
+use Rattle.ht_tree.proofs.Selecting.{selected_ascends}
 
 -- whoever is selected is a person
 selected_persons : (t : TablesOf) (test : ℕ → Bool) (from n : ℕ) → from + n ≤ length t.people.persons → AllBelow (length t.people.persons) (filter test (range_with_len from n))
@@ -113,7 +114,7 @@ inherited_persons : (t : TablesOf) (role : Row → List ℕ) (above : Option Row
 inherited_persons t role None all = tt
 inherited_persons t role (Some r) all = all
 
-new_known : (t : TablesOf) (m : ModelOf) (s : Sight) (parent : Option (TaskId × ℕ)) (initiator : ℕ) → initiator < length t.people.persons → IfSome (parent_row t parent) (Fits t) → AreKnown (length t.people.persons) initiator None (potential_owners t.people s m.potential_owners m.excluded_owners) (resolved t.people s m.excluded_owners) (role_or t.people s m.administrators (option_map_or (administrators_of t) (parent_row t parent) [])) (role_or t.people s m.stakeholders (option_map_or (stakeholders_of t) (parent_row t parent) []))
+new_known : (t : TablesOf) (m : ModelOf) (s : Sight) (parent : Option (TaskId × ℕ)) (initiator : ℕ) → initiator < length t.people.persons → IfSome (parent_row t parent) (Fits t) → AreKnown (length t.people.persons) initiator None (potential_owners t.people s m.potential_owners (resolved t.people s m.excluded_owners)) (resolved t.people s m.excluded_owners) (role_or t.people s m.administrators (option_map_or (administrators_of t) (parent_row t parent) [])) (role_or t.people s m.stakeholders (option_map_or (stakeholders_of t) (parent_row t parent) []))
 new_known t m s parent initiator person above = record {
   initiator = person;
   last_owner = tt;
@@ -163,13 +164,13 @@ new_row_sound t m model parent initiator input waits at known person below above
   held = held_new (length t.people.persons) (slice_get t.models model) input given;
   who = record {
     known = new_known t m (at_creation t m model parent initiator input waits at) parent initiator person (fits (parent_row t parent) above);
-    apart = selected_apart _ _ (length t.people.persons);
+    apart = none_excluded t.people (at_creation t m model parent initiator input waits at) m.potential_owners (resolved t.people (at_creation t m model parent initiator input waits at) m.excluded_owners);
     potential_ascend = selected_ascends _ (length t.people.persons);
     excluded_ascend = selected_ascends _ (length t.people.persons);
     administrators_ascend = inherited_ascend (administrators_of t) t (at_creation t m model parent initiator input waits at) m.administrators (parent_row t parent) (admins (parent_row t parent) above);
     stakeholders_ascend = inherited_ascend (stakeholders_of t) t (at_creation t m model parent initiator input waits at) m.stakeholders (parent_row t parent) (holders (parent_row t parent) above);
   };
-  whose = nobody_owns (length t.people.persons) (needs_owner t.models model) _;
+  whose = nobody_owns (length t.people.persons) (needs_owner (slice_get t.models model)) _;
   when = record { waits = λ _. refl; until = λ h. absurd cc; created_within = early; waits_within = soon; until_within = tt };
   how = record { priority_within = level_low _; few = omega arith; known = no_comment _; moments_within = no_comment _; texts_within = no_comment _ };
 }
@@ -191,7 +192,7 @@ pub put_fits : (t : TablesOf) (rows puts : List Row) (task : ℕ) (row : Row) �
 put_fits t rows [] task row f at = cc
 put_fits t rows (p ∷ puts) task row f at = here (last_of task puts) (p.task.0 == task) at (λ r e. put_fits t (put_in rows p) puts task r f.2 e)
   where
-    here : (o : Option Row) (b : Bool) → later_or o (if b then Some p else None) ≡ Some row → ((r : Row) → o ≡ Some r → Fits t r) → Fits t row
+    here : (o : Option Row) (b : Bool) → option_or o (if b then Some p else None) ≡ Some row → ((r : Row) → o ≡ Some r → Fits t r) → Fits t row
     here (Some r) b e rest = let same : r ≡ row = cc in let P : Row → Type 0 = λ x. Fits t x in subst P same (rest r refl)
     here None true e rest = let same : p ≡ row = cc in let P : Row → Type 0 = λ x. Fits t x in subst P same f.1
     here None false e rest = cc

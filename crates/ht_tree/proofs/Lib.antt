@@ -5,8 +5,10 @@ mod Coming
 mod Counting
 mod DueRows
 mod DuesInStep
+mod Excluding
 mod Families
 mod FewSubs
+mod Filing
 mod Fitting
 mod HeldGiven
 mod InPlace

@@ -5,7 +5,8 @@ use Rattle.std.proofs.lemmas.Bool.Decides.{nat_tests}
 use Rattle.ht_base.specs.declared.task_id.TaskId.{TaskId}
 use Rattle.std.proofs.lemmas.List.{map_push, take_more}
 use Rattle.ht_tree.specs.declared.row.Row.{Row}
-use Rattle.ht_tree.specs.Places.{last_of, last_place, later_or, tasks_of}
+use Rattle.ht_tree.specs.Places.{last_of, last_place, tasks_of}
+use Rattle.std.specs.Option.{option_or}
 
 -- ---- of one more task
 
@@ -13,7 +14,7 @@ pub last_push : (task : ℕ) (ts : List ℕ) (t : ℕ) → last_place task (ts +
 last_push task [] t = refl
 last_push task (x ∷ ts) t = step (t == task) (last_place task (ts ++ t ∷ [])) (last_push task ts t)
   where
-    step : (b : Bool) (o : Option ℕ) → o ≡ cond b (Some (length ts)) (last_place task ts) → later_or (option_map suc o) (if x == task then Some 0 else None) ≡ cond b (Some (suc (length ts))) (later_or (option_map suc (last_place task ts)) (if x == task then Some 0 else None))
+    step : (b : Bool) (o : Option ℕ) → o ≡ cond b (Some (length ts)) (last_place task ts) → option_or (option_map suc o) (if x == task then Some 0 else None) ≡ cond b (Some (suc (length ts))) (option_or (option_map suc (last_place task ts)) (if x == task then Some 0 else None))
     step true o e = rw e refl
     step false o e = rw e refl
 
@@ -26,7 +27,7 @@ place_within task (t ∷ ts) i at = here (last_place task ts) refl at (λ j is. 
     first true e = let z : Some 0 ≡ Some i = e in cc
     first false e = cc
 
-    here : (o : Option ℕ) → last_place task ts ≡ o → later_or (option_map suc o) (if t == task then Some 0 else None) ≡ Some i → ((j : ℕ) → last_place task ts ≡ Some j → j < length ts) → i < suc (length ts)
+    here : (o : Option ℕ) → last_place task ts ≡ o → option_or (option_map suc o) (if t == task then Some 0 else None) ≡ Some i → ((j : ℕ) → last_place task ts ≡ Some j → j < length ts) → i < suc (length ts)
     here None is e rest = let zero_is = first (t == task) e in omega arith
     here (Some j) is e rest =
         let z : Some (suc j) ≡ Some i = e in
@@ -53,8 +54,8 @@ last_there task (r ∷ rows) o is = at (last_place task (tasks_of rows)) refl (l
     here false e none no_row = rw (e, no_row) refl
 
     at : (p : Option ℕ) → last_place task (tasks_of rows) ≡ p → MatchOption p (last_of task rows ≡ None) (λ i. (row : Row) × (slice_get rows i ≡ Some row) × (last_of task rows ≡ Some row) × (row.task.0 ≡ task)) → M o
-    at None e m = subst M (sym (ap (λ q. later_or (option_map suc q) (if r.task.0 == task then Some 0 else None)) e) ∙ is) (here (r.task.0 == task) refl e m)
-    at (Some i) e m = subst M (sym (ap (λ q. later_or (option_map suc q) (if r.task.0 == task then Some 0 else None)) e) ∙ is) (m.0, m.1, ap (λ q. later_or q (if r.task.0 == task then Some r else None)) m.2, m.3)
+    at None e m = subst M (sym (ap (λ q. option_or (option_map suc q) (if r.task.0 == task then Some 0 else None)) e) ∙ is) (here (r.task.0 == task) refl e m)
+    at (Some i) e m = subst M (sym (ap (λ q. option_or (option_map suc q) (if r.task.0 == task then Some 0 else None)) e) ∙ is) (m.0, m.1, ap (λ q. option_or q (if r.task.0 == task then Some r else None)) m.2, m.3)
 
 -- the last row of a task is one of it
 pub last_own : (task : ℕ) (rows : List Row) (row : Row) → last_of task rows ≡ Some row → row.task.0 ≡ task
@@ -68,7 +69,7 @@ last_own task (r ∷ rows) row e = at (last_of task rows) refl e (λ is. last_ow
         ap (λ (q : Row). q.task.0) (sym this) ∙ same
     first false own e = cc
 
-    at : (o : Option Row) → last_of task rows ≡ o → later_or o (if r.task.0 == task then Some r else None) ≡ Some row → (last_of task rows ≡ Some row → row.task.0 ≡ task) → row.task.0 ≡ task
+    at : (o : Option Row) → last_of task rows ≡ o → option_or o (if r.task.0 == task then Some r else None) ≡ Some row → (last_of task rows ≡ Some row → row.task.0 ≡ task) → row.task.0 ≡ task
     at None is e rest = first (r.task.0 == task) refl e
     at (Some q) is e rest = rest (is ∙ e)
 

@@ -1,5 +1,7 @@
 -- Plans to which rows are put, and from which they are taken to be put again.
-use Rattle.std.proofs.Common.{◌≡◌, ℕ, ◌+◌, ◌*◌, ◌^◌, ◌<◌, ◌≤◌, ◌==◌, zero, suc, Bool, true, false, if◌then◌else◌, nat_le, max, List, [], ◌∷◌, ◌++◌, length, fold, take, Option, Some, None, IfSome, option_map, Bor, refl, ap, sym, ◌∙◌, subst, arith}
+use Rattle.ht_tree.proofs.Filing.{file_of, file_there, files_put}
+use Rattle.std.proofs.Common.{◌≡◌, ℕ, ◌+◌, ◌*◌, ◌^◌, ◌<◌, ◌≤◌, ◌==◌, zero, suc, Bool, true, false, if◌then◌else◌, nat_le, max, List, [], ◌∷◌, ◌++◌, length, fold, take, Option, Some, None, IfSome, option_map, Bor, refl, ap, sym, ◌∙◌, subst, arith, eq-eqb}
+use Rattle.std.specs.Option.{option_or}
 use Rattle.std.specs.Prelude.{slice_get, slice_set}
 use Rattle.std.proofs.lemmas.Bool.Decides.{nat_tests}
 use Rattle.std.proofs.lemmas.List.{take-append-le}
@@ -9,8 +11,8 @@ use Rattle.ht_tree.specs.declared.notice.Notice.{Notice}
 use Rattle.ht_tree.specs.declared.plan.Noted.{Noted}
 use Rattle.ht_tree.specs.declared.plan.Totals.{Totals}
 use Rattle.ht_tree.specs.declared.row.Row.{Row}
-use Rattle.ht_tree.specs.Places.{IsLent, emptied, last_of, last_place, later_or, put_past, set_past, tasks_of}
-use Rattle.ht_tree.specs.Plans.{AreCounted, AreTotals, Follow, Goes, IsNext, IsPlanOf, Lends, PlanOf, changes_of, planned}
+use Rattle.ht_tree.specs.Places.{IsLent, emptied, last_of, last_place, put_past, set_past, tasks_of}
+use Rattle.ht_tree.specs.Plans.{AreCounted, AreTotals, changes_of, Follow, Goes, IsNext, IsPlanOf, KeepFiles, KeepsFile, Lends, planned, PlanOf}
 use Rattle.ht_tree.specs.Puts.{IsResized}
 use Rattle.ht_tree.specs.Rows.{put_in, row_at}
 use Rattle.ht_tree.specs.Sizes.{top_size, total_size}
@@ -101,20 +103,23 @@ abbrev pub plan_with : List Row → ℕ → Noted → Noted → List Notice → 
 plan_with rows mark noted marked told told_before = record { changes = changes_of rows told noted.totals noted.slot; marked = changes_of (take mark rows) told_before marked.totals marked.slot }
 
 -- a row of a plan is that which is put last of its task, or that of the tables
-pub row_after : (t : TablesOf) (p : PlanOf) (task : ℕ) (o : Option Row) → IsPlanOf t p → o ≡ last_of task (p.changes).rows → later_or o (row_at task t.rows) ≡ row_at task (planned t p).rows
-row_after t p task o fit is = ap (λ (x : Option Row). later_or x (row_at task t.rows)) is ∙ sym (row_at-fold t t.rows (p.changes).rows task fit.changes_fit)
+pub row_after : (t : TablesOf) (p : PlanOf) (task : ℕ) (o : Option Row) → IsPlanOf t p → o ≡ last_of task (p.changes).rows → option_or o (row_at task t.rows) ≡ row_at task (planned t p).rows
+row_after t p task o fit is = ap (λ (x : Option Row). option_or x (row_at task t.rows)) is ∙ sym (row_at-fold t t.rows (p.changes).rows task fit.changes_fit)
 
 module _ (t : TablesOf) (old : PlanOf) (rows : List Row) (mark : ℕ) (noted marked : Noted) (told told_before : List Notice) (view : plan_with rows mark noted marked told told_before ≡ old) (low : mark ≤ length rows) (fit : IsPlanOf t old) where
   fits_with : IsPlanOf t (plan_with rows mark noted marked told told_before)
   fits_with = let P : PlanOf → Type 0 = λ p. IsPlanOf t p in subst P (sym view) fit
 
   -- other rows, of which those up to the mark are the same
-  module _ (row : Row) (totals : Totals) (next : IsNext (planned t old).rows row) (fits : Fits t row) (counted : AreTotals t (put_in (planned t old).rows row) totals) where
+  module _ (row : Row) (totals : Totals) (next : IsNext (planned t old).rows row) (fits : Fits t row) (counted : AreTotals t (put_in (planned t old).rows row) totals) (file : KeepsFile (planned t old).rows row) where
     next_with : IsNext (fold put_in t.rows rows) row
     next_with = let P : PlanOf → Type 0 = λ p. IsNext (planned t p).rows row in subst P (sym view) next
 
     counted_with : AreTotals t (put_in (fold put_in t.rows rows) row) totals
     counted_with = let P : PlanOf → Type 0 = λ p. AreTotals t (put_in (planned t p).rows row) totals in subst P (sym view) counted
+
+    file_with : KeepsFile (fold put_in t.rows rows) row
+    file_with = let P : PlanOf → Type 0 = λ p. KeepsFile (planned t p).rows row in subst P (sym view) file
 
     abbrev pub now_with : Noted
     now_with = record noted { totals = Some totals }
@@ -125,6 +130,9 @@ module _ (t : TablesOf) (old : PlanOf) (rows : List Row) (mark : ℕ) (noted mar
         let T : List Row → Type 0 = λ l. AreTotals t l totals in
         let M : List Row → Type 0 = λ l. Follow t t.rows l in
         let C : List Row → Type 0 = λ l. AreCounted t l marked.totals in
+        let K : List Row → Type 0 = λ l. KeepFiles t.rows (fold put_in t.rows l) in
+        let L : List Row → Type 0 = λ l. KeepFiles (fold put_in t.rows l) (put_in (fold put_in t.rows rows) row) in
+        let A : List Row → Type 0 = λ l. KeepFiles (fold put_in t.rows (take mark news)) l in
         subst G view (record {
           from = refl;
           to = ap (λ (l : List Row). record (planned t (plan_with rows mark noted marked told told_before)) { rows = l }) after;
@@ -133,6 +141,8 @@ module _ (t : TablesOf) (old : PlanOf) (rows : List Row) (mark : ℕ) (noted mar
             changes_counted = subst T (sym after) counted_with;
             marked_fit = subst M (sym front) fits_with.marked_fit;
             marked_counted = subst C (sym front) fits_with.marked_counted;
+            marked_filed = subst K (sym front) fits_with.marked_filed;
+            changes_filed = subst A (sym after) (subst L (sym front) (files_put (fold put_in t.rows (take mark rows)) (fold put_in t.rows rows) row next_with fits_with.changes_filed file_with));
           };
           slot = refl;
           marked = ap (λ (l : List Row). changes_of l told_before marked.totals marked.slot) front;
@@ -222,13 +232,16 @@ module _ (t : TablesOf) (old : PlanOf) (rows news : List Row) (mark : ℕ) (note
       (found.2 ∙ this, ap (λ (r : Row). r.task.0) (sym same) ∙ found.3)
 
   row_is : row_at task (fold put_in t.rows rows) ≡ Some row
-  row_is = row_at-fold t t.rows rows task fits_lent.changes_fit ∙ ap (λ (o : Option Row). later_or o (row_at task t.rows)) last_row.0
+  row_is = row_at-fold t t.rows rows task fits_lent.changes_fit ∙ ap (λ (o : Option Row). option_or o (row_at task t.rows)) last_row.0
 
   row_fits : Fits t row
   row_fits = put_fits t t.rows rows task row fits_lent.changes_fit last_row.0
 
   next_emptied : IsNext (fold put_in t.rows rows) (emptied row)
   next_emptied = is_next_there (fold put_in t.rows rows) task row (emptied row) row_is last_row.1
+
+  emptied_file : KeepsFile (fold put_in t.rows rows) (emptied row)
+  emptied_file = file_of (fold put_in t.rows rows) (emptied row) row task last_row.1 row_is refl refl
 
   after : fold put_in t.rows news ≡ put_in (fold put_in t.rows rows) (emptied row)
   after =
@@ -239,15 +252,26 @@ module _ (t : TablesOf) (old : PlanOf) (rows news : List Row) (mark : ℕ) (note
   front : take mark news ≡ take mark rows
   front = ap (λ (l : List Row). take mark l) lent.left ∙ take_set rows mark lent.place (emptied row) lent.behind
 
+  emptied_is : row_at task (fold put_in t.rows news) ≡ Some (emptied row)
+  emptied_is =
+      ap (λ (l : List Row). row_at task l) after
+      ∙ row_at-put_in (fold put_in t.rows rows) (emptied row) task next_emptied
+      ∙ ap (λ (b : Bool). if b then Some (emptied row) else row_at task (fold put_in t.rows rows)) (eq-eqb row.task.0 task last_row.1)
+
   fits_news : IsPlanOf t (plan_with news mark noted marked told told_before)
   fits_news =
       let F : List Row → Type 0 = λ l. Follow t t.rows l in
       let C : List Row → Type 0 = λ l. AreCounted t l marked.totals in
+      let K : List Row → Type 0 = λ l. KeepFiles t.rows (fold put_in t.rows l) in
+      let L : List Row → Type 0 = λ l. KeepFiles (fold put_in t.rows l) (put_in (fold put_in t.rows rows) (emptied row)) in
+      let A : List Row → Type 0 = λ l. KeepFiles (fold put_in t.rows (take mark news)) l in
       record {
         changes_fit = subst F (sym lent.left) (follow_set t t.rows rows lent.place row (emptied row) fits_lent.changes_fit lent.there refl (emptied_fits t row row_fits));
         changes_counted = counted_emptied t rows news noted.totals task row row_is last_row.1 after some fits_lent.changes_counted;
         marked_fit = subst F (sym front) fits_lent.marked_fit;
         marked_counted = subst C (sym front) fits_lent.marked_counted;
+        marked_filed = subst K (sym front) fits_lent.marked_filed;
+        changes_filed = subst A (sym after) (subst L (sym front) (files_put (fold put_in t.rows (take mark rows)) (fold put_in t.rows rows) (emptied row) next_emptied fits_lent.changes_filed emptied_file));
       }
     where
       some : rows ≡ [] → ⊥
@@ -274,6 +298,9 @@ module _ (t : TablesOf) (old : PlanOf) (rows news : List Row) (mark : ℕ) (note
       slot = refl;
       marked = ap (λ (l : List Row). changes_of l told_before marked.totals marked.slot) front;
       next = λ r same next. (next.0, let high = next.1 in let long = same_long in omega arith);
+      file = λ r same file.
+          let old = file_there (fold put_in t.rows rows) r row task same row_is file in
+          file_of (fold put_in t.rows news) r (emptied row) task same emptied_is old.0 old.1;
       again = λ r same next.
           ap (λ (l : List Row). record (planned t (plan_with rows mark noted marked told told_before)) { rows = put_in l r }) after
           ∙ ap (λ (l : List Row). record (planned t (plan_with rows mark noted marked told told_before)) { rows = l }) (put_twice (fold put_in t.rows rows) (emptied row) r next_emptied (same ∙ sym last_row.1));

@@ -1,5 +1,6 @@
 -- Rows that are put into others, one after another.
 use Rattle.std.proofs.Common.{◌≡◌, ℕ, ◌+◌, ◌-◌, ◌<◌, ◌≤◌, ◌==◌, zero, suc, Bool, true, false, if◌then◌else◌, max, nat_le, List, [], ◌∷◌, ◌++◌, length, fold, Option, Some, None, refl, sym, ap, ◌∙◌, inl, inr, arith}
+use Rattle.std.specs.Option.{option_or}
 use Rattle.std.specs.Prelude.{slice_get, slice_set}
 use Rattle.std.proofs.Common.{length-append, le-leb}
 use Rattle.ht_tree.specs.Soundness.{Fits}
@@ -9,7 +10,7 @@ use Rattle.std.proofs.lemmas.Bool.{cases_eq, cases_lt}
 use Rattle.std.proofs.lemmas.Bool.Decides.{nat_tests}
 use Rattle.ht_tree.specs.declared.row.Row.{Row}
 use Rattle.ht_tree.specs.Plans.{Follow, IsNext}
-use Rattle.ht_tree.specs.Places.{last_of, later_or}
+use Rattle.ht_tree.specs.Places.{last_of}
 use Rattle.ht_tree.specs.Puts.{CanPut}
 use Rattle.ht_tree.specs.Rows.{put_in, row_at}
 
@@ -82,14 +83,14 @@ follow_push t rows [] row f next fits = (next, fits, tt)
 follow_push t rows (p ∷ puts) row f next fits = (f.0, f.1, follow_push t (put_in rows p) puts row f.2 next fits)
 
 -- the row of a task is the last that is put, or the one that was there
-pub row_at-fold : (t : TablesOf) (rows puts : List Row) (task : ℕ) → Follow t rows puts → row_at task (fold put_in rows puts) ≡ later_or (last_of task puts) (row_at task rows)
+pub row_at-fold : (t : TablesOf) (rows puts : List Row) (task : ℕ) → Follow t rows puts → row_at task (fold put_in rows puts) ≡ option_or (last_of task puts) (row_at task rows)
 row_at-fold t rows [] task f = refl
 row_at-fold t rows (p ∷ puts) task f =
     row_at-fold t (put_in rows p) puts task f.2
-    ∙ ap (λ (o : Option Row). later_or (last_of task puts) o) (row_at-put_in rows p task f.0)
+    ∙ ap (λ (o : Option Row). option_or (last_of task puts) o) (row_at-put_in rows p task f.0)
     ∙ step (last_of task puts) (p.task.0 == task)
   where
-    step : (o : Option Row) (b : Bool) → later_or o (if b then Some p else row_at task rows) ≡ later_or (later_or o (if b then Some p else None)) (row_at task rows)
+    step : (o : Option Row) (b : Bool) → option_or o (if b then Some p else row_at task rows) ≡ option_or (option_or o (if b then Some p else None)) (row_at task rows)
     step (Some r) b = refl
     step None true = refl
     step None false = refl

@@ -1,11 +1,10 @@
 -- Sets of persons as filters of everybody.
-use Rattle.std.proofs.Common.{◌≡◌, ℕ, ◌+◌, ◌<◌, ◌≤◌, ◌==◌, zero, suc, nat_lt, Bool, true, false, not, ◌&&◌, ◌||◌, cond, List, [], ◌∷◌, ◌++◌, filter, length, refl, ap, sym, ◌∙◌, subst, inl, inr, eq-eqb, arith}
+use Rattle.std.proofs.Common.{◌≡◌, ℕ, ◌+◌, ◌<◌, ◌≤◌, ◌==◌, zero, suc, nat_lt, Bool, true, false, not, ◌&&◌, ◌||◌, cond, List, [], ◌∷◌, ◌++◌, filter, refl, ap, sym, ◌∙◌, subst, inl, inr, eq-eqb, arith}
 use Rattle.std.proofs.lemmas.Bool.{cases_eq}
-use Rattle.std.proofs.lemmas.List.{nil_from_length}
 use Rattle.std.proofs.lemmas.Bool.Decides.{nat_tests}
 use Rattle.ht_base.specs.Persons.{AllBelow, Ascends, AscendsFrom, has}
 use Rattle.std.specs.List.{range_with_len}
-use Rattle.std.specs.Prelude.{Result, Ok, Err, IfOk, ⊤}
+use Rattle.std.specs.Prelude.{Result, Ok, Err, IfOk}
 
 apart : (m n : ℕ) → (m ≡ n → ⊥) → (m == n) ≡ false
 apart m n d = grind (arith, nat_tests)
@@ -257,18 +256,3 @@ selected_apart f g n p h = has_selected g n p ∙ apart_of (nat_lt p n) (f p) (g
     apart_of true false c h = cc
     apart_of true true false h = refl
     apart_of true true true h = cc
-
--- where nobody is taken out, all are left
-pub all_but_nobody : (f g : ℕ → Bool) (n : ℕ) → (length (filter g (range_with_len 0 n)) == 0) ≡ true → filter f (range_with_len 0 n) ≡ filter (λ p. f p && not (g p)) (range_with_len 0 n)
-all_but_nobody f g n none =
-    let out = filter g (range_with_len 0 n) in
-    let all = filter f (range_with_len 0 n) in
-    let answer : Result (List ℕ) ⊤ = Ok all in
-    joined (λ a b. a && not b) first_of_two f g n all [] refl (sym (nil_from_length out (is_zero (length out) none))) answer (λ p. stays (has p all)) (selected_ascends f n)
-  where
-    is_zero : (k : ℕ) → (k == 0) ≡ true → k ≡ 0
-    is_zero k h = grind (arith, nat_tests)
-
-    stays : (b : Bool) → b ≡ (b && true)
-    stays true = refl
-    stays false = refl

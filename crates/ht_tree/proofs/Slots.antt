@@ -66,8 +66,7 @@ reply_of_more people tasks more (Done task state owner) up is = ((is.0.0, let hi
 slot_of_more : (people : DirectoryOf) (tasks more : ℕ) (s : Slot) → tasks ≤ more → IsSoundSlot people tasks s → IsSoundSlot people more s
 slot_of_more people tasks more s up is = record {
   person = is.person;
-  device = is.device;
-  number = is.number;
+  numbered = is.numbered;
   task = named_by_more tasks more s.op s.task up is.task;
   kept = reply_of_more people tasks more s.kept up is.kept;
 }

@@ -1,4 +1,5 @@
 -- That tables are sound.
+use Rattle.ht_models.specs.TreeSizes.{size_at}
 use Rattle.std.proofs.Common.{inl, inr, subst, ◌+◌, ◌++◌, ◌==◌, if◌then◌else◌, Bool, true, false, length-append, ◌≡◌, ℕ, ◌≤◌, zero, suc, List, [], ◌∷◌, length, Option, Some, None, IfSome, option_map, Bor, refl, ap, sym, ◌∙◌, arith}
 use Rattle.std.specs.Prelude.{slice_get}
 use Rattle.std.specs.List.{AllByRecursion}
@@ -13,7 +14,7 @@ use Rattle.ht_tree.specs.declared.notice.Notice.{Notice}
 use Rattle.ht_tree.specs.declared.row.Row.{Row}
 use Rattle.ht_tree.specs.Plans.{IsNext, Replaces}
 use Rattle.ht_tree.specs.Rows.{put_in, row_at}
-use Rattle.ht_tree.specs.Sizes.{most_tasks, size_of, size_under, top_size, total_size}
+use Rattle.ht_tree.specs.Sizes.{most_tasks, size_under, top_size, total_size}
 use Rattle.ht_base.specs.State.{is_final}
 use Rattle.ht_tree.specs.Families.{AreFamilies, IsNewSub, parent_at, to_come_of}
 use Rattle.ht_tree.specs.Soundness.{IsSound, IsSoundNotice, IsSoundRow, has_escalation}
@@ -102,7 +103,7 @@ push_sound t row sound next top fine small room =
     pushed_sound t row sound next fine (families_push_top t.models t.rows row sound.families top small) (omega arith)
 
 -- of a sub task
-pub push_sub_sound : (t : TablesOf) (row : Row) (p : TaskId × ℕ) → IsSound t → row.task.0 ≡ length t.rows + 1 → row.parent ≡ Some p → IsNewSub t.models t.rows row.model p → IsSoundRow t row → to_come_of t.models (t.rows ++ row ∷ []) row + 1 ≤ size_of t.models row.model → IsSound (record t { rows = t.rows ++ row ∷ [] })
+pub push_sub_sound : (t : TablesOf) (row : Row) (p : TaskId × ℕ) → IsSound t → row.task.0 ≡ length t.rows + 1 → row.parent ≡ Some p → IsNewSub t.models t.rows row.model p → IsSoundRow t row → to_come_of t.models (t.rows ++ row ∷ []) row + 1 ≤ size_at t.models row.model → IsSound (record t { rows = t.rows ++ row ∷ [] })
 push_sub_sound t row p sound next under new fine small =
     let total = total_push t.models t.rows row in
     let none : top_size t.models row ≡ 0 = ap (λ (o : Option (TaskId × ℕ)). size_under t.models row o) under in

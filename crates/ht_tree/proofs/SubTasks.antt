@@ -11,7 +11,7 @@ use Rattle.ht_models.specs.Model.{ModelOf}
 use Rattle.ht_entries.specs.SubEntries.{SubEntry}
 use Rattle.ht_tree.specs.declared.row.Row.{Row}
 use Rattle.ht_tree.specs.Families.{IsOfEntry, is_sub_of, model_of_entry, sub_tasks}
-use Rattle.ht_tree.specs.Rows.{row_at}
+use Rattle.ht_tree.specs.Rows.{model_in, row_at}
 use Rattle.ht_tree.specs.Soundness.{IsSound}
 use Rattle.ht_tree.specs.Tables.{TablesOf, model_of, task_row}
 use Rattle.ht_tree.proofs.Rows.{filtered_at, some_at, take_next, taken_at}
@@ -69,8 +69,8 @@ module _ (u : TablesOf) (sound : IsSound u) where
       absurd (omega arith))
 
   -- a sub task is of an entry of its parent
-  of_entry : (k : ℕ) (row : Row) → row_at k u.rows ≡ Some row → (p : TaskId × ℕ) → row.parent ≡ Some p → IsOfEntry u.models u.rows row.model p
-  of_entry k row at p under = let P : Option (TaskId × ℕ) → Type 0 = λ o. IfSome o (IsOfEntry u.models u.rows row.model) in subst P under ((sound.families).entries k row at)
+  of_entry : (k : ℕ) (row : Row) → row_at k u.rows ≡ Some row → (p : TaskId × ℕ) → row.parent ≡ Some p → IsOfEntry u.models u.rows (model_in u.models row) p
+  of_entry k row at p under = let P : Option (TaskId × ℕ) → Type 0 = λ o. IfSome o (IsOfEntry u.models u.rows (model_in u.models row)) in subst P under ((sound.families).entries k row at)
 
   -- a sub task is of one of the entries of its parent's model
   pub entry_there : (task : ℕ) (above : Row) (m : ModelOf) → task_row u task ≡ Some above → model_of u above ≡ Some m → (k : ℕ) (row : Row) → row_at k u.rows ≡ Some row → (p : TaskId × ℕ) → row.parent ≡ Some p → p.0.0 ≡ task → p.1 < length m.subs
@@ -79,7 +79,7 @@ module _ (u : TablesOf) (sound : IsSound u) where
       let one : Some e.above ≡ Some above = sym e.there ∙ ap (λ (n : ℕ). row_at n u.rows) is ∙ there in
       let same : e.above ≡ above = cc in
       let known : slice_get u.models (e.above).model ≡ Some m = ap (λ (r : Row). slice_get u.models r.model) same ∙ of_model in
-      let of_entry : model_of_entry u.models (e.above).model p.1 ≡ option_map (λ (s : SubEntry). s.model) (slice_get m.subs p.1) =
+      let of_entry : model_of_entry (model_in u.models e.above) p.1 ≡ option_map (λ (s : SubEntry). s.model) (slice_get m.subs p.1) =
       ap (λ (o : Option ModelOf). option_map (λ (s : SubEntry). s.model) (option_and_then (λ (x : ModelOf). slice_get x.subs p.1) o)) known in
       let its = some_at u.models row.model ((sound.rows_sound k row at).filed).model in
       there_at (slice_get m.subs p.1) refl (sym of_entry ∙ e.named ∙ ap (λ (o : Option ModelOf). option_map (λ (x : ModelOf). x.name) o) its.1)

@@ -3,6 +3,7 @@
 use Rattle.std.specs.Prelude.{ℕ, ◌==◌, Bool, true, false, not, ◌&&◌, ◌||◌, List, filter, Option, Some, None}
 use Rattle.std.specs.Option.{option_and_then, option_map_or}
 use Rattle.ht_base.specs.Name.{name_of}
+use Rattle.ht_base.specs.Persons.{has}
 use Rattle.ht_base.specs.declared.value.Value.{Value}
 use Rattle.ht_base.specs.declared.value.Value.TheVariants as values
 use Rattle.ht_expr.specs.Assignments.{Assignment, nobody, everybody, initiator, part, user, group, union, intersect, except, when}
@@ -32,6 +33,11 @@ abbrev pub person_of : Option Value → Option ℕ
 person_of (Some (values.Person p)) = Some p
 person_of _ = None
 
+-- a condition that is true
+abbrev pub is_true : Outcome → Bool
+is_true (a_truth b) = b
+is_true _ = false
+
 -- by the first where the test is true, and else by the second
 abbrev pub chosen : Outcome → Bool → Bool → Bool
 chosen (a_truth true) first second = first
@@ -56,6 +62,6 @@ is_found d s _ person = false
 abbrev pub resolved : DirectoryOf → Sight → Assignment → List ℕ
 resolved d s a = filter (is_found d s a) (people.everybody d)
 
--- An excluded owner is never a potential owner.
-abbrev pub potential_owners : DirectoryOf → Sight → Assignment → Assignment → List ℕ
-potential_owners d s owners excluded = filter (λ p. is_found d s owners p && not (is_found d s excluded p)) (people.everybody d)
+-- but for these, since an excluded owner is never a potential owner
+abbrev pub potential_owners : DirectoryOf → Sight → Assignment → List ℕ → List ℕ
+potential_owners d s a excluded = filter (λ p. is_found d s a p && not (has p excluded)) (people.everybody d)

@@ -1,5 +1,6 @@
 -- A new task (WS-HumanTask 1.1, 4.10): its roles by its model's assignments, and nothing done yet.
-use Rattle.std.specs.Prelude.{ℕ, ◌+◌, ◌<◌, min, pos, negsuc, false, not, List, [], length, map, Option, Some, None, IfSome}
+use Rattle.ht_models.specs.TreeSizes.{size_at}
+use Rattle.std.specs.Prelude.{ℕ, ◌+◌, min, nat_lt, pos, negsuc, Bool, false, not, List, [], length, map, Option, Some, None, IfSome}
 use Rattle.std.specs.Option.{option_and_then, option_map_or}
 use Rattle.ht_base.specs.declared.moment.Moment.{Moment}
 use Rattle.ht_base.specs.declared.state.State.TheVariants.{Created}
@@ -16,7 +17,7 @@ use Rattle.ht_tree.specs.declared.row.Row.{Row}
 use Rattle.ht_tree.specs.Assigning.{Sight, potential_owners, resolved, sight}
 use Rattle.ht_tree.specs.Families.{sub_tasks}
 use Rattle.ht_tree.specs.Soundness.{AreHeld}
-use Rattle.ht_tree.specs.Sizes.{most_tasks, size_of, total_size}
+use Rattle.ht_tree.specs.Sizes.{most_tasks, total_size}
 use Rattle.ht_tree.specs.Tables.{TablesOf, administrators_of, directory, stakeholders_of, task_row}
 
 -- the parent's row, of a sub task
@@ -86,7 +87,7 @@ with_priority m row = record row { priority = level_of (value (parts_of m.input 
 -- with the persons of each role, of whom its assignments see none
 abbrev pub with_roles : TablesOf → ModelOf → Option Row → Row → Row
 with_roles t m above row = record row {
-  potential_owners = potential_owners (directory t) (seen m row) m.potential_owners m.excluded_owners;
+  potential_owners = potential_owners (directory t) (seen m row) m.potential_owners (resolved (directory t) (seen m row) m.excluded_owners);
   excluded_owners = resolved (directory t) (seen m row) m.excluded_owners;
   administrators = role_or (directory t) (seen m row) m.administrators (option_map_or (administrators_of t) above []);
   stakeholders = role_or (directory t) (seen m row) m.stakeholders (option_map_or (stakeholders_of t) above []);
@@ -103,5 +104,5 @@ abbrev pub IsInput : ℕ → Option ModelOf → Values → Type 0
 IsInput persons model input = IfSome model (λ m. AreHeld (parts_of m.input m.output) persons Input input)
 
 -- with the tree of a new task of this model there would be too many
-abbrev pub IsFull : TablesOf → ℕ → Type 0
-IsFull t model = most_tasks < total_size t.models t.rows + size_of t.models model
+abbrev pub is_full : TablesOf → ℕ → Bool
+is_full t model = nat_lt most_tasks (total_size t.models t.rows + size_at t.models model)

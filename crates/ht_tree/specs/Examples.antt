@@ -107,10 +107,10 @@ by_who_is_unset : resolved office given_nothing (when (binary operator.Equal ini
 by_who_is_unset = refl
 
 -- an excluded owner is never a potential owner
-all_excluded : potential_owners office dans (user (codes "anna")) (user (codes "anna")) ≡ []
+all_excluded : potential_owners office dans (user (codes "anna")) (resolved office dans (user (codes "anna"))) ≡ []
 all_excluded = refl
 
-one_excluded : potential_owners office dans (group (codes "clerks")) (user (codes "ben")) ≡ 0 ∷ []
+one_excluded : potential_owners office dans (group (codes "clerks")) (resolved office dans (user (codes "ben"))) ≡ 0 ∷ []
 one_excluded = refl
 
 -- ---- a new task

@@ -9,7 +9,7 @@ use Rattle.ht_models.specs.Model.{ModelOf, names}
 use Rattle.ht_entries.specs.SubEntries.{SubEntry}
 use Rattle.ht_models.specs.TreeSizes.{entry_size}
 use Rattle.ht_tree.specs.declared.row.Row.{Row}
-use Rattle.ht_tree.specs.Rows.{row_at}
+use Rattle.ht_tree.specs.Rows.{model_in, row_at}
 use Rattle.ht_tree.specs.Sizes.{total_size}
 
 -- ---- sub tasks
@@ -42,7 +42,7 @@ to_come_from models rows task place [] = 0
 to_come_from models rows task place (entry ∷ entries) = (if is_made task place rows then 0 else entry_size models entry) + to_come_from models rows task (suc place) entries
 
 abbrev pub to_come_of : List ModelOf → List Row → Row → ℕ
-to_come_of models rows row = option_map_or (λ m. to_come_from models rows row.task.0 0 m.subs) (slice_get models row.model) 0
+to_come_of models rows row = option_map_or (λ m. to_come_from models rows row.task.0 0 m.subs) (model_in models row) 0
 
 -- of these tasks
 abbrev pub to_come_in : List ModelOf → List Row → List Row → ℕ
@@ -54,22 +54,22 @@ to_come models rows = to_come_in models rows rows
 
 -- ---- families are sound
 
--- the name of the model of the sub tasks of an entry, by its place
-abbrev pub model_of_entry : List ModelOf → ℕ → ℕ → Option (List ℕ)
-model_of_entry models place entry = option_map (λ e. e.model) (option_and_then (λ m. slice_get m.subs entry) (slice_get models place))
+-- the name of the model of the sub task of an entry, by the model of its parent
+abbrev pub model_of_entry : Option ModelOf → ℕ → Option (List ℕ)
+model_of_entry above entry = option_map (λ e. e.model) (option_and_then (λ m. slice_get m.subs entry) above)
 
 -- a sub task is of the model that its entry of its parent's model says
-pub record IsOfEntry (models : List ModelOf) (rows : List Row) (model : ℕ) (parent : TaskId × ℕ) : Type 0 where
+pub record IsOfEntry (models : List ModelOf) (rows : List Row) (model : Option ModelOf) (parent : TaskId × ℕ) : Type 0 where
   pub above : Row
   pub there : row_at parent.0.0 rows ≡ Some above
-  pub named : model_of_entry models above.model parent.1 ≡ option_map (λ m. m.name) (slice_get models model)
+  pub named : model_of_entry (model_in models above) parent.1 ≡ option_map (λ m. m.name) model
 
 -- below a task that has ended all have
 abbrev pub HaveEndedBelow : List Row → Type 0
 HaveEndedBelow rows = (task : ℕ) (row above : Row) (p : TaskId × ℕ) → row_at task rows ≡ Some row → row.parent ≡ Some p → row_at p.0.0 rows ≡ Some above → is_final above.state ≡ true → is_final row.state ≡ true
 
 pub record AreFamilies (models : List ModelOf) (rows : List Row) : Type 0 where
-  pub entries : (task : ℕ) (row : Row) → row_at task rows ≡ Some row → IfSome row.parent (IsOfEntry models rows row.model)
+  pub entries : (task : ℕ) (row : Row) → row_at task rows ≡ Some row → IfSome row.parent (IsOfEntry models rows (model_in models row))
   -- an entry is made at most once
   pub made_once : (a b : ℕ) (p : TaskId × ℕ) → parent_at a rows ≡ Some p → parent_at b rows ≡ Some p → a ≡ b
   pub ended_below : HaveEndedBelow rows
@@ -84,7 +84,7 @@ pub record IsNewSub (models : List ModelOf) (rows : List Row) (model : ℕ) (par
   pub there : row_at parent.0.0 rows ≡ Some above
   pub going_on : is_final above.state ≡ false
   pub of_model : ModelOf
-  pub known : slice_get models above.model ≡ Some of_model
+  pub known : model_in models above ≡ Some of_model
   pub entry : SubEntry
   pub listed : slice_get of_model.subs parent.1 ≡ Some entry
   pub named : place_in entry.model (names models) ≡ Some model

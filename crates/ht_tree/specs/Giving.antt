@@ -1,6 +1,6 @@
 -- What is given for the parts of a task: the values that it makes, or the part for which it is refused.
 use Rattle.std.specs.Prelude.{ℕ, nat_lt, ℤ, pos, negsuc, Bool, not, ◌&&◌, List, find, is_none, bytes_eq, Option, Some, None, option_map, filter_map, if◌then◌else◌}
-use Rattle.std.specs.Option.{option_and_then}
+use Rattle.std.specs.Option.{option_and_then, option_or}
 use Rattle.ht_base.specs.declared.kind.Kind.{Kind}
 use Rattle.ht_base.specs.declared.kind.Kind.TheVariants as kind
 use Rattle.ht_base.specs.declared.moment.Moment.{Moment}
@@ -66,13 +66,9 @@ is_unfit d required part (Some s) = is_none (value_of d part.kind s)
 abbrev pub unfit : DirectoryOf → Bool → List Part → Parts → Option (List ℕ)
 unfit d required parts given = option_map (λ p. p.name) (find (λ p. is_unfit d required p (scalar_at p.name given)) parts)
 
-abbrev pub or_else : {A : Type 0} → Option A → Option A → Option A
-or_else (Some x) other = Some x
-or_else None other = other
-
 -- the part for which it is refused: first a name of no part, and then in the order of the parts
 abbrev pub refused_part : DirectoryOf → Bool → List Part → Parts → Option (List ℕ)
-refused_part d required parts given = or_else (undeclared parts given) (unfit d required parts given)
+refused_part d required parts given = option_or (undeclared parts given) (unfit d required parts given)
 
 -- ---- the values
 

@@ -1,12 +1,8 @@
 -- The last places of tasks, among rows that are put one after another.
 use Rattle.std.specs.Prelude.{◌≡◌, ℕ, ◌==◌, ◌≤◌, nat_le, suc, List, [], ◌∷◌, ◌++◌, length, map, slice_get, slice_set, Option, Some, None, option_map, if◌then◌else◌}
+use Rattle.std.specs.Option.{option_or}
 use Rattle.ht_tree.specs.declared.row.Row.{Row}
 use Rattle.ht_tree.specs.Creating.{bare_row}
-
--- the later one, if it is there
-abbrev pub later_or : {A : Type 0} → Option A → Option A → Option A
-later_or None earlier = earlier
-later_or (Some a) earlier = Some a
 
 abbrev pub tasks_of : List Row → List ℕ
 tasks_of rows = map (λ r. r.task.0) rows
@@ -14,12 +10,12 @@ tasks_of rows = map (λ r. r.task.0) rows
 -- the last place at which a task stands
 abbrev pub last_place : ℕ → List ℕ → Option ℕ
 last_place task [] = None
-last_place task (t ∷ ts) = later_or (option_map suc (last_place task ts)) (if t == task then Some 0 else None)
+last_place task (t ∷ ts) = option_or (option_map suc (last_place task ts)) (if t == task then Some 0 else None)
 
 -- its row
 abbrev pub last_of : ℕ → List Row → Option Row
 last_of task [] = None
-last_of task (row ∷ rows) = later_or (last_of task rows) (if row.task.0 == task then Some row else None)
+last_of task (row ∷ rows) = option_or (last_of task rows) (if row.task.0 == task then Some row else None)
 
 -- ---- a row that takes the place of the last of its task
 

@@ -1,6 +1,6 @@
 -- A planned change of the tables: the rows that are put, in order, of which the last of a task counts,
 -- the notifications that are added, and the reply that is kept.
-use Rattle.std.specs.Prelude.{◌≡◌, ℕ, ◌+◌, ◌-◌, ◌≤◌, ◌<◌, ◌^◌, List, [], ◌∷◌, ◌++◌, length, fold, Option, Some, None, IsTrue, is_some}
+use Rattle.std.specs.Prelude.{◌≡◌, ℕ, ◌+◌, ◌-◌, ◌≤◌, ◌<◌, ◌^◌, List, [], ◌∷◌, ◌++◌, length, fold, Option, Some, None, IsTrue, is_some, IfSome}
 use Rattle.ht_tree.specs.declared.notice.Notice.{Notice}
 use Rattle.ht_tree.specs.declared.plan.Totals.{Totals}
 use Rattle.ht_tree.specs.declared.row.Row.{Row}
@@ -63,6 +63,14 @@ committed t p at = at_moment (planned t p) at
 abbrev pub IsNext : List Row → Row → Type 0
 IsNext rows row = (1 ≤ row.task.0) × (row.task.0 ≤ length rows + 1)
 
+-- a row is of the same model and has the same parent as the one in whose place it comes
+abbrev pub KeepsFile : List Row → Row → Type 0
+KeepsFile rows row = IfSome (row_at row.task.0 rows) (λ before. (row.parent ≡ before.parent) × (row.model ≡ before.model))
+
+-- the second rows have each task of the first, of the same model and with the same parent
+abbrev pub KeepFiles : List Row → List Row → Type 0
+KeepFiles old new = (task : ℕ) (before : Row) → row_at task old ≡ Some before → (after : Row) × (row_at task new ≡ Some after) × (after.parent ≡ before.parent) × (after.model ≡ before.model)
+
 -- the new rows follow those that are there without gaps, and each row fits
 abbrev pub Follow : TablesOf → List Row → List Row → Type 0
 Follow t rows [] = Unit {0}
@@ -84,6 +92,8 @@ pub record IsPlanOf (t : TablesOf) (p : PlanOf) : Type 0 where
   pub changes_counted : AreCounted t (p.changes).rows (p.changes).totals
   pub marked_fit : Follow t t.rows (p.marked).rows
   pub marked_counted : AreCounted t (p.marked).rows (p.marked).totals
+  pub marked_filed : KeepFiles t.rows (fold put_in t.rows (p.marked).rows)
+  pub changes_filed : KeepFiles (fold put_in t.rows (p.marked).rows) (fold put_in t.rows (p.changes).rows)
 
 -- ---- a step of plans
 
@@ -103,6 +113,7 @@ pub record Lends (t : TablesOf) (old new : PlanOf) (task : ℕ) : Type 0 where
   pub slot : (new.changes).slot ≡ (old.changes).slot
   pub marked : new.marked ≡ old.marked
   pub next : (row : Row) → row.task.0 ≡ task → IsNext (planned t old).rows row → IsNext (planned t new).rows row
+  pub file : (row : Row) → row.task.0 ≡ task → KeepsFile (planned t old).rows row → KeepsFile (planned t new).rows row
   pub again : (row : Row) → row.task.0 ≡ task → IsNext (planned t old).rows row → with_row (planned t new) row ≡ with_row (planned t old) row
 
 -- the row takes the place of one with the same parent and of the same model
@@ -124,6 +135,10 @@ pub record AreDuesPrepared (t : RoomyTables) (p : PlanOf) : Type 0 where
   pub news : t.news ≡ changed_dues (t.tables).models (planned t.tables p).rows (p.changes).rows
   pub room : length t.news ≤ t.due_room
 
--- the tables have all the memory that the plan's commit takes, and know what it changes of the dues
-abbrev pub IsPrepared : RoomyTables → PlanOf → Type 0
-IsPrepared t p = (new_rows t.tables p ≤ t.room) × (IsTrue (is_some (p.changes).slot) → 1 ≤ t.slot_room) × AreDuesPrepared t p × (length (p.changes).notices ≤ t.notice_room)
+-- The tables have all the memory that the plan's commit takes, and know what it changes of the dues. Crates
+-- above hand this on, and look at no part of it.
+pub record IsPrepared (t : RoomyTables) (p : PlanOf) : Type 0 where
+  pub rows : new_rows t.tables p ≤ t.room
+  pub slots : IsTrue (is_some (p.changes).slot) → 1 ≤ t.slot_room
+  pub dues : AreDuesPrepared t p
+  pub notices : length (p.changes).notices ≤ t.notice_room

@@ -1,9 +1,8 @@
 -- What is due of the tasks, and when (WS-HumanTask 1.1, 4.9): deferred activations, the ends of
 -- suspensions, and the deadlines that are neither taken nor obsolete.
-use Rattle.std.specs.Prelude.{ℕ, zero, suc, ◌+◌, ◌==◌, max, Bool, ◌||◌, List, [], ◌∷◌, ◌++◌, filter, fold, nat_le, slice_get, Option, Some, None, option_map, if◌then◌else◌}
+use Rattle.std.specs.Prelude.{ℕ, zero, suc, ◌+◌, ◌==◌, max, Bool, ◌||◌, List, [], ◌∷◌, ◌++◌, filter, nat_le, slice_get, Option, Some, None, option_map, if◌then◌else◌}
 use Rattle.std.specs.List.{flat_map}
 use Rattle.std.specs.Option.{option_map_or}
-use Rattle.std.specs.Ordering.{match_ordering}
 use Rattle.ht_base.specs.declared.moment.Moment.{Moment}
 use Rattle.ht_base.specs.declared.value.Value.{Value}
 use Rattle.ht_base.specs.declared.value.Value.TheVariants as values
@@ -12,13 +11,13 @@ use Rattle.ht_base.specs.Moment.{later_by}
 use Rattle.ht_base.specs.Persons.{has}
 use Rattle.ht_base.specs.Values.{value_of}
 use Rattle.ht_due.specs.declared.due.Due.{Due}
-use Rattle.ht_due.specs.Dues.{compare_dues, put_due}
+use Rattle.ht_due.specs.Dues.{in_order}
 use Rattle.ht_entries.specs.declared.deadlines.DeadlineKind.{DeadlineKind}
 use Rattle.ht_entries.specs.declared.deadlines.DeadlineKind.TheVariants.{Start, Completion}
 use Rattle.ht_models.specs.Model.{DeadlineOf, ModelOf}
 use Rattle.ht_tree.specs.declared.row.Row.{Row}
 use Rattle.ht_base.specs.State.{is_final}
-use Rattle.ht_tree.specs.Rows.{row_at}
+use Rattle.ht_tree.specs.Rows.{model_in, row_at}
 use Rattle.ht_tree.specs.Tables.{TablesOf}
 
 -- ---- the moment of a deadline
@@ -71,7 +70,7 @@ deadline_dues row place [] = []
 deadline_dues row place (d ∷ ds) = deadline_due row place d ++ deadline_dues row (place + 1) ds
 
 abbrev pub deadlines_of : List ModelOf → Row → List DeadlineOf
-deadlines_of models row = option_map_or (λ m. m.deadlines) (slice_get models row.model) []
+deadlines_of models row = option_map_or (λ m. m.deadlines) (model_in models row) []
 
 -- when its action of a kind, of the deadline at a place, is due
 abbrev pub deadline_as : Row → ℕ → ℕ → Option DeadlineOf → Option Moment
@@ -89,10 +88,6 @@ row_dues models row = due_of row 0 0 row.waits ++ due_of row 1 0 row.until ++ de
 
 -- ---- the dues of all rows
 
--- these in ascending order, none twice
-abbrev pub in_order : List Due → List Due
-in_order dues = fold put_due [] dues
-
 abbrev pub all_dues : TablesOf → List Due
 all_dues t = in_order (flat_map (row_dues t.models) t.rows)
 
@@ -102,18 +97,6 @@ due_by t by = filter (λ d. nat_le d.at.0 by) (all_dues t)
 
 abbrev pub first_due : TablesOf → ℕ → Option Due
 first_due t by = slice_get (due_by t by) 0
-
--- ---- the least of dues
-
--- of these, if there are any
-abbrev pub least_of : List Due → Option Due
-least_of dues = slice_get (in_order dues) 0
-
--- of two, where both are there
-abbrev pub lesser : Option Due → Option Due → Option Due
-lesser None b = b
-lesser (Some a) None = Some a
-lesser (Some a) (Some b) = match_ordering (compare_dues a b) (Some a) (Some a) (Some b)
 
 -- ---- the dues of the rows that are changed
 

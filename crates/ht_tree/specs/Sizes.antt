@@ -1,6 +1,7 @@
 -- How many tasks there are, each whole tree counted from the creation of its top task on.
-use Rattle.std.specs.Prelude.{ℕ, ◌+◌, List, [], ◌∷◌, Option, Some, None, slice_get}
+use Rattle.ht_tree.specs.Rows.{model_in}
 use Rattle.std.specs.Option.{option_map_or}
+use Rattle.std.specs.Prelude.{ℕ, ◌+◌, List, [], ◌∷◌, Option, Some, None}
 use Rattle.ht_base.specs.declared.task_id.TaskId.{TaskId}
 use Rattle.ht_models.specs.Model.{ModelOf}
 use Rattle.ht_tree.specs.declared.row.Row.{Row}
@@ -8,13 +9,9 @@ use Rattle.ht_tree.specs.declared.row.Row.{Row}
 abbrev pub most_tasks : ℕ
 most_tasks = 50000
 
--- the tasks of a model's tree
-abbrev pub size_of : List ModelOf → ℕ → ℕ
-size_of models model = option_map_or (λ m. m.size) (slice_get models model) 0
-
 -- a sub task is counted with its top task
 abbrev pub size_under : List ModelOf → Row → Option (TaskId × ℕ) → ℕ
-size_under models row None = size_of models row.model
+size_under models row None = option_map_or (λ m. m.size) (model_in models row) 0
 size_under models row (Some parent) = 0
 
 abbrev pub top_size : List ModelOf → Row → ℕ

@@ -6,6 +6,7 @@ use Rattle.std.specs.Ordering.{nat_cmp, ordering_then}
 use Rattle.ht_base.specs.declared.operation.Op.{Op}
 use Rattle.ht_base.specs.declared.operation.Op.TheVariants as op
 use Rattle.ht_base.specs.declared.task_id.TaskId.{TaskId}
+use Rattle.ht_base.specs.Events.{IsRetry}
 use Rattle.ht_base.specs.Ordered.{found_by, placed_by}
 use Rattle.ht_people.specs.Directory.{DirectoryOf, find}
 use Rattle.ht_tree.specs.declared.slot.Kept.{Kept}
@@ -46,8 +47,7 @@ IsSoundReply people tasks (Done task state owner) = IsOneOf tasks task × IfSome
 -- of these persons, and of as many tasks
 pub record IsSoundSlot (people : DirectoryOf) (tasks : ℕ) (s : Slot) : Type 0 where
   pub person : s.person < length people.persons
-  pub device : s.device ≤ 15
-  pub number : 1 ≤ s.number
+  pub numbered : IsRetry (record { device = s.device; number = s.number })
   pub task : IsNamedBy tasks s.op s.task
   pub kept : IsSoundReply people tasks s.kept
 

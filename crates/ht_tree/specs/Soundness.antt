@@ -1,6 +1,6 @@
 -- What always holds of the tables: of each row, in groups by the fields that they speak of, and of
 -- all rows together.
-use Rattle.std.specs.Prelude.{◌≡◌, ℕ, ◌+◌, ◌<◌, ◌≤◌, bytes_eq, nat_lt, Bool, true, false, ◌&&◌, ◌||◌, List, [], ◌∷◌, length, slice_get, Option, Some, is_some, IsTrue, IfSome}
+use Rattle.std.specs.Prelude.{◌≡◌, ℕ, ◌+◌, ◌<◌, ◌≤◌, bytes_eq, nat_lt, Bool, true, false, ◌&&◌, ◌||◌, List, [], ◌∷◌, length, Option, Some, is_some, IsTrue, IfSome}
 use Rattle.std.specs.Option.{option_map_or}
 use Rattle.std.specs.List.{All, AllByRecursion, list_all, list_any}
 use Rattle.ht_base.specs.declared.moment.Moment.{Moment}
@@ -26,7 +26,7 @@ use Rattle.ht_tree.specs.declared.comments.Comment.{Comment}
 use Rattle.ht_tree.specs.declared.notice.Notice.{Notice}
 use Rattle.ht_tree.specs.declared.row.Row.{Row}
 use Rattle.ht_tree.specs.Families.{AreFamilies}
-use Rattle.ht_tree.specs.Rows.{row_at}
+use Rattle.ht_tree.specs.Rows.{model_in, row_at}
 use Rattle.ht_tree.specs.Sizes.{most_tasks, total_size}
 use Rattle.ht_tree.specs.Slots.{IsSoundSlot, slot_cmp}
 use Rattle.ht_tree.specs.Tables.{TablesOf}
@@ -78,8 +78,8 @@ pub record ArePeople (persons first : ℕ) (last : Option ℕ) (owners others ad
 -- ---- whose it is
 
 -- by its model the task has an owner, sooner or later
-abbrev pub needs_owner : List ModelOf → ℕ → Bool
-needs_owner models place = option_map_or (λ m. m.owner_required) (slice_get models place) true
+abbrev pub needs_owner : Option ModelOf → Bool
+needs_owner model = option_map_or (λ m. m.owner_required) model true
 
 -- a task that never has one is only in these states
 abbrev pub is_ownerless : State → Bool
@@ -145,16 +145,16 @@ pub record IsHeldBy (persons : ℕ) (m : ModelOf) (given set : Values) (passed :
   pub taken : AllBelow (length m.deadlines) passed
   pub taken_ascend : Ascends passed
 
-abbrev pub IsHeld : List ModelOf → ℕ → ℕ → Values → Values → List ℕ → Type 0
-IsHeld models persons place input output taken = IfSome (slice_get models place) (λ m. IsHeldBy persons m input output taken)
+abbrev pub IsHeld : ℕ → Option ModelOf → Values → Values → List ℕ → Type 0
+IsHeld persons model input output taken = IfSome model (λ m. IsHeldBy persons m input output taken)
 
 -- ---- a row is sound
 
 pub record IsSoundIn (models : List ModelOf) (persons : ℕ) (row : Row) : Type 0 where
   pub filed : IsFiled (length models) row.task row.parent row.model
-  pub held : IsHeld models persons row.model row.input row.output row.taken
+  pub held : IsHeld persons (model_in models row) row.input row.output row.taken
   pub who : ArePeople persons row.initiator row.last_owner row.potential_owners row.excluded_owners row.administrators row.stakeholders
-  pub whose : IsWhose persons (needs_owner models row.model) row.excluded_owners row.state row.owner
+  pub whose : IsWhose persons (needs_owner (model_in models row)) row.excluded_owners row.state row.owner
   pub when : IsTimed row.state row.created row.waits row.until
   pub how : IsNoted persons row.priority row.comments
 
@@ -165,7 +165,7 @@ IsSoundRow t row = IsSoundIn t.models (length t.people.persons) row
 
 pub record FitsIn (models : List ModelOf) (persons : ℕ) (row : Row) : Type 0 where
   pub filed : IsFiled (length models) row.task row.parent row.model
-  pub held : IsHeld models persons row.model row.input row.output row.taken
+  pub held : IsHeld persons (model_in models row) row.input row.output row.taken
   pub who : AreKnown persons row.initiator row.last_owner row.potential_owners row.excluded_owners row.administrators row.stakeholders
   pub owner : IfSome row.owner (λ p. p < persons)
   pub commenters : All (λ c. c.person < persons) row.comments
@@ -185,7 +185,7 @@ has_escalation deadlines n = list_any (λ d. bytes_eq d.name n.deadline && list_
 pub record IsSoundNotice (models : List ModelOf) (persons : ℕ) (rows : List Row) (n : Notice) : Type 0 where
   pub row : Row
   pub there : row_at n.task.0 rows ≡ Some row
-  pub escalation : option_map_or (λ m. has_escalation m.deadlines n) (slice_get models row.model) false ≡ true
+  pub escalation : option_map_or (λ m. has_escalation m.deadlines n) (model_in models row) false ≡ true
   pub recipients : AllBelow persons n.recipients
   pub recipients_ascend : Ascends n.recipients
   pub moment_within : n.moment.0 ≤ last_moment

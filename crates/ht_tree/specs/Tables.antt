@@ -8,7 +8,7 @@ use Rattle.ht_people.specs.Directory.{DirectoryOf}
 use Rattle.ht_tree.specs.declared.notice.Notice.{Notice}
 use Rattle.ht_tree.specs.declared.row.Row.{Row}
 use Rattle.ht_tree.specs.declared.slot.Slot.{Slot}
-use Rattle.ht_tree.specs.Rows.{put_in, row_at}
+use Rattle.ht_tree.specs.Rows.{model_in, put_in, row_at}
 use Rattle.ht_tree.specs.Slots.{slot_in, slots_with}
 
 pub record TablesOf : Type 0 where
@@ -63,7 +63,7 @@ model_named t name = place_in name (names t.models)
 
 -- the model of a task
 abbrev pub model_of : TablesOf → Row → Option ModelOf
-model_of t row = slice_get t.models row.model
+model_of t row = model_in t.models row
 
 abbrev pub potential_owners_of : TablesOf → Row → List ℕ
 potential_owners_of t row = row.potential_owners

@@ -1,12 +1,13 @@
 ghost use Rattle.std.specs.Prelude.{◌≡◌, ◌<◌, [], IfOk, IfSome, IsTrue, OnOk, Some, length, map, option_map};
-ghost use Rattle.ht_expr.specs.Assignments.{group, part, user};
+ghost use Rattle.ht_expr.specs.Assignments.{Assignment, group, part, user};
 ghost use Rattle.ht_expr.specs.Environment.{has_parts};
 ghost use Rattle.ht_expr.specs.Kinds.{Declared};
 ghost use Rattle.ht_expr.specs.Shown.{shown};
 ghost use Rattle.ht_models.specs.Kinded.{Assigns, parts_of};
 ghost use Rattle.ht_people.specs.Membership as membership;
 ghost use Rattle.ht_tree.specs.Assigning as spec;
-ghost use Rattle.ht_tree.specs.Assigning.{Sight, resolved, sight};
+ghost use Rattle.ht_people.specs.Directory.{DirectoryOf};
+ghost use Rattle.ht_tree.specs.Assigning.{Sight, potential_owners, resolved, sight};
 ghost use Rattle.ht_tree.specs.Creating.{seen_in, sees};
 ghost use Rattle.ht_tree.specs.Families as families;
 ghost use Rattle.ht_tree.specs.Plans.{IsPlanOf, planned};
@@ -207,6 +208,16 @@ pub(crate) fn found(
             }
         }
     }
+}
+
+/// Those of the persons found who aren't excluded (WS-HumanTask 1.1, 3.1).
+pub fn without(alloc: Global, found: Persons, excluded: &Persons) -> Result<Persons, Memory>
+    ensures { IfOk result (λ ps. (d : DirectoryOf) (s : Sight) (a : Assignment) → found ≡ resolved d s a → ps ≡ potential_owners d s a excluded.now) }
+{
+    if excluded.as_slice().is_empty() {
+        return Ok(found);
+    }
+    except(alloc, &found, excluded)
 }
 
 // The person whom an input part names, if the directory has the person.

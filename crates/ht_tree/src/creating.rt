@@ -1,4 +1,4 @@
-ghost use Rattle.std.specs.Prelude.{◌≡◌, ◌<◌, ◌≤◌, ◌+◌, ◌^◌, [], IfOk, IfSome, IsTrue, OnErr, OnOk, None, Some, Err, length, option_map, pos};
+ghost use Rattle.std.specs.Prelude.{◌≡◌, ◌<◌, ◌≤◌, ◌+◌, ◌^◌, false, true, [], IfOk, IfSome, IsTrue, OnErr, OnOk, None, Some, Err, length, option_map, pos};
 ghost use Rattle.std.specs.Option.{option_map_or};
 ghost use Rattle.ht_base.specs.Moment.{last_moment};
 ghost use Rattle.ht_expr.specs.Environment.{has_parts};
@@ -10,18 +10,18 @@ ghost use Rattle.ht_models.specs.Model.{ModelOf};
 ghost use Rattle.ht_models.specs.Shown.{model_of};
 ghost use Rattle.ht_tree.specs.Assigning.{potential_owners, resolved, sight};
 ghost use Rattle.ht_tree.specs.Creating as spec;
-ghost use Rattle.ht_tree.specs.Creating.{IsFull, IsInput, level_of, middle_priority, role_or};
+ghost use Rattle.ht_tree.specs.Creating.{IsInput, is_full, level_of, middle_priority, role_or};
 ghost use Rattle.ht_tree.specs.Families.{MayCome};
 ghost use Rattle.ht_tree.specs.Plans.{Goes, IsPlanOf, planned};
 ghost use Rattle.ht_tree.specs.Soundness.{KeepsSound};
 ghost use Rattle.ht_tree.specs.Tables.{model_at, with_row};
 
-use crate::assigning::found;
+use crate::assigning::{found, without};
 use crate::{Comments, Plan, Row, Tables, Taken};
 use ht_base::{Memory, Moment, Person, Persons, State, TaskId, Values};
 use ht_expr::{Assign, Env, Subs};
 use ht_models::Model;
-use ht_people::{Directory, except};
+use ht_people::Directory;
 use std::alloc::Global;
 use thiserror::Error;
 
@@ -78,8 +78,8 @@ pub fn create(
     ensures id { IfOk result (λ id. id.0 ≡ length (planned tables.now.tables plan.old).rows + 1) }
     ensures goes { OnOk result ((m : ModelOf) × (model_at tables.now.tables model ≡ Some m) × Goes tables.now.tables plan.old plan.new (planned tables.now.tables plan.old) (with_row (planned tables.now.tables plan.old) (spec.new_row (planned tables.now.tables plan.old) m model parent initiator input waits at))) }
     ensures sound { OnOk result (MayCome tables.now.tables.models (planned tables.now.tables plan.old).rows model parent → at.0 ≤ last_moment → IfSome waits (λ m. m.0 ≤ last_moment) → KeepsSound (planned tables.now.tables plan.old) (planned tables.now.tables plan.new)) }
-    ensures room { OnOk result (parent ≡ None → IsFull (planned tables.now.tables plan.old) model → ⊥) }
-    ensures full { result ≡ Err CreateRefusal.TaskLimit → (parent ≡ None) × IsFull (planned tables.now.tables plan.old) model }
+    ensures room { OnOk result (parent ≡ None → is_full (planned tables.now.tables plan.old) model ≡ false) }
+    ensures full { result ≡ Err CreateRefusal.TaskLimit → (parent ≡ None) × (is_full (planned tables.now.tables plan.old) model ≡ true) }
     ensures err { OnErr result (plan.new ≡ plan.old) }
 {
     let size = u128::from(tables.models().model(model).size);
@@ -222,7 +222,7 @@ fn roles_of(
     requires kinds { IsKinded model.now }
     requires parts { IsTrue (has_parts (parts_of model.now.input.items model.now.output.items) env.now) }
     ensures potential_owners { let s = sight (parts_of model.now.input.items model.now.output.items) env.now in
-        IfOk result (λ r. r.potential_owners ≡ potential_owners people.now s (shown model.now.potential_owners) (shown model.now.excluded_owners)) }
+        IfOk result (λ r. r.potential_owners ≡ potential_owners people.now s (shown model.now.potential_owners) (resolved people.now s (shown model.now.excluded_owners))) }
     ensures excluded_owners { let s = sight (parts_of model.now.input.items model.now.output.items) env.now in
         IfOk result (λ r. r.excluded_owners ≡ resolved people.now s (shown model.now.excluded_owners)) }
     ensures administrators { let s = sight (parts_of model.now.input.items model.now.output.items) env.now in
@@ -230,9 +230,10 @@ fn roles_of(
     ensures stakeholders { let s = sight (parts_of model.now.input.items model.now.output.items) env.now in
         IfOk result (λ r. r.stakeholders ≡ role_or people.now s (option_map shown model.now.stakeholders) (option_map_or (λ r. r.now.stakeholders) above.entry [])) }
 {
+    let candidates = found(alloc, people, env, &model.potential_owners)?;
     let excluded_owners = found(alloc, people, env, &model.excluded_owners)?;
     Ok(Roles {
-        potential_owners: owners(alloc, people, env, model, &excluded_owners)?,
+        potential_owners: without(alloc, candidates, &excluded_owners)?,
         excluded_owners,
         administrators: role(
             alloc,
@@ -264,27 +265,6 @@ fn parent_row<'a>(
         Some((id, _)) => plan.row(tables, id),
         None => None,
     }
-}
-
-// Who is found by the assignment of potential owners, without the excluded owners.
-fn owners(
-    alloc: Global,
-    people: &Directory,
-    env: &Env,
-    model: &Model,
-    excluded: &Persons,
-) -> Result<Persons, Memory>
-    requires initiator { env.now.initiator < length people.now.persons }
-    requires kinds { IsKinded model.now }
-    requires parts { IsTrue (has_parts (parts_of model.now.input.items model.now.output.items) env.now) }
-    requires excluded { excluded.now ≡ resolved people.now (sight (parts_of model.now.input.items model.now.output.items) env.now) (shown model.now.excluded_owners) }
-    ensures { IfOk result (λ ps. ps ≡ potential_owners people.now (sight (parts_of model.now.input.items model.now.output.items) env.now) (shown model.now.potential_owners) (shown model.now.excluded_owners)) }
-{
-    let candidates = found(alloc, people, env, &model.potential_owners)?;
-    if excluded.as_slice().is_empty() {
-        return Ok(candidates);
-    }
-    except(alloc, &candidates, excluded)
 }
 
 // The persons of a role, by its assignment or as the parent has them.

@@ -2,14 +2,14 @@ ghost use Rattle.std.specs.Prelude.{◌≡◌, ◌<◌, ◌≤◌, [], IfSome, l
 ghost use Rattle.std.specs.Option.{option_map_or};
 ghost use Rattle.ht_models.specs.Shown as shown;
 ghost use Rattle.ht_tree.specs.Plans.{IsPlanOf, planned};
+ghost use Rattle.ht_due.specs.Dues as dues;
 ghost use Rattle.ht_tree.specs.RowDues as spec;
 
 use crate::row_dues::{kind_of, open_moment};
 use crate::{Plan, Row, Tables};
 use ht_base::Moment;
-use ht_due::Due;
+use ht_due::{Due, lesser};
 use ht_models::{Deadline, Models};
-use std::cmp::Ordering;
 
 /// The least of what is due, as they would be after the plan, of the tasks of which it puts rows. It
 /// takes no memory.
@@ -27,7 +27,7 @@ pub fn least_changed(tables: &Tables, plan: &Plan) -> Option<Due>
 
 fn least_of(models: &Models, row: Option<&Row>) -> Option<Due>
     requires { IfSome row (λ r. r.now.model < length models.now) }
-    ensures { result ≡ spec.least_of (option_map_or (spec.row_dues models.now) (option_map (λ r. r.now) row.entry) []) }
+    ensures { result ≡ dues.least_of (option_map_or (spec.row_dues models.now) (option_map (λ r. r.now) row.entry) []) }
 {
     match row {
         Some(row) => least_due(models, row),
@@ -38,7 +38,7 @@ fn least_of(models: &Models, row: Option<&Row>) -> Option<Due>
 // The least of what is due of a row.
 fn least_due(models: &Models, row: &Row) -> Option<Due>
     requires { row.now.model < length models.now }
-    ensures { result ≡ spec.least_of (spec.row_dues models.now row.now) }
+    ensures { result ≡ dues.least_of (spec.row_dues models.now row.now) }
 {
     let deadlines = &models.model(row.model).deadlines;
     let waits = due_at(row, 0, 0, row.waits);
@@ -48,7 +48,7 @@ fn least_due(models: &Models, row: &Row) -> Option<Due>
 
 fn least_deadline(row: &Row, deadlines: &[Deadline]) -> Option<Due>
     requires { length deadlines.now ≤ 4 }
-    ensures { result ≡ spec.least_of (spec.deadline_dues row.now 0 (map shown.deadline_of deadlines.now)) }
+    ensures { result ≡ dues.least_of (spec.deadline_dues row.now 0 (map shown.deadline_of deadlines.now)) }
 {
     let mut least = None;
     for (place, deadline) in deadlines.iter().enumerate() {
@@ -58,14 +58,14 @@ fn least_deadline(row: &Row, deadlines: &[Deadline]) -> Option<Due>
 }
 
 fn deadline_due(row: &Row, place: u32, deadline: &Deadline) -> Option<Due>
-    ensures { result ≡ spec.least_of (spec.deadline_due row.now place (shown.deadline_of deadline.now)) }
+    ensures { result ≡ dues.least_of (spec.deadline_due row.now place (shown.deadline_of deadline.now)) }
 {
     let at = open_moment(row, place, deadline);
     due_at(row, kind_of(deadline.kind), place, at)
 }
 
 fn due_at(row: &Row, kind: u8, place: u32, at: Option<Moment>) -> Option<Due>
-    ensures { result ≡ spec.least_of (spec.due_of row.now kind place at) }
+    ensures { result ≡ dues.least_of (spec.due_of row.now kind place at) }
 {
     Some(Due {
         at: at?,
@@ -73,20 +73,4 @@ fn due_at(row: &Row, kind: u8, place: u32, at: Option<Moment>) -> Option<Due>
         kind,
         place,
     })
-}
-
-/// The lesser of two dues, where both are there.
-pub fn lesser(a: Option<Due>, b: Option<Due>) -> Option<Due>
-    ensures { result ≡ spec.lesser a b }
-{
-    let Some(first) = a else {
-        return b;
-    };
-    let Some(second) = b else {
-        return a;
-    };
-    match first.cmp(&second) {
-        Ordering::Less | Ordering::Equal => a,
-        Ordering::Greater => b,
-    }
 }

@@ -23,13 +23,13 @@ mod tables;
 mod taken;
 
 pub use activating::{owner_by, state_by};
-pub use assigning::{env, env_with, resolve, resolve_seen, see};
+pub use assigning::{env, env_with, resolve, resolve_seen, see, without};
 pub use changed_dues::{dues_after, dues_behind, is_due};
 pub use comments::{Comment, Comments};
 pub use creating::{CreateRefusal, create};
 pub use family::sub_tasks;
 pub use giving::{refused_part, values_given};
-pub use least_dues::{least_changed, lesser};
+pub use least_dues::least_changed;
 pub use notice::Notice;
 pub use plan::Plan;
 pub use row::Row;

@@ -1,7 +1,7 @@
 ghost use Rattle.std.specs.Prelude.{◌≡◌, ◌<◌, ◌^◌, false, IfOk, IfSome, IsSome, IsTrue, Some, OnOk, OnErr, is_some, length, option_map};
 ghost use Rattle.ht_tree.specs.Activation.{activated_to};
 ghost use Rattle.ht_tree.specs.Places.{last_of};
-ghost use Rattle.ht_tree.specs.Plans.{AreTotals, Goes, IsNext, IsPlanOf, Lends, keeping, new_rows, no_plan, notifying, planned};
+ghost use Rattle.ht_tree.specs.Plans.{AreTotals, Goes, IsNext, IsPlanOf, keeping, KeepsFile, Lends, new_rows, no_plan, notifying, planned};
 ghost use Rattle.ht_tree.specs.Roles as spec;
 ghost use Rattle.ht_tree.specs.Rows.{put_in};
 ghost use Rattle.ht_tree.specs.Sizes.{total_size};
@@ -108,6 +108,7 @@ impl Plan {
     pub fn put(&mut self, tables: &Tables, row: Row) -> Result<(), Memory>
         requires plan { IsPlanOf tables.now.tables self.old }
         requires next { IsNext (planned tables.now.tables self.old).rows row }
+        requires file { KeepsFile (planned tables.now.tables self.old).rows row }
         requires fits { Fits tables.now.tables row }
         ensures goes { OnOk result (Goes tables.now.tables self.old self.new (planned tables.now.tables self.old) (with_row (planned tables.now.tables self.old) row)) }
         ensures err { OnErr result (self.new ≡ self.old) }
@@ -217,7 +218,8 @@ impl Plan {
 
     /// Marks the plan as it is, to go back to.
     pub fn mark(&mut self)
-        ensures { self.new ≡ record self.old { marked = self.old.changes } }
+        ensures value { self.new ≡ record self.old { marked = self.old.changes } }
+        ensures fits { (t : TablesOf) → IsPlanOf t self.old → IsPlanOf t self.new }
     {
         self.mark = self.puts.len();
         self.notice_mark = self.notices.len();
@@ -226,7 +228,8 @@ impl Plan {
 
     /// Goes back to the last mark, or to no change.
     pub fn back(&mut self)
-        ensures { self.new ≡ record self.old { changes = self.old.marked } }
+        ensures value { self.new ≡ record self.old { changes = self.old.marked } }
+        ensures fits { (t : TablesOf) → IsPlanOf t self.old → IsPlanOf t self.new }
     {
         self.puts.truncate(self.mark);
         self.notices.truncate(self.notice_mark);

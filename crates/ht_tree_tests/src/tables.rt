@@ -83,7 +83,7 @@ fn prioritised(
         }
         let mut row = plan.take(alloc, tables, TaskId(*task))?;
         row.priority = *priority;
-        if row.task.0 == 0 || row.task.0 > plan.rows(tables) {
+        if row.task.0 != *task || *task == 0 || *task > plan.rows(tables) {
             return Err(Fail::from("another number"));
         }
         plan.put(tables, row)?;

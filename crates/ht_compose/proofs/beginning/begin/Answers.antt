@@ -10,6 +10,7 @@ use Rattle.ht_models.specs.Shown as shown
 use Rattle.ht_tree.specs.declared.row.Row.{Row}
 use Rattle.ht_tree.specs.Plans.{planned}
 use Rattle.ht_tree.specs.Tables.{TablesOf, model_of, task_row, with_row}
+use Rattle.ht_tree.proofs.PublicLaws.{lent_file, standing}
 
 pub begun_with-requires : goal.begun_with-requires
 begun_with-requires c =
@@ -42,3 +43,6 @@ returns-clause-acts c = λ at.
     acts_again is (may u row c.begun.result c.begun.ensures) c.put.new.self at (Begin c.args.task.0) c.in_ok-puts.puts.items (begins_with m row ++ Check row.task.0 ∷ []) c.in_ok-put.ensures.goes
     (ap (λ (r : Row). does (with_row u r) (begins_with m row ++ Check row.task.0 ∷ [])) c.begun.ensures ∙ sym begun ∙ on_this_task u (begins u) c.args.task.0 row m is.there of_model)
     (c.in_ok-puts.ensures ∙ ap (λ (r : Row). begins_with m r ++ Check r.task.0 ∷ []) same)
+
+pub put-requires-clause-file : goal.put-requires-clause-file
+put-requires-clause-file c = lent_file c.args.tables.now.tables c.args.plan.now c.take.new.self c.args.task.0 c.in_ok-row.row c.begun.result c.requires.sound c.in_ok-row.ensures.lends c.in_ok-row.ensures.row (ap standing c.begun.ensures)

@@ -1,4 +1,4 @@
-use Rattle.std.proofs.Common.{rules, ◌≡◌, List, [], length, map, vec_len, Option, None, ap, sym, subst, ◌∙◌, ℕ}
+use Rattle.std.proofs.Common.{refl, rules, ◌≡◌, List, [], length, map, vec_len, Option, None, ap, sym, subst, ◌∙◌, ℕ}
 use Rattle.std.proofs.lemmas.Bool.{eqb-true}
 use Rattle.std.proofs.lemmas.List.{length-map, nil_from_length}
 use Rattle.std.proofs.lemmas.Result.{IfOk-weaker}
@@ -18,6 +18,7 @@ use Rattle.ht_models.specs.Shown as shown
 use Rattle.ht_tree.specs.Families.{sub_tasks}
 use Rattle.ht_tree.specs.Plans.{planned}
 use Rattle.ht_tree.specs.Rows.{row_at}
+use Rattle.ht_tree.proofs.PublicLaws.{lent_file}
 
 pub returns-in_default-clause-acts : goal.returns-in_default-clause-acts
 returns-in_default-clause-acts c = λ at.
@@ -150,3 +151,6 @@ returns-clause-acts c =
     IfOk-weaker c.alone.result _ _ (λ l e at.
     acts_finished is so c.put.new.self c.in_ok-put.ensures.goes checked c.skip_below.new.plan at l.items c.in_ok-skip_below.ensures.goes c.in_ok-skip_below.ensures.sound
     (ap (λ (l : List Task). map item_of l) e)) c.alone.ensures
+
+pub put-requires-clause-file : goal.put-requires-clause-file
+put-requires-clause-file c = lent_file c.args.tables.now.tables c.args.plan.now c.take.new.self c.args.task.0 c.in_ok-row.row (record c.in_ok-row.row { output = c.in-Some-found.output }) c.requires.sound c.in_ok-row.ensures.lends c.in_ok-row.ensures.row refl

@@ -1,8 +1,9 @@
+use Rattle.ht_models.specs.Contradictions.{is_automatic}
 use Rattle.std.proofs.Common.{◌≡◌, ℕ, ◌+◌, ◌<◌, Bool, true, false, ◌&&◌, nat_lt, List, [], length, map, Option, Some, None, refl, ap, sym, ◌∙◌, arith}
 use Rattle.std.proofs.lemmas.Bool.Decides.{nat_tests}
 use Rattle.ht_base.specs.declared.task_id.TaskId.{TaskId}
 use Rattle.ht_compose.specs.declared.item.Item.{Item as Task}
-use Rattle.ht_compose.specs.Items.{comes_next, follows_by, is_automatic, is_sequential, on_model, on_task, still}
+use Rattle.ht_compose.specs.Items.{comes_next, follows_by, is_sequential, on_model, on_task, still}
 use Rattle.ht_compose.specs.Items.Item.{Next}
 use Rattle.ht_compose.specs.Running.{item_of}
 use Rattle.ht_compose.proofs.Acted.{acts_as_before, on_this_row}

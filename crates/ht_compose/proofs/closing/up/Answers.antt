@@ -1,8 +1,9 @@
+use Rattle.ht_models.specs.Contradictions.{is_automatic}
 use Rattle.std.proofs.Common.{rules, ◌≡◌, ℕ, true, false, List, [], ◌∷◌, map, Some, refl, ap, sym, ◌∙◌}
 use Rattle.std.proofs.lemmas.Result.{IfOk-weaker}
 use Rattle.ht_base.specs.declared.state.State.TheVariants.{Failed}
 use Rattle.ht_compose.specs.declared.item.Item.{Item as Task}
-use Rattle.ht_compose.specs.Items.{does, has_failed, is_automatic, on_row, on_task, rises}
+use Rattle.ht_compose.specs.Items.{does, has_failed, on_row, on_task, rises}
 use Rattle.ht_compose.specs.Items.Item.{Close, Up}
 use Rattle.ht_compose.specs.Running.{item_of}
 use Rattle.ht_compose.proofs.Acted.{IsTaken, acts_again, again_next, model_there, on_this_row, on_this_task}
@@ -15,6 +16,7 @@ use Rattle.ht_tree.specs.declared.row.Row.{Row}
 use Rattle.ht_base.specs.State.{is_final}
 use Rattle.ht_tree.specs.Plans.{planned}
 use Rattle.ht_tree.specs.Tables.{TablesOf, model_of, task_row, with_row}
+use Rattle.ht_tree.proofs.PublicLaws.{lent_file}
 
 pub put-requires-clause-next : goal.put-requires-clause-next
 put-requires-clause-next c =
@@ -49,3 +51,6 @@ returns-clause-acts c =
     acts_again is (with_fault u row child.fault) c.put.new.self at (Up p c.args.sub.0) l.items (Close row.task.0 Failed ∷ []) c.in_ok-put.ensures.goes
     (fails u p c.args.sub.0 child row m (sym c.in-Some.ensures.value) is.there of_model live failed automatic)
     (ap (λ (l : List Task). map item_of l) e ∙ ap (λ (n : ℕ). Close n Failed ∷ []) (sym ((is.sound).numbered p row is.there)))) c.alone.ensures
+
+pub put-requires-clause-file : goal.put-requires-clause-file
+put-requires-clause-file c = lent_file c.args.tables.now.tables c.args.plan.now c.take.new.self c.args.above.0 c.in_ok-row.row (record c.in_ok-row.row { fault = c.in-Some.child.now.fault }) c.requires.sound c.in_ok-row.ensures.lends c.in_ok-row.ensures.row refl

@@ -1,5 +1,5 @@
-use Rattle.std.proofs.Common.{rules, ◌≡◌, ◌∙◌, ℕ, false, ap, map, sym}
-use Rattle.ht_compose.specs.Items.{is_automatic}
+use Rattle.ht_models.specs.Contradictions.{is_automatic}
+use Rattle.std.proofs.Common.{refl, rules, ◌≡◌, ◌∙◌, ℕ, false, ap, map, sym}
 use Rattle.ht_compose.proofs.Acted.{IsTaken, model_there}
 use Rattle.ht_compose.proofs.CheckedRows.{IsFound, found, gathered, output_fits}
 use Rattle.ht_compose.proofs.gathering.gather.Goals as goal
@@ -7,6 +7,7 @@ use Rattle.ht_models.specs.Model.{ModelOf}
 use Rattle.ht_models.specs.Shown as shown
 use Rattle.ht_tree.specs.Families.{sub_tasks}
 use Rattle.ht_tree.specs.Plans.{planned}
+use Rattle.ht_tree.proofs.PublicLaws.{lent_file}
 
 pub finish-requires-clause-subs : goal.finish-requires-clause-subs
 finish-requires-clause-subs c =
@@ -36,3 +37,6 @@ returns-clause-gathers c =
     found u c.args.task.0 row m c.in_ok-found.found c.in-Some-found.output c.in-Some.ensures.value (model_there u row c.models.result.now m c.models.ensures.value c.model-model.ensures.value) c.in_ok-found.ensures (c.model-model.ensures.outputs row.model m c.model-model.ensures.value) c.in-Some-found.is in
     let manual : is_automatic m.completion ≡ false = search rules in
     gathered is so c.put.new.self c.in_ok-put.ensures.goes manual
+
+pub put-requires-clause-file : goal.put-requires-clause-file
+put-requires-clause-file c = lent_file c.args.tables.now.tables c.args.plan.now c.take.new.self c.args.task.0 c.in_ok-row.row (record c.in_ok-row.row { output = c.in-Some-found.output }) c.requires.sound c.in_ok-row.ensures.lends c.in_ok-row.ensures.row refl

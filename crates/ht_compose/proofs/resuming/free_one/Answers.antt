@@ -1,6 +1,8 @@
 use Rattle.std.proofs.Common.{◌≡◌, ◌∙◌, ap, subst, sym}
+use Rattle.ht_compose.specs.declared.reaching.Change.TheVariants.{Free}
 use Rattle.ht_compose.specs.Downward.{freed}
 use Rattle.ht_compose.proofs.Acted.{IsTaken, MayReplace, again, again_next, goes_again}
+use Rattle.ht_compose.proofs.Changed.{changed_standing}
 use Rattle.ht_compose.proofs.FreedAlone.{with_freed}
 use Rattle.ht_compose.proofs.OneRow.{one}
 use Rattle.ht_compose.proofs.resuming.free_one.Goals as goal
@@ -8,6 +10,7 @@ use Rattle.ht_tree.specs.declared.row.Row.{Row}
 use Rattle.ht_tree.specs.Plans.{Goes, planned}
 use Rattle.ht_tree.specs.Soundness.{IsSound}
 use Rattle.ht_tree.specs.Tables.{TablesOf, task_row, with_row}
+use Rattle.ht_tree.proofs.PublicLaws.{lent_file, standing}
 
 may : (u : TablesOf) (row after : Row) → after ≡ freed row → MayReplace u row after
 may u row after is = let M : Row → Type 0 = λ r. MayReplace u row r in subst M (sym is) (with_freed u row)
@@ -37,3 +40,6 @@ returns-clause-sound c =
     let ok = may u row c.changed.result c.changed.ensures in
     let S : TablesOf → Type 0 = λ v. IsSound v in
     subst S (sym (goes_again is ok c.put.new.self c.in_ok-put.ensures.goes).to) ((again is ok).keeps c.requires.sound)
+
+pub put-requires-clause-file : goal.put-requires-clause-file
+put-requires-clause-file c = lent_file c.args.tables.now.tables c.args.plan.now c.take.new.self c.args.task.0 c.in_ok-row.row c.changed.result c.requires.sound c.in_ok-row.ensures.lends c.in_ok-row.ensures.row (ap standing c.changed.ensures ∙ changed_standing Free c.in_ok-row.row)

@@ -1,10 +1,10 @@
 use Rattle.std.proofs.Common.{◌≡◌, length, sym, subst, ◌∙◌}
 use Rattle.ht_compose.specs.Reaching.{changed, reached}
 use Rattle.ht_compose.proofs.Changed.{changed_fits}
-use Rattle.ht_compose.proofs.OneRow.{changed_next, left_alone, one, put_reached}
+use Rattle.ht_compose.proofs.OneRow.{changed_file, changed_next, left_alone, one, put_reached}
 use Rattle.ht_compose.proofs.spreading.reach_one.Goals as goal
 use Rattle.ht_tree.specs.declared.row.Row.{Row}
-use Rattle.ht_tree.specs.Plans.{Goes, IsNext, planned}
+use Rattle.ht_tree.specs.Plans.{Goes, IsNext, KeepsFile, planned}
 use Rattle.ht_tree.specs.Soundness.{Fits}
 use Rattle.ht_tree.specs.Tables.{task_row, with_row}
 
@@ -18,6 +18,12 @@ put-requires-clause-next c =
     let t = c.args.tables.now.tables in
     let P : Row → Type 0 = λ r. IsNext (planned t c.take.new.self).rows r in
     subst P (sym c.changed.ensures) (changed_next t c.args.plan.now c.take.new.self c.args.task.0 c.args.reach c.args.id.0 c.in_ok-row.row c.change_of-change.result c.requires.there c.in_ok-row.ensures.row c.in_ok-row.ensures.lends)
+
+pub put-requires-clause-file : goal.put-requires-clause-file
+put-requires-clause-file c =
+    let t = c.args.tables.now.tables in
+    let P : Row → Type 0 = λ r. KeepsFile (planned t c.take.new.self).rows r in
+    subst P (sym c.changed.ensures) (changed_file t c.args.plan.now c.take.new.self c.args.task.0 c.args.reach c.args.id.0 c.in_ok-row.row c.change_of-change.result c.requires.there c.in_ok-row.ensures.row c.in_ok-row.ensures.lends)
 
 pub put-requires-clause-fits : goal.put-requires-clause-fits
 put-requires-clause-fits c =

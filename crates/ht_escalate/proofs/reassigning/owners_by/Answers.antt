@@ -1,12 +1,11 @@
 use Rattle.std.proofs.Common.{◌≡◌, length, not, ap}
-use Rattle.ht_escalate.proofs.NewOwners.{of_this, owners_are, same_owners}
+use Rattle.ht_escalate.proofs.NewOwners.{of_this, same_owners}
 use Rattle.ht_escalate.proofs.reassigning.owners_by.Goals as goal
-use Rattle.ht_escalate.specs.Escalating.{new_owners}
 use Rattle.ht_expr.specs.Assignments.{Assignment, is_individual}
 use Rattle.ht_expr.specs.Shown as tree
 use Rattle.ht_models.specs.Model.{ModelOf}
 use Rattle.ht_models.specs.Shown as shown
-use Rattle.ht_tree.specs.Assigning.{Sight, resolved}
+use Rattle.ht_tree.specs.Assigning.{Sight, potential_owners, resolved}
 use Rattle.ht_tree.specs.Creating.{seen_in}
 use Rattle.ht_tree.specs.Plans.{planned}
 use Rattle.ht_tree.specs.Tables.{directory, model_of}
@@ -28,5 +27,5 @@ returns c =
     let s : Sight = seen_in m rows row in
     let found : c.in_ok-found.found ≡ resolved (directory t) s a =
     of_this (λ (x : ModelOf). c.in_ok-found.found ≡ resolved (directory t) (seen_in x rows row) a) (model_of t row) m c.requires.seen.model c.in_ok-found.ensures.persons in
-    let persons = owners_are (directory t) s row a c.in_ok-found.found c.in_ok-except.field-0 found c.in_ok-except.ensures.ascends c.in_ok-except.ensures.set in
-    same_owners c.in_ok-except.field-0 (new_owners (directory t) s row a) (not c.individual.result) (not (is_individual a)) persons (ap not c.individual.ensures)
+    let persons = c.in_ok-without.ensures (directory t) s a found in
+    same_owners c.in_ok-without.field-0 (potential_owners (directory t) s a row.excluded_owners) (not c.individual.result) (not (is_individual a)) persons (ap not c.individual.ensures)

@@ -1,9 +1,11 @@
+use Rattle.ht_tree.proofs.PublicLaws.{lent_file, standing}
+use Rattle.ht_tree.specs.Rows.{model_in}
 use Rattle.std.proofs.Common.{◌≡◌, ◌<◌, List, Some, length, option_map, ap, refl, sym, subst, ◌∙◌}
 use Rattle.std.specs.Prelude.{slice_get}
 use Rattle.std.proofs.lemmas.List.{length-map}
 use Rattle.std.proofs.lemmas.Option.{slice_get-map, slice_get_read}
 use Rattle.std.proofs.lemmas.Result.{on_ok_weaker}
-use Rattle.ht_escalate.proofs.Escalating.{IsLent, IsTaking, escalated, next_row, open_within, row_fits, row_is, taking}
+use Rattle.ht_escalate.proofs.Escalating.{escalated, given_standing, IsLent, IsTaking, next_row, open_within, row_fits, row_is, taking}
 use Rattle.ht_escalate.proofs.taking.deadline.Goals as goal
 use Rattle.ht_models.specs.declared.model.Deadline.{Deadline}
 use Rattle.ht_models.specs.Model.{DeadlineOf, ModelOf}
@@ -19,7 +21,7 @@ put-requires-clause-next c =
     let m : ModelOf = shown.model_of c.model-model.result.now in
     let d : DeadlineOf = shown.deadline_of c.index-deadline.result.now in
     let ds : List Deadline = c.model-model.result.now.deadlines.items in
-    let of = ap (λ (ms : List ModelOf). slice_get ms row.model) (sym c.models.ensures.value) ∙ c.model-model.ensures.value in
+    let of = ap (λ (ms : List ModelOf). model_in ms row) (sym c.models.ensures.value) ∙ c.model-model.ensures.value in
     let within : c.args.place < length ds =
     subst (λ n. c.args.place < n) (length-map ds shown.deadline_of) (open_within u c.args.task.0 c.args.place row m c.requires.open (sym c.in-Some.ensures.value) of) in
     let listed : slice_get m.deadlines c.args.place ≡ Some d =
@@ -30,6 +32,11 @@ put-requires-clause-next c =
     let put = row_is is c.in_ok-row.row c.in_ok-follows.follows.owners c.in_ok-taken_row.field-0 c.in_ok-row.ensures.row c.in_ok-follows.ensures.owners c.in_ok-taken_row.ensures in
     next_row lent c.in_ok-taken_row.field-0 put
 
+pub put-requires-clause-file : goal.put-requires-clause-file
+put-requires-clause-file c =
+    lent_file c.args.tables.now.tables c.args.plan.now c.take.new.self c.args.task.0 c.in_ok-row.row c.in_ok-taken_row.field-0 c.requires.sound c.in_ok-row.ensures.lends c.in_ok-row.ensures.row
+    (ap standing c.in_ok-taken_row.ensures ∙ given_standing c.in_ok-row.row c.in_ok-follows.follows.owners)
+
 pub put-requires-clause-fits : goal.put-requires-clause-fits
 put-requires-clause-fits c =
     let t = c.args.tables.now.tables in
@@ -38,7 +45,7 @@ put-requires-clause-fits c =
     let m : ModelOf = shown.model_of c.model-model.result.now in
     let d : DeadlineOf = shown.deadline_of c.index-deadline.result.now in
     let ds : List Deadline = c.model-model.result.now.deadlines.items in
-    let of = ap (λ (ms : List ModelOf). slice_get ms row.model) (sym c.models.ensures.value) ∙ c.model-model.ensures.value in
+    let of = ap (λ (ms : List ModelOf). model_in ms row) (sym c.models.ensures.value) ∙ c.model-model.ensures.value in
     let within : c.args.place < length ds =
     subst (λ n. c.args.place < n) (length-map ds shown.deadline_of) (open_within u c.args.task.0 c.args.place row m c.requires.open (sym c.in-Some.ensures.value) of) in
     let listed : slice_get m.deadlines c.args.place ≡ Some d =
@@ -57,7 +64,7 @@ returns-clause-escalates c =
     let m : ModelOf = shown.model_of c.model-model.result.now in
     let d : DeadlineOf = shown.deadline_of c.index-deadline.result.now in
     let ds : List Deadline = c.model-model.result.now.deadlines.items in
-    let of = ap (λ (ms : List ModelOf). slice_get ms row.model) (sym c.models.ensures.value) ∙ c.model-model.ensures.value in
+    let of = ap (λ (ms : List ModelOf). model_in ms row) (sym c.models.ensures.value) ∙ c.model-model.ensures.value in
     let within : c.args.place < length ds =
     subst (λ n. c.args.place < n) (length-map ds shown.deadline_of) (open_within u c.args.task.0 c.args.place row m c.requires.open (sym c.in-Some.ensures.value) of) in
     let listed : slice_get m.deadlines c.args.place ≡ Some d =

@@ -30,4 +30,4 @@ returns-in-Err-Refused c =
     let refusal = c.in-Err-Refused.refusal in
     let T : ActRefusal → Type 0 = λ r. Tries t old c.command.new.plan (Comes (planned t old) c.args.person a.at.0 a.task.0 a.command.now) (Err r) in
     let tried : T (why.Refused refusal) = subst T c.in-Err-Refused.field-0-is c.in-Err-Refused.ensures in
-    rw c.in-Err-Refused.field-0-is (refused_anew t old c.command.new.plan c.args.person a c.requires.ready c.back.new.self refusal c.back.ensures tried.1 tried.0)
+    rw c.in-Err-Refused.field-0-is (refused_anew t old c.command.new.plan c.args.person a c.requires.ready c.back.new.self refusal c.back.ensures.value tried.1 tried.0)

@@ -15,7 +15,7 @@ reached c left answer kept told =
     let t = c.args.tables.now.tables in
     let a = c.args.asked.now in
     let response = c.in_ok-kept.field-0 in
-    let r = then_asks t c.args.plan.now c.turn.new.plan a.at.0 c.in_ok-taken.taken c.requires.plan c.in_ok-taken.ensures.turns a c.mark.new.self c.ask.new.plan (record_left a response) left (answer_given response) c.mark.ensures c.requires.asked.within c.requires.later kept c.in_ok-kept.ensures in
+    let r = then_asks t c.args.plan.now c.turn.new.plan a.at.0 c.in_ok-taken.taken c.requires.plan c.in_ok-taken.ensures.turns a c.mark.new.self c.ask.new.plan (record_left a response) left (answer_given response) c.mark.ensures.value c.requires.asked.within c.requires.later kept c.in_ok-kept.ensures in
     let P : Answer → Type 0 = λ x. PlansBehindTurn t c.ask.new.plan a left (record { taken = c.in_ok-taken.taken; answer = x }) in
     subst P (sym told) (record { after = r.0; decides = r.1; leaves = r.2 })
 

@@ -1,5 +1,5 @@
+use Rattle.ht_tree.specs.Rows.{model_in}
 use Rattle.std.proofs.Common.{◌≡◌, ℕ, true, List, [], Option, Some, None, IfSome, IsTrue, length, refl, ap, sym, subst, ◌∙◌}
-use Rattle.std.specs.Prelude.{slice_get}
 use Rattle.ht_expr.specs.Assignments.{is_plain}
 use Rattle.ht_expr.specs.declared.assignment.Assign.{Assign}
 use Rattle.ht_expr.specs.declared.environment.Env.{Env}
@@ -70,7 +70,7 @@ found-requires-in-Some-clause-kinds c =
     let row = c.args.row.now in
     let m = some_at t.models row.model c.requires.row.filed.model in
     let kinds = parts_of (m.0).input (m.0).output in
-    let held = of_model (λ x. IsHeldBy (length t.people.persons) x row.input row.output row.taken) (slice_get t.models row.model) m.0 m.1 c.requires.row.held in
+    let held = of_model (λ x. IsHeldBy (length t.people.persons) x row.input row.output row.taken) (model_in t.models row) m.0 m.1 c.requires.row.held in
     let S : Env → Type 0 = λ e. IsTrue (has_parts kinds e) in
     (kinds, of_model (λ x. Assigns (parts_of x.input x.output) c.args.assign.now) (model_of t row) m.0 m.1 c.requires.assign, subst S (sym (seen_is c.in-Some.is c.in_ok-see.ensures)) (row_seen m.0 (length t.people.persons) row held))
 

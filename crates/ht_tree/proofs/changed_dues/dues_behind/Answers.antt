@@ -1,7 +1,9 @@
-use Rattle.std.proofs.Common.{◌∙◌, ◌++◌, [], List, ap, arith}
+use Rattle.std.proofs.Common.{◌∙◌, ◌++◌, [], List, ap, arith, subst, sym}
 use Rattle.std.specs.Prelude.{option_map}
 use Rattle.std.specs.Option.{option_map_or}
 use Rattle.ht_models.specs.Model.{ModelOf}
+use Rattle.ht_due.proofs.PublicLaws.{has_in_order, in_order_ascends}
+use Rattle.ht_due.specs.Dues.{Ascends, has}
 use Rattle.ht_tree.specs.Plans.{planned}
 use Rattle.ht_tree.specs.RowDues.{row_dues}
 use Rattle.ht_tree.proofs.DueRows.{all_tasks, one_task_more}
@@ -17,4 +19,7 @@ loop-id-preserved c =
 pub returns-clause-has : goal.returns-clause-has
 returns-clause-has c = λ q.
     let u = planned c.args.tables.now.tables c.args.plan.now in
-    c.in_order.ensures.has q ∙ c.loop-id.invariant q ∙ all_tasks u c.args.last c.loop-id.id q c.requires.sound.numbered (omega arith)
+    ap (has q) c.in_order.ensures.value ∙ has_in_order q c.loop-id.dues.items ∙ c.loop-id.invariant q ∙ all_tasks u c.args.last c.loop-id.id q c.requires.sound.numbered (omega arith)
+
+pub returns-clause-ascend : goal.returns-clause-ascend
+returns-clause-ascend c = subst Ascends (sym c.in_order.ensures.value) (in_order_ascends c.loop-id.dues.items)

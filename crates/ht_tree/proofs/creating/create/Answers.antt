@@ -6,11 +6,12 @@ use Rattle.ht_models.specs.Shown.{model_of}
 use Rattle.ht_tree.specs.declared.row.Row.{Row}
 use Rattle.ht_tree.specs.Creating.{new_row}
 use Rattle.ht_tree.specs.Plans.{Goes, planned}
-use Rattle.ht_models.specs.TreeSizes.{AreSized}
+use Rattle.ht_models.specs.TreeSizes.{AreSized, size_at}
 use Rattle.ht_tree.specs.Families.{MayCome}
-use Rattle.ht_tree.specs.Sizes.{most_tasks, size_of, total_size}
+use Rattle.ht_tree.specs.Sizes.{most_tasks, total_size}
 use Rattle.ht_tree.specs.Soundness.{Fits, IsSound, IsSoundRow}
 use Rattle.ht_tree.specs.Tables.{TablesOf, model_at, with_row}
+use Rattle.ht_tree.proofs.Filing.{next_file}
 use Rattle.ht_tree.proofs.Fitting.{new_row_fits, new_row_sound, parent_fits}
 use Rattle.ht_tree.proofs.Putting.{put_new}
 use Rattle.ht_tree.proofs.Coming.{new_sound, parent_sound}
@@ -21,6 +22,15 @@ use Rattle.ht_tree.proofs.creating.create.Goals as goal
 not_both : {A : Type 0} (o : Option A) → o ≡ None → is_some o ≡ true → ⊥
 not_both None e h = cc
 not_both (Some x) e h = cc
+
+pub put-requires-clause-file : goal.put-requires-clause-file
+put-requires-clause-file c =
+    let t = c.args.tables.now.tables in
+    let u = planned t c.args.plan.now in
+    let m : ModelOf = model_of c.model.result.now in
+    let at : model_at t c.args.model ≡ Some m = ap (λ (ms : List ModelOf). slice_get ms c.args.model) (sym c.models.ensures.value) ∙ c.model.ensures.value in
+    let is : c.in_ok-row.row ≡ new_row u m c.args.model c.args.parent c.args.initiator c.args.input c.args.waits c.args.at = rw at at c.in_ok-row.ensures in
+    next_file u.rows c.in_ok-row.row (ap (λ (r : Row). r.task.0) is)
 
 pub put-requires-clause-fits : goal.put-requires-clause-fits
 put-requires-clause-fits c =
@@ -53,8 +63,8 @@ returns-clause-sound c = λ may early soon sound.
     let parent : row.parent ≡ c.args.parent = ap (λ (r : Row). r.parent) is in
     let model : row.model ≡ c.args.model = ap (λ (r : Row). r.model) is in
     let number : row.task.0 ≡ length u.rows + 1 = ap (λ (r : Row). r.task.0) is in
-    let size : size_of t.models row.model ≡ m.size = ap (λ (k : ℕ). size_of t.models k) model ∙ ap (λ (o : Option ModelOf). option_map_or (λ (x : ModelOf). x.size) o 0) known in
-    let room : c.args.parent ≡ None → total_size t.models u.rows + size_of t.models row.model ≤ most_tasks = λ none.
+    let size : size_at t.models row.model ≡ m.size = ap (λ (k : ℕ). size_at t.models k) model ∙ ap (λ (o : Option ModelOf). option_map_or (λ (x : ModelOf). x.size) o 0) known in
+    let room : c.args.parent ≡ None → total_size t.models u.rows + size_at t.models row.model ≤ most_tasks = λ none.
     elim c.else-is_none.branch [
       | else-is_none-via-then-is_none+else-size-gt-MOST_TASKS w ↦
           let value = w.size.ensures.value in

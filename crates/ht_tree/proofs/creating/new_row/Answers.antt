@@ -41,7 +41,7 @@ module _ (t : TablesOf) (m : ModelOf) (model : ℕ) (parent : Option (TaskId × 
       let same : priority ≡ (with_priority m bare).priority = level ∙ ap (λ (e : Env). level_of (value kinds e m.priority)) is in
       (same, next ∙ ap (λ (e : Env). record e { priority = pos priority }) is ∙ ap (λ (k : ℕ). record (env_of bare) { priority = pos k }) same)
 
-  made : (task : TaskId) (first second : Env) (priority : ℕ) (owners excluded admins holders : List ℕ) (group : Bool) (given set : Values) (taken : List ℕ) (comments : List Comment) → task.0 ≡ length t.rows + 1 → first ≡ env_of bare → priority ≡ level_of (value kinds first m.priority) → second ≡ record first { priority = pos priority } → owners ≡ potential_owners t.people (sight kinds second) m.potential_owners m.excluded_owners → excluded ≡ resolved t.people (sight kinds second) m.excluded_owners → admins ≡ role_or t.people (sight kinds second) m.administrators (option_map_or (λ r. r.administrators) (parent_row t parent) []) → holders ≡ role_or t.people (sight kinds second) m.stakeholders (option_map_or (λ r. r.stakeholders) (parent_row t parent) []) → group ≡ not (is_individual m.potential_owners) → given ≡ input → set ≡ [] → taken ≡ [] → comments ≡ [] → record {
+  made : (task : TaskId) (first second : Env) (priority : ℕ) (owners excluded admins holders : List ℕ) (group : Bool) (given set : Values) (taken : List ℕ) (comments : List Comment) → task.0 ≡ length t.rows + 1 → first ≡ env_of bare → priority ≡ level_of (value kinds first m.priority) → second ≡ record first { priority = pos priority } → owners ≡ potential_owners t.people (sight kinds second) m.potential_owners (resolved t.people (sight kinds second) m.excluded_owners) → excluded ≡ resolved t.people (sight kinds second) m.excluded_owners → admins ≡ role_or t.people (sight kinds second) m.administrators (option_map_or (λ r. r.administrators) (parent_row t parent) []) → holders ≡ role_or t.people (sight kinds second) m.stakeholders (option_map_or (λ r. r.stakeholders) (parent_row t parent) []) → group ≡ not (is_individual m.potential_owners) → given ≡ input → set ≡ [] → taken ≡ [] → comments ≡ [] → record {
     task = task;
     parent = parent;
     model = model;
@@ -68,7 +68,7 @@ module _ (t : TablesOf) (m : ModelOf) (model : ℕ) (parent : Option (TaskId × 
   made task first second priority owners excluded admins holders group given set taken comments number is level next ps es bs hs gs same none untaken silent =
       let both = leveled first second priority is level next in
       let s : sight kinds second ≡ seen m (with_priority m bare) = ap (λ (e : Env). sight kinds e) both.1 in
-      let ps2 = ps ∙ ap (λ (x : Sight). potential_owners t.people x m.potential_owners m.excluded_owners) s in
+      let ps2 = ps ∙ ap (λ (x : Sight). potential_owners t.people x m.potential_owners (resolved t.people x m.excluded_owners)) s in
       let es2 = es ∙ ap (λ (x : Sight). resolved t.people x m.excluded_owners) s in
       let bs2 = bs ∙ ap (λ (x : Sight). role_or t.people x m.administrators (option_map_or (λ r. r.administrators) (parent_row t parent) [])) s in
       let hs2 = hs ∙ ap (λ (x : Sight). role_or t.people x m.stakeholders (option_map_or (λ r. r.stakeholders) (parent_row t parent) [])) s in

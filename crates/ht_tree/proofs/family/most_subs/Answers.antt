@@ -1,5 +1,5 @@
+use Rattle.ht_tree.specs.Rows.{model_in}
 use Rattle.std.proofs.Common.{rules, ◌≡◌, List, length, vec_len, Some, ap, sym, ◌∙◌, arith}
-use Rattle.std.specs.Prelude.{slice_get}
 use Rattle.ht_models.specs.Model.{ModelOf}
 use Rattle.ht_models.specs.Shown as shown
 use Rattle.ht_tree.specs.declared.row.Row.{Row}
@@ -14,7 +14,7 @@ returns-in-Some c =
     let u = planned c.args.tables.now.tables c.args.plan.now in
     let m : ModelOf = shown.model_of c.model.result.now in
     let row = c.in-Some.row.now in
-    let of_model : model_of u row ≡ Some m = ap (λ (ms : List ModelOf). slice_get ms row.model) (sym c.models.ensures.value) ∙ c.model.ensures.value in
+    let of_model : model_of u row ≡ Some m = ap (λ (ms : List ModelOf). model_in ms row) (sym c.models.ensures.value) ∙ c.model.ensures.value in
     let count : vec_len c.model.result.now.subs ≡ length m.subs = search rules in
     let few = few_subs u c.requires.sound c.args.task.0 row m (sym c.in-Some.ensures.value) of_model in
     omega arith

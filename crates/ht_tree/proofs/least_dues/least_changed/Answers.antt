@@ -1,10 +1,11 @@
+use Rattle.ht_due.specs.Dues.{least_of}
 use Rattle.std.proofs.Common.{◌≡◌, Bor, List, [], Option, ap, option_map, ◌∙◌}
 use Rattle.std.specs.Option.{option_map_or}
 use Rattle.ht_due.specs.declared.due.Due.{Due}
 use Rattle.ht_models.specs.Model.{ModelOf}
 use Rattle.ht_tree.specs.declared.row.Row.{Row}
 use Rattle.ht_tree.specs.Plans.{planned}
-use Rattle.ht_tree.specs.RowDues.{least_of, row_dues, task_dues}
+use Rattle.ht_tree.specs.RowDues.{row_dues, task_dues}
 use Rattle.ht_tree.proofs.LeastDues.{next_row}
 use Rattle.ht_tree.proofs.least_dues.least_changed.Goals as goal
 

@@ -1,7 +1,8 @@
+use Rattle.ht_due.specs.Dues.{lesser, least_of}
 use Rattle.std.proofs.Common.{◌≡◌, drop}
 use Rattle.std.specs.List.{flat_map}
 use Rattle.ht_tree.specs.Plans.{planned}
-use Rattle.ht_tree.specs.RowDues.{least_of, lesser, task_dues}
+use Rattle.ht_tree.specs.RowDues.{task_dues}
 use Rattle.ht_tree.proofs.least_dues.least_changed.Given as goal
 
 abbrev pub invariant-loop-put : goal.invariant-loop-put

@@ -1,11 +1,12 @@
+use Rattle.ht_due.specs.Dues.{lesser, least_of}
 use Rattle.std.proofs.Common.{◌≡◌, ◌++◌, List, [], Option, map, ap, sym, ◌∙◌}
 use Rattle.std.specs.Option.{option_map_or}
 use Rattle.ht_due.specs.declared.due.Due.{Due}
 use Rattle.ht_models.specs.declared.model.Deadline.{Deadline}
 use Rattle.ht_models.specs.Model.{DeadlineOf, ModelOf}
 use Rattle.ht_models.specs.Shown.{deadline_of}
-use Rattle.ht_tree.specs.RowDues.{deadline_dues, deadlines_of, due_of, least_of, lesser}
-use Rattle.ht_tree.proofs.LeastDues.{least_append}
+use Rattle.ht_tree.specs.RowDues.{deadline_dues, deadlines_of, due_of}
+use Rattle.ht_due.proofs.PublicLaws.{least_append}
 use Rattle.ht_tree.proofs.least_dues.least_due.Goals as goal
 
 pub returns : goal.returns

@@ -30,8 +30,7 @@ commit-requires-clause-sound c =
     let R : List Row → Type 0 = λ l. IsSoundSlot t.people (length l) mine in
     let fine : IsSoundSlot t.people (length (planned t p).rows) mine = subst R (sym same) (record {
       person = omega arith;
-      device = omega arith;
-      number = omega arith;
+      numbered = (omega arith, omega arith);
       task = (omega arith, omega arith);
       kept = ((omega arith, omega arith), tt);
     }) in

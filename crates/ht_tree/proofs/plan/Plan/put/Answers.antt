@@ -12,4 +12,4 @@ returns-clause-goes c =
     let row = c.args.row in
     let x = c.self.inside in
     let G : List Row → Type 0 = λ l. Goes t old (plan_with l x.mark (record { totals = Some c.totals_with-totals.result; slot = (x.noted).slot }) x.marked x.notices.items (take x.notice_mark x.notices.items)) (planned t old) (with_row (planned t old) row) in
-    subst G (sym c.in_ok-put.ensures.ok) (put_goes t old x.puts x.mark x.noted x.marked x.notices.items (take x.notice_mark x.notices.items) c.self.view_is c.self.invariant.puts c.requires.plan row c.totals_with-totals.result c.requires.next c.requires.fits c.totals_with-totals.ensures)
+    subst G (sym c.in_ok-put.ensures.ok) (put_goes t old x.puts x.mark x.noted x.marked x.notices.items (take x.notice_mark x.notices.items) c.self.view_is c.self.invariant.puts c.requires.plan row c.totals_with-totals.result c.requires.next c.requires.fits c.totals_with-totals.ensures c.requires.file)

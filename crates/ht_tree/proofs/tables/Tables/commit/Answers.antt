@@ -1,14 +1,14 @@
 use Rattle.std.proofs.Common.{◌≡◌, ◌++◌, ◌≤◌, ℕ, List, ap, arith, fold, length, length-append, rules, sym, subst, vec_len, ◌∙◌}
 use Rattle.std.specs.List.{flat_map}
 use Rattle.ht_due.specs.declared.due.Due.{Due}
-use Rattle.ht_due.specs.Dues.{AreNew, Ascends, has, merged}
+use Rattle.ht_due.specs.Dues.{AreNew, Ascends, has, merged, in_order}
 use Rattle.ht_tree.specs.declared.notice.Notice.{Notice}
 use Rattle.ht_tree.specs.declared.row.Row.{Row}
 use Rattle.ht_tree.specs.declared.tables.Tables.TheInside.{Inside}
 use Rattle.ht_tree.specs.Kept.{IsKept, most_notices, roomy, tables_in}
 use Rattle.ht_tree.specs.Plans.{AreDuesPrepared, Follow, IsPlanOf, PlanOf, committed}
 use Rattle.ht_tree.specs.Puts.{CanPut}
-use Rattle.ht_tree.specs.RowDues.{in_order, row_dues}
+use Rattle.ht_tree.specs.RowDues.{row_dues}
 use Rattle.ht_tree.specs.Rows.{put_in}
 use Rattle.ht_tree.specs.Soundness.{IsSound}
 use Rattle.ht_tree.specs.Tables.{RoomyTables}
@@ -41,36 +41,36 @@ few_notices t now plan after view kept len room is =
     omega arith
 
 pub exchange-requires-clause-ascend : goal.exchange-requires-clause-ascend
-exchange-requires-clause-ascend c = (changes c.self.inside c.args.self.now c.args.plan c.args.at.0 c.self.view_is c.self.invariant c.requires.fits c.requires.sound c.requires.prepared.2).ascend
+exchange-requires-clause-ascend c = (changes c.self.inside c.args.self.now c.args.plan c.args.at.0 c.self.view_is c.self.invariant c.requires.fits c.requires.sound c.requires.prepared.dues).ascend
 
 pub exchange-requires-clause-gone : goal.exchange-requires-clause-gone
-exchange-requires-clause-gone c = subst Ascends (sym c.deref.ensures.value) (changes c.self.inside c.args.self.now c.args.plan c.args.at.0 c.self.view_is c.self.invariant c.requires.fits c.requires.sound c.requires.prepared.2).gone
+exchange-requires-clause-gone c = subst Ascends (sym c.deref.ensures.value) (changes c.self.inside c.args.self.now c.args.plan c.args.at.0 c.self.view_is c.self.invariant c.requires.fits c.requires.sound c.requires.prepared.dues).gone
 
 pub exchange-requires-clause-news : goal.exchange-requires-clause-news
-exchange-requires-clause-news c = subst Ascends (sym c.deref-2.ensures.value) (changes c.self.inside c.args.self.now c.args.plan c.args.at.0 c.self.view_is c.self.invariant c.requires.fits c.requires.sound c.requires.prepared.2).news
+exchange-requires-clause-news c = subst Ascends (sym c.deref-2.ensures.value) (changes c.self.inside c.args.self.now c.args.plan c.args.at.0 c.self.view_is c.self.invariant c.requires.fits c.requires.sound c.requires.prepared.dues).news
 
 pub exchange-requires-clause-there : goal.exchange-requires-clause-there
 exchange-requires-clause-there c =
-    let change = changes c.self.inside c.args.self.now c.args.plan c.args.at.0 c.self.view_is c.self.invariant c.requires.fits c.requires.sound c.requires.prepared.2 in
+    let change = changes c.self.inside c.args.self.now c.args.plan c.args.at.0 c.self.view_is c.self.invariant c.requires.fits c.requires.sound c.requires.prepared.dues in
     λ due h. change.there due (ap (has due) (sym c.deref.ensures.value) ∙ h)
 
 pub exchange-requires-clause-absent : goal.exchange-requires-clause-absent
 exchange-requires-clause-absent c =
-    let change = changes c.self.inside c.args.self.now c.args.plan c.args.at.0 c.self.view_is c.self.invariant c.requires.fits c.requires.sound c.requires.prepared.2 in
+    let change = changes c.self.inside c.args.self.now c.args.plan c.args.at.0 c.self.view_is c.self.invariant c.requires.fits c.requires.sound c.requires.prepared.dues in
     let G : List Due → Type 0 = λ gone. AreNew c.self.inside.news.items gone c.self.inside.queue.dues in
     let N : List Due → Type 0 = λ news. AreNew news c.deref.result.now c.self.inside.queue.dues in
     subst N (sym c.deref-2.ensures.value) (subst G (sym c.deref.ensures.value) change.absent)
 
 pub invariant_of-self : goal.invariant_of-self
 invariant_of-self c =
-    let change = changes c.self.inside c.args.self.now c.args.plan c.args.at.0 c.self.view_is c.self.invariant c.requires.fits c.requires.sound c.requires.prepared.2 in
+    let change = changes c.self.inside c.args.self.now c.args.plan c.args.at.0 c.self.view_is c.self.invariant c.requires.fits c.requires.sound c.requires.prepared.dues in
     let dues = c.self.inside.queue.dues in
     let rows : c.put_all.new.rows.items ≡ fold put_in c.self.inside.rows.items (c.args.plan.changes).rows = c.put_all.ensures ∙ ap (λ (l : List Row). fold put_in c.self.inside.rows.items l) c.into_changes-rows.ensures.rows in
     record {
       sound = search rules;
       counted = search rules;
       notices_few =
-          few_notices c.self.inside c.args.self.now c.args.plan c.tell.new.notices.items c.self.view_is c.self.invariant (search rules) c.requires.prepared.3
+          few_notices c.self.inside c.args.self.now c.args.plan c.tell.new.notices.items c.self.view_is c.self.invariant (search rules) c.requires.prepared.notices
           (c.tell.ensures ∙ ap (λ (l : List Notice). c.self.inside.notices.items ++ l) c.into_changes-rows.ensures.notices);
       due =
           c.exchange.ensures
@@ -82,14 +82,14 @@ invariant_of-self c =
 
 pub invariant_of-self-in_default : goal.invariant_of-self-in_default
 invariant_of-self-in_default c =
-    let change = changes c.self.inside c.args.self.now c.args.plan c.args.at.0 c.self.view_is c.self.invariant c.requires.fits c.requires.sound c.requires.prepared.2 in
+    let change = changes c.self.inside c.args.self.now c.args.plan c.args.at.0 c.self.view_is c.self.invariant c.requires.fits c.requires.sound c.requires.prepared.dues in
     let dues = c.self.inside.queue.dues in
     let rows : c.put_all.new.rows.items ≡ fold put_in c.self.inside.rows.items (c.args.plan.changes).rows = c.put_all.ensures ∙ ap (λ (l : List Row). fold put_in c.self.inside.rows.items l) c.into_changes-rows.ensures.rows in
     record {
       sound = search rules;
       counted = search rules;
       notices_few =
-          few_notices c.self.inside c.args.self.now c.args.plan c.tell.new.notices.items c.self.view_is c.self.invariant (search rules) c.requires.prepared.3
+          few_notices c.self.inside c.args.self.now c.args.plan c.tell.new.notices.items c.self.view_is c.self.invariant (search rules) c.requires.prepared.notices
           (c.tell.ensures ∙ ap (λ (l : List Notice). c.self.inside.notices.items ++ l) c.into_changes-rows.ensures.notices);
       due =
           c.exchange.ensures
