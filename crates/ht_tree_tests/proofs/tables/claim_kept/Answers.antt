@@ -6,11 +6,11 @@ use Rattle.ht_people.specs.Directory.{DirectoryOf}
 use Rattle.ht_tree.specs.declared.row.Row.{Row}
 use Rattle.ht_tree.specs.declared.slot.Kept.TheVariants.{Done}
 use Rattle.ht_tree.specs.declared.slot.Slot.{Slot}
-use Rattle.ht_tree.specs.Plans.{PlanOf, committed, keeping, planned}
+use Rattle.ht_tree.specs.Plans.{committed, IsPlanOf, keeping, planned, PlanOf}
 use Rattle.ht_tree.specs.Slots.{IsSoundSlot}
 use Rattle.ht_tree.specs.Soundness.{IsSound}
 use Rattle.ht_tree.specs.Tables.{TablesOf, with_slot}
-use Rattle.ht_tree.proofs.PublicLaws.{slot_sound}
+use Rattle.ht_tree.proofs.PublicLaws.{keeping_fits, no_plan_fits, slot_sound}
 use Rattle.ht_tree.proofs.PublicLaws.{committed_sound, keeping_planned, planned_nothing}
 use Rattle.ht_tree_tests.proofs.tables.claim_kept.Goals as goal
 
@@ -42,3 +42,18 @@ commit-requires-clause-sound c =
     let S : TablesOf → Type 0 = λ s. IsSound s in
     let C : TablesOf → Type 0 = λ s. IsSound (committed s q c.last-at.result.0) in
     subst C (sym c.prepare.ensures.tables) (committed_sound t p q c.last-at.result.0 c.in_ok-plan.ensures c.last-at.ensures.sound early (λ before. subst S (sym to) (slot_sound (planned t p) mine before fine)))
+
+pub prepare-requires : goal.prepare-requires
+prepare-requires c =
+    let t = c.args.tables.now.tables in
+    let p = c.in_ok-plan.plan in
+    let F : PlanOf → Type 0 = λ q. IsPlanOf t q in
+    subst F (sym c.keep.ensures) (keeping_fits t p c.claim_of.result (no_plan_fits t p c.in_ok-plan.ensures))
+
+pub commit-requires-clause-fits : goal.commit-requires-clause-fits
+commit-requires-clause-fits c =
+    let t = c.args.tables.now.tables in
+    let p = c.in_ok-plan.plan in
+    let F : PlanOf → Type 0 = λ q. IsPlanOf t q in
+    let T : TablesOf → Type 0 = λ u. IsPlanOf u c.keep.new.self in
+    subst T (sym c.prepare.ensures.tables) (subst F (sym c.keep.ensures) (keeping_fits t p c.claim_of.result (no_plan_fits t p c.in_ok-plan.ensures)))
