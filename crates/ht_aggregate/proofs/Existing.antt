@@ -8,6 +8,7 @@ use Rattle.std.proofs.lemmas.Bool.{cases_Bool, cases_eq, cases_lt, both_ways, fa
 use Rattle.std.proofs.lemmas.List.Prefix.{front_fits}
 use Rattle.std.proofs.lemmas.Str.{IsUtf8-from_is_utf8, IsUtf8-nil, is_utf8-from_IsUtf8}
 use Rattle.ht_base.specs.Integers.{clamped}
+use Rattle.ht_base.specs.declared.limits.TheConstants.{LONGEST_TEXT}
 use Rattle.ht_base.specs.declared.how.How.{How}
 use Rattle.ht_base.specs.declared.how.How.TheVariants as how
 use Rattle.ht_base.specs.declared.value.Value.{Value}
@@ -15,7 +16,7 @@ use Rattle.ht_base.specs.declared.value.Value.TheVariants.{Text, Int, Truth}
 use Rattle.ht_aggregate.specs.Aggregates.{IsAggregate, IsNumberOf, IsText, IsTruth}
 use Rattle.ht_aggregate.specs.Frequencies.{IsElected, IsLeastFrequent, IsMostFrequent, IsOneOrEmpty, times}
 use Rattle.ht_aggregate.specs.Given.{numbers, texts, truths}
-use Rattle.ht_aggregate.specs.Joining.{Begins, IsCut, joined, most_bytes}
+use Rattle.ht_aggregate.specs.Joining.{Begins, IsCut, joined}
 use Rattle.ht_aggregate.specs.Numbers.{IsAverage, IsGreatest, IsLeast, total}
 use Rattle.ht_aggregate.specs.Searching.{IsOneOrNone, OccursAlone, counts}
 use Rattle.ht_aggregate.specs.Truths.{AreAllTrue, AreForTrue, IsAnyTrue, falses, trues}
@@ -69,8 +70,8 @@ cut_within most whole (suc n) within beyond =
 cut_exists : (most : ℕ) (whole : List ℕ) → (t : List ℕ) × IsCut most whole t
 cut_exists most whole = cut_within most whole most (omega arith) (λ longer starts utf8 more. more)
 
-text_of_cut : (whole : List ℕ) → (r : Option Value) × IsText (IsCut most_bytes whole) r
-text_of_cut whole = let cut = cut_exists most_bytes whole in (Some (Text cut.0), cut.1)
+text_of_cut : (whole : List ℕ) → (r : Option Value) × IsText (IsCut LONGEST_TEXT whole) r
+text_of_cut whole = let cut = cut_exists LONGEST_TEXT whole in (Some (Text cut.0), cut.1)
 
 -- ---- texts that are found
 

@@ -4,6 +4,7 @@ use Rattle.std.specs.List.{All, Contains}
 use Rattle.std.proofs.lemmas.List.Elements.{All-contains}
 use Rattle.ht_base.specs.Integers.{clamped}
 use Rattle.ht_base.specs.Kinds.{kind_of_how, kind_of_value}
+use Rattle.ht_base.specs.declared.limits.TheConstants.{LONGEST_TEXT}
 use Rattle.ht_base.specs.declared.how.How.{How}
 use Rattle.ht_base.specs.declared.how.How.TheVariants as how
 use Rattle.ht_base.specs.declared.kind.Kind.TheVariants as kind
@@ -12,7 +13,7 @@ use Rattle.ht_base.specs.declared.value.Value.TheVariants.{Text, Int, Truth}
 use Rattle.ht_aggregate.specs.Aggregates.{IsAggregate, IsNumber, IsNumberOf, IsText, IsTruth}
 use Rattle.ht_aggregate.specs.Frequencies.{IsElected, IsLeastFrequent, IsMostFrequent, IsOneOrEmpty}
 use Rattle.ht_aggregate.specs.Given.{numbers, texts, truths}
-use Rattle.ht_aggregate.specs.Joining.{IsCut, joined, most_bytes}
+use Rattle.ht_aggregate.specs.Joining.{IsCut, joined}
 use Rattle.ht_aggregate.specs.Numbers.{IsAverage, IsGreatest, IsLeast, total}
 use Rattle.ht_aggregate.specs.Truths.{AreAllTrue, AreForTrue, IsAnyTrue}
 
@@ -33,8 +34,8 @@ number_kind P ns (Int n) h = refl
 number_kind P ns _ h = absurd h
 
 pub result_kind : (h : How) (vs : List Value) (v : Value) → IsAggregate h vs (Some v) → kind_of_value v ≡ kind_of_how h
-result_kind how.Concat vs v h = text_kind (IsCut most_bytes (joined [] (texts vs))) v h
-result_kind (how.ConcatWithDelimiter d) vs v h = text_kind (IsCut most_bytes (joined d (texts vs))) v h
+result_kind how.Concat vs v h = text_kind (IsCut LONGEST_TEXT (joined [] (texts vs))) v h
+result_kind (how.ConcatWithDelimiter d) vs v h = text_kind (IsCut LONGEST_TEXT (joined d (texts vs))) v h
 result_kind how.MostFrequent vs v h = text_kind (IsOneOrEmpty (IsMostFrequent (texts vs))) v h
 result_kind how.LeastFrequent vs v h = text_kind (IsOneOrEmpty (IsLeastFrequent (texts vs))) v h
 result_kind (how.VoteOnString percent) vs v h = text_kind (IsOneOrEmpty (IsElected percent (texts vs))) v h
@@ -49,13 +50,13 @@ result_kind how.Avg vs v h = number_kind IsAverage (numbers vs) v h
 -- ---- how long a text is
 
 abbrev AreShort : List (List ℕ) → Type 0
-AreShort ts = All (λ t. length t ≤ most_bytes) ts
+AreShort ts = All (λ t. length t ≤ LONGEST_TEXT) ts
 
-one_short : (P : List ℕ → Type 0) (ts : List (List ℕ)) → AreShort ts → ((t : List ℕ) → P t → Contains ts t) → (t : List ℕ) → IsOneOrEmpty P t → length t ≤ most_bytes
-one_short P ts short among t (inl one) = All-contains (λ x. length x ≤ most_bytes) ts t short (among t one)
+one_short : (P : List ℕ → Type 0) (ts : List (List ℕ)) → AreShort ts → ((t : List ℕ) → P t → Contains ts t) → (t : List ℕ) → IsOneOrEmpty P t → length t ≤ LONGEST_TEXT
+one_short P ts short among t (inl one) = All-contains (λ x. length x ≤ LONGEST_TEXT) ts t short (among t one)
 one_short P ts short among t (inr none) = omega (arith, ap length none.1)
 
-pub result_short : (h : How) (vs : List Value) (t : List ℕ) → AreShort (texts vs) → IsAggregate h vs (Some (Text t)) → length t ≤ most_bytes
+pub result_short : (h : How) (vs : List Value) (t : List ℕ) → AreShort (texts vs) → IsAggregate h vs (Some (Text t)) → length t ≤ LONGEST_TEXT
 result_short how.Concat vs t short h = h.within
 result_short (how.ConcatWithDelimiter d) vs t short h = h.within
 result_short how.MostFrequent vs t short h = one_short (IsMostFrequent (texts vs)) (texts vs) short (λ x one. one.occurs) t h

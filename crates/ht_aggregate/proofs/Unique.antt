@@ -5,6 +5,7 @@ use Rattle.std.proofs.Math.Nat.{mul-le-mul_right}
 use Rattle.std.proofs.lemmas.Bool.{cases_order}
 use Rattle.std.proofs.lemmas.Int.{by_lt_z, ints}
 use Rattle.std.proofs.lemmas.List.Elements.{All-contains}
+use Rattle.ht_base.specs.declared.limits.TheConstants.{LONGEST_TEXT}
 use Rattle.ht_base.specs.declared.how.How.{How}
 use Rattle.ht_base.specs.declared.how.How.TheVariants as how
 use Rattle.ht_base.specs.declared.value.Value.{Value}
@@ -12,7 +13,7 @@ use Rattle.ht_base.specs.declared.value.Value.TheVariants.{Text, Int, Truth}
 use Rattle.ht_aggregate.specs.Aggregates.{IsAggregate, IsNumber, IsNumberOf, IsText, IsTruth}
 use Rattle.ht_aggregate.specs.Frequencies.{IsElected, IsLeastFrequent, IsMostFrequent, IsOneOrEmpty}
 use Rattle.ht_aggregate.specs.Given.{numbers, texts, truths}
-use Rattle.ht_aggregate.specs.Joining.{IsCut, joined, most_bytes}
+use Rattle.ht_aggregate.specs.Joining.{IsCut, joined}
 use Rattle.ht_aggregate.specs.Numbers.{IsAverage, IsGreatest, IsLeast}
 use Rattle.ht_aggregate.specs.Truths.{AreAllTrue, AreForTrue, IsAnyTrue}
 use Rattle.ht_aggregate.proofs.Cuts.{front_is}
@@ -129,8 +130,8 @@ one_number P one never ns a b h k =
 -- ---- all of them
 
 pub one_result : (h : How) (vs : List Value) (a b : Option Value) → IsAggregate h vs a → IsAggregate h vs b → a ≡ b
-one_result how.Concat vs a b h k = one_text (IsCut most_bytes (joined [] (texts vs))) (one_cut most_bytes (joined [] (texts vs))) a b h k
-one_result (how.ConcatWithDelimiter d) vs a b h k = one_text (IsCut most_bytes (joined d (texts vs))) (one_cut most_bytes (joined d (texts vs))) a b h k
+one_result how.Concat vs a b h k = one_text (IsCut LONGEST_TEXT (joined [] (texts vs))) (one_cut LONGEST_TEXT (joined [] (texts vs))) a b h k
+one_result (how.ConcatWithDelimiter d) vs a b h k = one_text (IsCut LONGEST_TEXT (joined d (texts vs))) (one_cut LONGEST_TEXT (joined d (texts vs))) a b h k
 one_result how.MostFrequent vs a b h k =
     let P = IsMostFrequent (texts vs) in
     one_text (IsOneOrEmpty P) (one_or_empty P (one_most (texts vs))) a b h k

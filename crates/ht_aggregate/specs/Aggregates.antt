@@ -1,13 +1,14 @@
 -- What becomes of the values of sub tasks, for each aggregate (WS-HumanTask 1.1, 4.8).
 use Rattle.std.specs.Prelude.{◌≡◌, ◌↔◌, ℕ, ℤ, List, [], Option, Some, None, IsTrue}
 use Rattle.ht_base.specs.Integers.{clamped}
+use Rattle.ht_base.specs.declared.limits.TheConstants.{LONGEST_TEXT}
 use Rattle.ht_base.specs.declared.how.How.{How}
 use Rattle.ht_base.specs.declared.how.How.TheVariants as how
 use Rattle.ht_base.specs.declared.value.Value.{Value}
 use Rattle.ht_base.specs.declared.value.Value.TheVariants.{Text, Int, Truth}
 use Rattle.ht_aggregate.specs.Frequencies.{IsElected, IsLeastFrequent, IsMostFrequent, IsOneOrEmpty}
 use Rattle.ht_aggregate.specs.Given.{numbers, texts, truths}
-use Rattle.ht_aggregate.specs.Joining.{IsCut, joined, most_bytes}
+use Rattle.ht_aggregate.specs.Joining.{IsCut, joined}
 use Rattle.ht_aggregate.specs.Numbers.{IsAverage, IsGreatest, IsLeast, total}
 use Rattle.ht_aggregate.specs.Truths.{AreAllTrue, AreForTrue, IsAnyTrue}
 
@@ -32,8 +33,8 @@ IsNumberOf Holds numbers None = numbers ≡ []
 IsNumberOf Holds numbers _ = ⊥
 
 abbrev pub IsAggregate : How → List Value → Option Value → Type 0
-IsAggregate how.Concat values result = IsText (IsCut most_bytes (joined [] (texts values))) result
-IsAggregate (how.ConcatWithDelimiter delimiter) values result = IsText (IsCut most_bytes (joined delimiter (texts values))) result
+IsAggregate how.Concat values result = IsText (IsCut LONGEST_TEXT (joined [] (texts values))) result
+IsAggregate (how.ConcatWithDelimiter delimiter) values result = IsText (IsCut LONGEST_TEXT (joined delimiter (texts values))) result
 IsAggregate how.MostFrequent values result = IsText (IsOneOrEmpty (IsMostFrequent (texts values))) result
 IsAggregate how.LeastFrequent values result = IsText (IsOneOrEmpty (IsLeastFrequent (texts values))) result
 IsAggregate (how.VoteOnString percent) values result = IsText (IsOneOrEmpty (IsElected percent (texts values))) result

@@ -1,11 +1,7 @@
--- Texts joined to one of at most 512 bytes.
+-- Texts joined to one that is no longer than a text may be.
 use Rattle.std.specs.Prelude.{◌≡◌, ℕ, ◌<◌, ◌≤◌, List, ◌++◌, length, ◌⊎◌}
 use Rattle.std.specs.List.{join_by}
 use Rattle.std.specs.Str.{IsUtf8}
-
--- the most bytes that a text has
-abbrev pub most_bytes : ℕ
-most_bytes = 512
 
 -- the texts, one behind another, with the delimiter between each two
 abbrev pub joined : List ℕ → List (List ℕ) → List ℕ

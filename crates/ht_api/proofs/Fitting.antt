@@ -12,6 +12,7 @@ use Rattle.serde_json.specs.Find.{as_array, as_i64, as_number, as_object, as_str
 use Rattle.serde_json.specs.View.{items_view, members_view}
 use Rattle.serde_json.specs.declared.value.Value.{Value}
 use Rattle.serde_json.proofs.Views.{items_len-items_view, members_len-members_view}
+use Rattle.ht_base.specs.declared.limits.TheConstants.{LONGEST_PERIOD, LONGEST_TEXT, MOST_NAMES, MOST_PARTS}
 use Rattle.ht_base.specs.declared.scalar.Scalar.{Scalar}
 use Rattle.ht_base.specs.declared.scalar.Scalar.TheVariants.{Text, Int, Truth}
 use Rattle.ht_base.specs.Events.{AreGiven, AreNames, is_short}
@@ -19,7 +20,7 @@ use Rattle.ht_base.proofs.PublicLaws.{period_exact, period_reads, period_short}
 use Rattle.ht_base.specs.declared.moment.Moment.{Moment}
 use Rattle.ht_base.specs.Moment.{last_moment}
 use Rattle.ht_base.specs.Name.{name_of}
-use Rattle.ht_base.specs.Periods.{IsPeriod, PeriodText, longest_period, millis, period_of}
+use Rattle.ht_base.specs.Periods.{IsPeriod, PeriodText, millis, period_of}
 use Rattle.ht_base.specs.Places.{IsRepeated}
 use Rattle.ht_api.specs.Fits.{are_distinct, holds_name, if_any, moment_in, name_in, names_of, owners_in, part_in, parts_if, parts_in, parts_of, period_in, persons_if, persons_in, scalar_in, some_parts_in, text_if, text_in, whole_if, whole_in}
 
@@ -82,47 +83,47 @@ none_of : {A : Type 0} (o : Option (List A)) (f : List A → Option (List A)) �
 none_of None f none = refl
 none_of (Some xs) f none = none xs refl
 
-pub too_many_persons : (vs : List Value) → 1024 < length vs → option_and_then persons_if (names_of (items_view vs)) ≡ None
+pub too_many_persons : (vs : List Value) → MOST_NAMES < length vs → option_and_then persons_if (names_of (items_view vs)) ≡ None
 too_many_persons vs more = none_of (names_of (items_view vs)) persons_if (λ names e.
     let count = names_counted (items_view vs) names e ∙ items_len-items_view vs in
-    let over : nat_le (length names) 1024 ≡ false = lt-leb (length names) 1024 (omega arith) in
+    let over : nat_le (length names) MOST_NAMES ≡ false = lt-leb (length names) MOST_NAMES (omega arith) in
     rw over refl)
 
-pub few_persons : (vs : List Value) (names : List (List ℕ)) → length vs ≤ 1024 → names_of (items_view vs) ≡ Some names → persons_if names ≡ (if are_distinct names then Some names else None)
+pub few_persons : (vs : List Value) (names : List (List ℕ)) → length vs ≤ MOST_NAMES → names_of (items_view vs) ≡ Some names → persons_if names ≡ (if are_distinct names then Some names else None)
 few_persons vs names few e =
     let count = names_counted (items_view vs) names e ∙ items_len-items_view vs in
-    let within : nat_le (length names) 1024 ≡ true = le-leb (length names) 1024 (omega arith) in
+    let within : nat_le (length names) MOST_NAMES ≡ true = le-leb (length names) MOST_NAMES (omega arith) in
     rw within refl
 
-pub too_many_parts : (es : List (String Global × Value)) → 8 < length es → option_and_then parts_if (parts_of (members_view es)) ≡ None
+pub too_many_parts : (es : List (String Global × Value)) → MOST_PARTS < length es → option_and_then parts_if (parts_of (members_view es)) ≡ None
 too_many_parts es more = none_of (parts_of (members_view es)) parts_if (λ parts e.
     let count = parts_counted (members_view es) parts e ∙ members_len-members_view es in
-    let over : nat_le (length parts) 8 ≡ false = lt-leb (length parts) 8 (omega arith) in
+    let over : nat_le (length parts) MOST_PARTS ≡ false = lt-leb (length parts) MOST_PARTS (omega arith) in
     rw over refl)
 
-pub few_parts : (es : List (String Global × Value)) → length es ≤ 8 → option_and_then parts_if (parts_of (members_view es)) ≡ parts_of (members_view es)
+pub few_parts : (es : List (String Global × Value)) → length es ≤ MOST_PARTS → option_and_then parts_if (parts_of (members_view es)) ≡ parts_of (members_view es)
 few_parts es few = go (parts_of (members_view es)) refl
   where
     go : (o : Option (List (List ℕ × Scalar))) → parts_of (members_view es) ≡ o → option_and_then parts_if o ≡ o
     go None e = refl
     go (Some parts) e =
         let count = parts_counted (members_view es) parts e ∙ members_len-members_view es in
-        let within : nat_le (length parts) 8 ≡ true = le-leb (length parts) 8 (omega arith) in
+        let within : nat_le (length parts) MOST_PARTS ≡ true = le-leb (length parts) MOST_PARTS (omega arith) in
         rw within refl
 
 -- ---- parts
 
-int_short : (o : Option ℤ) (v : Scalar) (name : List ℕ) → option_map Int o ≡ Some v → is_short 512 (name, v) ≡ true
+int_short : (o : Option ℤ) (v : Scalar) (name : List ℕ) → option_map Int o ≡ Some v → is_short LONGEST_TEXT (name, v) ≡ true
 int_short None v name e = cc
 int_short (Some z) v name e = let same : Int z ≡ v = cc in rw (← same) refl
 
-scalar_short : (d : Data) (v : Scalar) (name : List ℕ) → scalar_in d ≡ Some v → is_short 512 (name, v) ≡ true
+scalar_short : (d : Data) (v : Scalar) (name : List ℕ) → scalar_in d ≡ Some v → is_short LONGEST_TEXT (name, v) ≡ true
 scalar_short null v name e = cc
 scalar_short (boolean b) v name e = let same : Truth b ≡ v = cc in rw (← same) refl
 scalar_short (number n) v name e = int_short (as_i64 n) v name e
 scalar_short (string s) v name e =
-    let p = from_if (nat_le (length s) 512) (Text s) v e in
-    let few : length s ≤ 512 = leb-true (length s) 512 p.0 in
+    let p = from_if (nat_le (length s) LONGEST_TEXT) (Text s) v e in
+    let few : length s ≤ LONGEST_TEXT = leb-true (length s) LONGEST_TEXT p.0 in
     rw (← p.1) (lt-ltb (length s) 513 (omega arith))
 scalar_short (array ds) v name e = cc
 scalar_short (object ms) v name e = cc
@@ -131,13 +132,13 @@ pub one_part_more : (read : List (List ℕ × Scalar)) (key name : List ℕ) (d 
     → before read (parts_of (member key d ms)) ≡ before (read ++ (name, value) ∷ []) (parts_of ms)
 one_part_more read key name d value ms e f = rw (e, f) (one_more read (name, value) (parts_of ms))
 
-part_short : (key : List ℕ) (d : Data) (part : List ℕ × Scalar) → part_in key d ≡ Some part → is_short 512 part ≡ true
+part_short : (key : List ℕ) (d : Data) (part : List ℕ × Scalar) → part_in key d ≡ Some part → is_short LONGEST_TEXT part ≡ true
 part_short key d part e =
     let q = from_some (name_of key) (λ name. option_map (λ value. (name, value)) (scalar_in d)) part e in
     let m = from_mapped (λ value. (q.0, value)) (scalar_in d) part q.2 in
     rw (← m.2) (scalar_short d m.0 q.0 m.1)
 
-all_short : (ms : Members) (parts : List (List ℕ × Scalar)) → parts_of ms ≡ Some parts → list_all (is_short 512) parts ≡ true
+all_short : (ms : Members) (parts : List (List ℕ × Scalar)) → parts_of ms ≡ Some parts → list_all (is_short LONGEST_TEXT) parts ≡ true
 all_short no_members parts e = let same : [] ≡ parts = cc in rw (← same) refl
 all_short (member k d ms) parts e =
     let q = from_some (part_in k d) (λ part. option_map (λ more. part ∷ more) (parts_of ms)) parts e in
@@ -151,8 +152,8 @@ pub given : (d : Data) (parts : List (List ℕ × Scalar)) → parts_in d ≡ So
 given d parts e =
     let p = from_some (option_and_then parts_of (as_object d)) parts_if parts e in
     let q = from_some (as_object d) parts_of p.0 p.1 in
-    let s = from_if (nat_le (length p.0) 8) p.0 parts p.2 in
-    let fit : AreGiven p.0 = record { few = leb-true (length p.0) 8 s.0; short = all_short q.0 p.0 q.2 } in
+    let s = from_if (nat_le (length p.0) MOST_PARTS) p.0 parts p.2 in
+    let fit : AreGiven p.0 = record { few = leb-true (length p.0) MOST_PARTS s.0; short = all_short q.0 p.0 q.2 } in
     subst AreGiven s.1 fit
 
 pub some_given : (d : Data) (parts : List (List ℕ × Scalar)) → some_parts_in d ≡ Some parts → AreGiven parts × (1 ≤ length parts)
@@ -188,9 +189,9 @@ distinct_is (n ∷ ns) h (suc i) r = at r.0 r.1 r.2 r.3 r.4 (λ s. distinct_is n
 pub persons_fit : (d : Data) (names : List (List ℕ)) → persons_in d ≡ Some names → AreNames names
 persons_fit d names e =
     let p = from_some (option_and_then names_of (as_array d)) persons_if names e in
-    let s = from_if (nat_le (length p.0) 1024 && are_distinct p.0) p.0 names p.2 in
-    let t = and_parts (nat_le (length p.0) 1024) (are_distinct p.0) s.0 in
-    let fit : AreNames p.0 = record { few = leb-true (length p.0) 1024 t.0; distinct = distinct_is p.0 t.1 } in
+    let s = from_if (nat_le (length p.0) MOST_NAMES && are_distinct p.0) p.0 names p.2 in
+    let t = and_parts (nat_le (length p.0) MOST_NAMES) (are_distinct p.0) s.0 in
+    let fit : AreNames p.0 = record { few = leb-true (length p.0) MOST_NAMES t.0; distinct = distinct_is p.0 t.1 } in
     subst AreNames s.1 fit
 
 pub owners_fit : (d : Data) (names : List (List ℕ)) → owners_in d ≡ Some names → AreNames names × (1 ≤ length names)
@@ -205,14 +206,14 @@ whole_fits least most d n e =
     let few = leb-true p.0 most t.1 in
     subst (λ (k : ℕ). (least ≤ k) × (k ≤ most)) s.1 (low, few)
 
-pub text_fits : (d : Data) (text : List ℕ) → text_in d ≡ Some text → (1 ≤ length text) × (length text ≤ 512)
+pub text_fits : (d : Data) (text : List ℕ) → text_in d ≡ Some text → (1 ≤ length text) × (length text ≤ LONGEST_TEXT)
 text_fits d text e =
     let p = from_some (as_str d) text_if text e in
-    let s = from_if (nat_lt 0 (length p.0) && nat_le (length p.0) 512) p.0 text p.2 in
-    let t = and_parts (nat_lt 0 (length p.0)) (nat_le (length p.0) 512) s.0 in
+    let s = from_if (nat_lt 0 (length p.0) && nat_le (length p.0) LONGEST_TEXT) p.0 text p.2 in
+    let t = and_parts (nat_lt 0 (length p.0)) (nat_le (length p.0) LONGEST_TEXT) s.0 in
     let some = ltb-true 0 (length p.0) t.0 in
-    let few = leb-true (length p.0) 512 t.1 in
-    subst (λ ys. (1 ≤ length ys) × (length ys ≤ 512)) s.1 (omega arith, omega arith)
+    let few = leb-true (length p.0) LONGEST_TEXT t.1 in
+    subst (λ ys. (1 ≤ length ys) × (length ys ≤ LONGEST_TEXT)) s.1 (omega arith, omega arith)
 
 pub moment_fits : (d : Data) (m : Moment) → moment_in d ≡ Some m → m.0 ≤ last_moment
 moment_fits d m e =
@@ -229,5 +230,5 @@ period_is text None reads exact = at (period_of text) refl
     at None is = refl
     at (Some ms) is = let p = period_exact text ms is in let there = reads p.0 p.1 in cc
 
-pub period_fits : (d : Data) (n : ℕ) → period_in d ≡ Some n → n ≤ longest_period
+pub period_fits : (d : Data) (n : ℕ) → period_in d ≡ Some n → n ≤ LONGEST_PERIOD
 period_fits d n e = let p = from_some (as_str d) period_of n e in period_short p.0 n p.2

@@ -8,6 +8,7 @@ use Rattle.json.specs.Token.{Token, end_object}
 use Rattle.json.specs.Tree.{members_tokens, room}
 use Rattle.serde_json.specs.Data.{Data, string}
 use Rattle.serde_json.specs.Written.{members_outline}
+use Rattle.ht_base.specs.declared.limits.TheConstants.{LONGEST_NAME}
 use Rattle.ht_base.specs.declared.reply.Answer.TheVariants.{Done}
 use Rattle.ht_base.specs.declared.reply.Refusal.TheVariants as refusal
 use Rattle.ht_base.specs.declared.role.Roles.{Roles}
@@ -76,7 +77,7 @@ pub fault_room : (name : List ℕ) → length name ≤ 16 → room (tokens_of (f
 unfolding escape_byte
 fault_room name h = omega (arith, length-quoted name)
 
-pub named_fault_room : (name key what : List ℕ) → length name ≤ 16 → length key ≤ 16 → length what ≤ 32 → room (tokens_of (named_fault name key what)) ≤ 1024
+pub named_fault_room : (name key what : List ℕ) → length name ≤ 16 → length key ≤ 16 → length what ≤ LONGEST_NAME → room (tokens_of (named_fault name key what)) ≤ 1024
 unfolding escape_byte
 named_fault_room name key what n k w = omega (arith, length-quoted name, length-quoted key, length-quoted what, length-append (quoted key) (58 ∷ []))
 

@@ -1,17 +1,18 @@
 -- The values of a body and its command are in their limits.
 use Rattle.std.proofs.Common.{◌≡◌, ◌≤◌, refl, ap, subst, ℕ, List, [], length, Option, Some, None, unwrap_or, Result, Ok, Err}
-use Rattle.std.specs.Prelude.{IfSome}
+use Rattle.std.specs.Prelude.{IfSome, IsTrue}
 use Rattle.serde_json.specs.Data.{Data}
+use Rattle.ht_base.specs.declared.limits.TheConstants.{LAST_DEVICE, LAST_NUMBER, LONGEST_PERIOD, LONGEST_TEXT, LOWEST_PRIORITY}
 use Rattle.ht_base.specs.declared.event.Command.{Command}
 use Rattle.ht_base.specs.declared.event.Command.TheVariants as command
+use Rattle.ht_base.specs.declared.operation.Op.TheVariants as op
 use Rattle.ht_base.specs.declared.scalar.Scalar.{Scalar}
 use Rattle.ht_base.specs.declared.task_id.TaskId.{TaskId}
 use Rattle.ht_base.specs.declared.retry.Retry.{Retry}
 use Rattle.ht_base.specs.Moment.{last_moment}
-use Rattle.ht_base.specs.Periods.{longest_period}
 use Rattle.ht_base.specs.declared.end.End.TheVariants.{At, After}
 use Rattle.ht_base.specs.declared.moment.Moment.{Moment}
-use Rattle.ht_base.specs.Events.{AreGiven, AreNames, IsCommand, IsRetry, IsTaskOf}
+use Rattle.ht_base.specs.Events.{AreGiven, AreNames, IsCommand, IsRetry, IsTaskOf, suits}
 use Rattle.ht_api.specs.declared.asked.Asked.{Asked}
 use Rattle.ht_api.specs.declared.asked.Asked.TheVariants as asked
 use Rattle.ht_api.specs.declared.fields.Fields.{Fields}
@@ -29,26 +30,26 @@ use Rattle.ht_api.proofs.Required.{from_number, taken_kept}
 
 -- the value of a key is in its limits
 abbrev pub IsSound : (key : Key) → Value key → Type 0
-IsSound Device n = n ≤ 15
+IsSound Device n = n ≤ LAST_DEVICE
 IsSound Number n = 1 ≤ n
 IsSound Owners names = AreNames names × (1 ≤ length names)
 IsSound Persons names = AreNames names
-IsSound Priority n = n ≤ 10
+IsSound Priority n = n ≤ LOWEST_PRIORITY
 IsSound Until m = m.0 ≤ last_moment
-IsSound For n = n ≤ longest_period
+IsSound For n = n ≤ LONGEST_PERIOD
 IsSound ActivateAt m = m.0 ≤ last_moment
-IsSound Text text = (1 ≤ length text) × (length text ≤ 512)
+IsSound Text text = (1 ≤ length text) × (length text ≤ LONGEST_TEXT)
 IsSound Input parts = AreGiven parts
 IsSound Output parts = AreGiven parts
 IsSound SomeOutput parts = AreGiven parts × (1 ≤ length parts)
 IsSound key a = Unit {0}
 
 fitting_sound : (key : Key) (d : Data) (a : Value key) → fitting key d ≡ Some a → IsSound key a
-fitting_sound Device d a e = (whole_fits 0 15 d a e).1
-fitting_sound Number d a e = (whole_fits 1 4294967295 d a e).0
+fitting_sound Device d a e = (whole_fits 0 LAST_DEVICE d a e).1
+fitting_sound Number d a e = (whole_fits 1 LAST_NUMBER d a e).0
 fitting_sound Owners d a e = owners_fit d a e
 fitting_sound Persons d a e = persons_fit d a e
-fitting_sound Priority d a e = (whole_fits 0 10 d a e).1
+fitting_sound Priority d a e = (whole_fits 0 LOWEST_PRIORITY d a e).1
 fitting_sound Until d a e = moment_fits d a e
 fitting_sound For d a e = period_fits d a e
 fitting_sound ActivateAt d a e = moment_fits d a e
@@ -80,10 +81,10 @@ fields_sound asked (Some d) g e =
 abbrev pub FitsTask : TaskId → Command → Type 0
 FitsTask task c = IsTaskOf c task × IsCommand c
 
--- the task that an operation is asked of: none for a create
+-- the task that an operation is asked of: none for a create, and for any other one as a claim names it
 abbrev pub IsTask : Asked → TaskId → Type 0
-IsTask asked.Create task = task.0 ≡ 0
-IsTask _ task = 1 ≤ task.0
+IsTask asked.Create task = IsTrue (suits task.0 op.Create)
+IsTask _ task = IsTrue (suits task.0 op.Claim)
 
 given_or_none : (o : Option (List (List ℕ × Scalar))) → IfSome o AreGiven → AreGiven (unwrap_or o [])
 given_or_none None h = no_parts
@@ -97,7 +98,7 @@ module _ (task : TaskId) (c : Command) where
   need key None make e all = cc
   need key (Some a) make e all = all a refl e
 
-  ends : (until : Option Moment) (period : Option ℕ) → IfSome until (λ m. m.0 ≤ last_moment) → IfSome period (λ n. n ≤ longest_period) → 1 ≤ task.0 → suspended (end_of until period) ≡ Ok c → FitsTask task c
+  ends : (until : Option Moment) (period : Option ℕ) → IfSome until (λ m. m.0 ≤ last_moment) → IfSome period (λ n. n ≤ LONGEST_PERIOD) → IsTrue (suits task.0 op.Claim) → suspended (end_of until period) ≡ Ok c → FitsTask task c
   ends (Some moment) period u p t e = plain (command.SuspendUntil (At moment)) e (t, u)
   ends None (Some period) u p t e = plain (command.SuspendUntil (After period)) e (t, p)
   ends None None u p t e = cc
@@ -128,7 +129,7 @@ module _ (task : TaskId) (c : Command) where
 retry_sound : (f : Fields) → AreSound f → IfSome (retry_from f.device f.number) IsRetry
 retry_sound f s = at f.device f.number (s Device) (s Number)
   where
-    at : (device number : Option ℕ) → IfSome device (λ n. n ≤ 15) → IfSome number (λ n. 1 ≤ n) → IfSome (retry_from device number) IsRetry
+    at : (device number : Option ℕ) → IfSome device (λ n. n ≤ LAST_DEVICE) → IfSome number (λ n. 1 ≤ n) → IfSome (retry_from device number) IsRetry
     at None number low some = tt
     at (Some device) None low some = tt
     at (Some device) (Some number) low some = (low, some)

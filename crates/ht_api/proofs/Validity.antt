@@ -4,7 +4,7 @@ use Rattle.std.specs.Prelude.{IfOk}
 use Rattle.std.specs.Char.{is_ascii}
 use Rattle.std.specs.List.{list_all, starts_with}
 use Rattle.std.specs.Str.Parse.{digits_value}
-use Rattle.std.proofs.lemmas.Bool.{and_parts}
+use Rattle.std.proofs.lemmas.Bool.{and_parts, le-leb}
 use Rattle.ht_base.specs.declared.event.Event.{Event}
 use Rattle.ht_base.specs.declared.event.Event.TheVariants.{Ask, Read}
 use Rattle.ht_base.specs.declared.event.Query.TheVariants as query
@@ -38,7 +38,7 @@ is_on_task what = true
 
 on_task : (what : Asked) (task : TaskId) → is_on_task what ≡ true → 1 ≤ task.0 → IsTask what task
 on_task asked.Create task h t = cc
-on_task what task h t = t
+on_task what task h t = le-leb 1 task.0 t
 
 on_task_if : (same : Bool) (this what : Asked) (later : Option Asked) → (if same then Some this else later) ≡ Some what → is_on_task this ≡ true → (later ≡ Some what → is_on_task what ≡ true) → is_on_task what ≡ true
 on_task_if true this what later e h rest = let is : this ≡ what = cc in subst (λ (a : Asked). is_on_task a ≡ true) is h

@@ -7,6 +7,7 @@ use Rattle.serde_json.specs.Find.{as_str, as_number, as_array, as_object, as_u64
 use Rattle.ht_base.specs.Moment.{last_moment}
 use Rattle.ht_base.specs.Name.{name_of}
 use Rattle.ht_base.specs.Periods.{period_of}
+use Rattle.ht_base.specs.declared.limits.TheConstants.{LAST_DEVICE, LAST_NUMBER, LONGEST_TEXT, LOWEST_PRIORITY, MOST_NAMES, MOST_PARTS}
 use Rattle.ht_base.specs.declared.moment.Moment.{Moment}
 use Rattle.ht_base.specs.declared.role_list.RoleList.{RoleList}
 use Rattle.ht_base.specs.declared.role_list.RoleList.TheVariants.{PotentialOwners, ExcludedOwners, Administrators, Stakeholders}
@@ -36,13 +37,13 @@ abbrev pub whole_in : ℕ → ℕ → Data → Option ℕ
 whole_in least most d = option_and_then (whole_if least most) (option_and_then as_u64 (as_number d))
 
 abbrev pub device_in : Data → Option ℕ
-device_in d = whole_in 0 15 d
+device_in d = whole_in 0 LAST_DEVICE d
 
 abbrev pub number_in : Data → Option ℕ
-number_in d = whole_in 1 4294967295 d
+number_in d = whole_in 1 LAST_NUMBER d
 
 abbrev pub priority_in : Data → Option ℕ
-priority_in d = whole_in 0 10 d
+priority_in d = whole_in 0 LOWEST_PRIORITY d
 
 -- a moment up to the last
 abbrev pub moment_in : Data → Option Moment
@@ -52,9 +53,9 @@ moment_in d = option_map (λ n. record { 0 = n }) (whole_in 0 last_moment d)
 abbrev pub period_in : Data → Option ℕ
 period_in d = option_and_then period_of (as_str d)
 
--- a text of 1 to 512 bytes
+-- a text of a byte at least, and at most as many as a text may have
 abbrev pub text_if : List ℕ → Option (List ℕ)
-text_if text = if nat_lt 0 (length text) && nat_le (length text) 512 then Some text else None
+text_if text = if nat_lt 0 (length text) && nat_le (length text) LONGEST_TEXT then Some text else None
 
 abbrev pub text_in : Data → Option (List ℕ)
 text_in d = option_and_then text_if (as_str d)
@@ -79,9 +80,9 @@ are_distinct [] = true
 are_distinct (n ∷ ns) = not (holds_name n ns) && are_distinct ns
 
 abbrev pub persons_if : List (List ℕ) → Option (List (List ℕ))
-persons_if names = if nat_le (length names) 1024 && are_distinct names then Some names else None
+persons_if names = if nat_le (length names) MOST_NAMES && are_distinct names then Some names else None
 
--- at most 1,024 distinct names
+-- distinct names, and at most as many as a list may have
 abbrev pub persons_in : Data → Option (List (List ℕ))
 persons_in d = option_and_then persons_if (option_and_then names_of (as_array d))
 
@@ -91,12 +92,12 @@ owners_in d = option_and_then if_any (persons_in d)
 
 -- ---- parts
 
--- a text of at most 512 bytes, a whole number of 64 bits, or a truth
+-- a text that isn't too long, a whole number of 64 bits, or a truth
 abbrev pub scalar_in : Data → Option Scalar
 scalar_in null = None
 scalar_in (boolean b) = Some (Truth b)
 scalar_in (number n) = option_map Int (as_i64 n)
-scalar_in (string s) = if nat_le (length s) 512 then Some (Text s) else None
+scalar_in (string s) = if nat_le (length s) LONGEST_TEXT then Some (Text s) else None
 scalar_in (array ds) = None
 scalar_in (object ms) = None
 
@@ -110,9 +111,9 @@ parts_of no_members = Some []
 parts_of (member k d ms) = option_and_then (λ part. option_map (λ more. part ∷ more) (parts_of ms)) (part_in k d)
 
 abbrev pub parts_if : List (List ℕ × Scalar) → Option (List (List ℕ × Scalar))
-parts_if parts = if nat_le (length parts) 8 then Some parts else None
+parts_if parts = if nat_le (length parts) MOST_PARTS then Some parts else None
 
--- at most 8 parts
+-- at most as many parts as a model may have
 abbrev pub parts_in : Data → Option (List (List ℕ × Scalar))
 parts_in d = option_and_then parts_if (option_and_then parts_of (as_object d))
 

@@ -2,6 +2,7 @@
 use Rattle.std.specs.Prelude.{ℕ, ◌≤◌, List, [], ◌∷◌, ◌++◌, length, Option, Some, None, codes}
 use Rattle.serde_json.specs.Data.{Data, boolean, string}
 use Rattle.serde_json.specs.Written.{compact_text}
+use Rattle.ht_base.specs.declared.limits.TheConstants.{LONGEST_NAME}
 use Rattle.ht_base.specs.declared.reply.Answer.{Answer}
 use Rattle.ht_base.specs.declared.reply.Answer.TheVariants.{Done, Turned, Sheet, Refused}
 use Rattle.ht_base.specs.declared.reply.Limit.{Limit}
@@ -59,6 +60,7 @@ refusal_data refusal.NotSkipable = fault (codes "NotSkipable") []
 refusal_data refusal.UntilPast = fault (codes "UntilPast") []
 refusal_data (refusal.SubRefused sub) = named_fault (codes "SubRefused") (codes "sub") sub
 refusal_data (refusal.Limit limit) = named_fault (codes "Limit") (codes "limit") (limit_name limit)
+refusal_data refusal.Spent = fault (codes "Spent") []
 refusal_data refusal.Memory = fault (codes "Memory") []
 
 -- ---- the sheet, in three parts
@@ -119,7 +121,7 @@ IsSheet Turned = ⊥
 IsSheet (Sheet s) = Unit {0}
 IsSheet (Refused why) = ⊥
 
--- the name, if there is one, has at most 32 bytes
+-- the name, if there is one, is no longer than a name may be
 abbrev pub IsShort : Option (List ℕ) → Type 0
 IsShort None = Unit {0}
-IsShort (Some name) = length name ≤ 32
+IsShort (Some name) = length name ≤ LONGEST_NAME

@@ -43,6 +43,7 @@ pub(crate) fn put_refusal(refusal: &Refusal, writer: &mut Writer) -> Result<(), 
         Refusal::SubRefused(sub) => put_named_fault("SubRefused", "sub", sub, writer),
         Refusal::Limit(Limit::Tasks) => put_limit_fault("tasks", writer),
         Refusal::Limit(Limit::Comments) => put_limit_fault("comments", writer),
+        Refusal::Spent => put_fault("Spent", writer),
         Refusal::Memory => put_fault("Memory", writer),
     }
 }
@@ -61,7 +62,7 @@ fn put_named_fault(name: &str, key: &str, what: &Name, writer: &mut Writer) -> R
     ensures puts { Puts result writer.old writer.new (tokens_of (named_fault name.now key.now what.now)) }
     ensures room { 1024 ≤ writer.old.spare → IsOk result }
 {
-    // It has at most 32 bytes.
+    // A name is short.
     let _ = what.as_bytes();
     put_short(
         &[("fault", Content::Text(name)), (key, Content::Name(*what))],

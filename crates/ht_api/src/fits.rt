@@ -3,27 +3,12 @@ ghost use Rattle.serde_json.specs.View.{view, items_view, members_view};
 ghost use Rattle.ht_api.specs.Fits as spec;
 ghost use Rattle.ht_api.specs.Fits.{holds_name};
 
-use ht_base::{LAST, Memory, Moment, Name, Names, Parts, RoleList, Scalar, Txt, period};
+use ht_base::{
+    LAST, LAST_DEVICE, LAST_NUMBER, LONGEST_TEXT, LOWEST_PRIORITY, MOST_NAMES, MOST_PARTS, Memory,
+    Moment, Name, Names, Parts, RoleList, Scalar, Txt, period,
+};
 use serde_json::{Map, Value};
 use std::alloc::Global;
-
-/// The last device of a person.
-const LAST_DEVICE: u64 = 15;
-
-/// The last number of a command.
-const LAST_NUMBER: u64 = 4_294_967_295;
-
-/// The last priority.
-const LOWEST_PRIORITY: u64 = 10;
-
-/// The most persons of a body.
-const MOST_PERSONS: usize = 1024;
-
-/// The most parts of a body.
-const MOST_PARTS: usize = 8;
-
-/// The most bytes of a text.
-const MOST_TEXT: usize = 512;
 
 pub(crate) fn name_in(value: &Value) -> Option<Name>
     ensures { result ≡ spec.name_in (view value.now) }
@@ -48,21 +33,21 @@ pub(crate) fn role_in(value: &Value) -> Option<RoleList>
 pub(crate) fn device_in(value: &Value) -> Option<u8>
     ensures { result ≡ spec.device_in (view value.now) }
 {
-    let device = whole_in(value, 0, LAST_DEVICE)?;
+    let device = whole_in(value, 0, u64::from(LAST_DEVICE))?;
     Some(device as u8)
 }
 
 pub(crate) fn number_in(value: &Value) -> Option<u32>
     ensures { result ≡ spec.number_in (view value.now) }
 {
-    let number = whole_in(value, 1, LAST_NUMBER)?;
+    let number = whole_in(value, 1, u64::from(LAST_NUMBER))?;
     Some(number as u32)
 }
 
 pub(crate) fn priority_in(value: &Value) -> Option<u8>
     ensures { result ≡ spec.priority_in (view value.now) }
 {
-    let priority = whole_in(value, 0, LOWEST_PRIORITY)?;
+    let priority = whole_in(value, 0, u64::from(LOWEST_PRIORITY))?;
     Some(priority as u8)
 }
 
@@ -97,7 +82,7 @@ pub(crate) fn text_in(alloc: Global, value: &Value) -> Result<Option<Txt>, Memor
     let Some(text) = value.as_str() else {
         return Ok(None);
     };
-    if text.is_empty() || text.len() > MOST_TEXT {
+    if text.is_empty() || text.len() > LONGEST_TEXT {
         return Ok(None);
     }
     Ok(Some(Txt::of(alloc, text)?))
@@ -121,7 +106,7 @@ pub(crate) fn persons_in(alloc: Global, value: &Value) -> Result<Option<Names>, 
     let Some(items) = value.as_array() else {
         return Ok(None);
     };
-    if items.len() > MOST_PERSONS {
+    if items.len() > MOST_NAMES {
         return Ok(None);
     }
     let Some(names) = names_of(alloc, items)? else {
@@ -215,7 +200,7 @@ fn scalar_in(alloc: Global, value: &Value) -> Result<Option<Scalar>, Memory>
             None => Ok(None),
         },
         Value::String(text) => {
-            if text.len() > MOST_TEXT {
+            if text.len() > LONGEST_TEXT {
                 return Ok(None);
             }
             Ok(Some(Scalar::Text(Txt::of(alloc, text.as_str())?)))

@@ -83,7 +83,7 @@ fn put_turned(writer: &mut Writer) -> Result<(), Memory>
     put_short(&[], writer)
 }
 
-// A name has at most 32 bytes.
+// A name is short.
 fn told_short(name: &Option<Name>)
     ensures { IsShort name.now }
 {

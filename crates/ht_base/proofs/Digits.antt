@@ -9,6 +9,7 @@ use Rattle.std.proofs.lemmas.Bool.Decides.{nat_tests}
 use Rattle.std.proofs.lemmas.Int.Digits.{digits_value_more}
 use Rattle.std.proofs.lemmas.Str.Parse.{IsDigitsTest, IsNumeralModel, numerals_by_value, digits_value_short, digits_value-take-le, digit_at}
 use Rattle.ht_base.specs.Numbers.{IsNumber}
+use Rattle.ht_base.specs.declared.limits.TheConstants.{MOST_DIGITS}
 
 tells_digits : IsDigitsTest (λ ds. list_all is_ascii_digit ds ≡ true)
 tells_digits = search rules
@@ -17,14 +18,14 @@ numerals : IsNumeralModel (λ ds. list_all is_ascii_digit ds ≡ true) (digits_v
 numerals = numerals_by_value _ tells_digits
 
 pub digits_of : (ds : List ℕ) → IsNumber ds → list_all is_ascii_digit ds ≡ true
-digits_of ds h = (and_parts (not (length ds == 0) && nat_le (length ds) 6) (list_all is_ascii_digit ds) h).1
+digits_of ds h = (and_parts (not (length ds == 0) && nat_le (length ds) MOST_DIGITS) (list_all is_ascii_digit ds) h).1
 
-pub short : (ds : List ℕ) → IsNumber ds → length ds ≤ 6
-short ds h = leb-true (length ds) 6 (and_parts (not (length ds == 0)) (nat_le (length ds) 6) (and_parts (not (length ds == 0) && nat_le (length ds) 6) (list_all is_ascii_digit ds) h).0).1
+pub short : (ds : List ℕ) → IsNumber ds → length ds ≤ MOST_DIGITS
+short ds h = leb-true (length ds) MOST_DIGITS (and_parts (not (length ds == 0)) (nat_le (length ds) MOST_DIGITS) (and_parts (not (length ds == 0) && nat_le (length ds) MOST_DIGITS) (list_all is_ascii_digit ds) h).0).1
 
 -- a number is below a million
 pub number_small : (ds : List ℕ) → IsNumber ds → digits_value 10 ds ≤ 999999
-number_small ds h = let below : digits_value 10 ds < 1000000 = digits_value_short numerals ds 6 (digits_of ds h) (short ds h) in omega arith
+number_small ds h = let below : digits_value 10 ds < 1000000 = digits_value_short numerals ds MOST_DIGITS (digits_of ds h) (short ds h) in omega arith
 
 value_of_digit : (c : ℕ) → IsInRange 48 57 c → digit_value c ≡ c - 48
 value_of_digit c h = grind (arith, nat_tests)

@@ -1,5 +1,5 @@
 -- Commands and events: which operation a command asks for, and which events are valid.
-use Rattle.std.specs.Prelude.{◌≡◌, ◌≤◌, ℕ, nat_lt, ◌+◌, Bool, true, List, length, IfSome}
+use Rattle.std.specs.Prelude.{◌≡◌, ◌≤◌, ◌==◌, ℕ, nat_le, nat_lt, ◌+◌, Bool, true, List, length, IfSome, IsTrue}
 use Rattle.std.specs.List.{list_all}
 use Rattle.ht_base.specs.declared.event.Command.{Command}
 use Rattle.ht_base.specs.declared.event.Command.TheVariants.{Create, Claim, Start, Stop, Release, Delegate, Forward, Nominate, Activate, SetRole, SetPriority, Suspend, SuspendUntil, Resume, SetOutput, Complete, Fail, Skip, Exit, Error, AddComment, InstantiateSubTask}
@@ -8,6 +8,7 @@ use Rattle.ht_base.specs.declared.end.End.TheVariants.{After, At}
 use Rattle.ht_base.specs.declared.event.Event.{Event}
 use Rattle.ht_base.specs.declared.event.Event.TheVariants.{Ask, Read, Turn}
 use Rattle.ht_base.specs.declared.event.Query.TheVariants as query
+use Rattle.ht_base.specs.declared.limits.TheConstants.{LAST_DEVICE, LONGEST_PERIOD, LONGEST_TEXT, LOWEST_PRIORITY, MOST_NAMES, MOST_PARTS}
 use Rattle.ht_base.specs.declared.operation.Op.{Op}
 use Rattle.ht_base.specs.declared.operation.Op.TheVariants as op
 use Rattle.ht_base.specs.declared.retry.Retry.{Retry}
@@ -15,7 +16,6 @@ use Rattle.ht_base.specs.declared.scalar.Scalar.{Scalar}
 use Rattle.ht_base.specs.declared.scalar.Scalar.TheVariants as scalar
 use Rattle.ht_base.specs.declared.task_id.TaskId.{TaskId}
 use Rattle.ht_base.specs.Moment.{last_moment}
-use Rattle.ht_base.specs.Periods.{longest_period}
 use Rattle.ht_base.specs.Places.{IsRepeated}
 
 abbrev pub op_of : Command → Op
@@ -42,10 +42,13 @@ op_of Error = op.Error
 op_of (AddComment text) = op.AddComment
 op_of (InstantiateSubTask sub) = op.InstantiateSubTask
 
--- the task is one that the command may name: none, exactly for a create
+-- the operation may name the task of this number: 0, so none, exactly for a create
+abbrev pub suits : ℕ → Op → Bool
+suits task op.Create = task == 0
+suits task o = nat_le 1 task
+
 abbrev pub IsTaskOf : Command → TaskId → Type 0
-IsTaskOf (Create model input activate_at) task = task.0 ≡ 0
-IsTaskOf _ task = 1 ≤ task.0
+IsTaskOf command task = IsTrue (suits task.0 (op_of command))
 
 -- ---- what a command may give
 
@@ -55,35 +58,35 @@ is_short most (name, scalar.Text text) = nat_lt (length text) (most + 1)
 is_short most _ = true
 
 pub record AreGiven (parts : List (List ℕ × Scalar)) : Type 0 where
-  pub few : length parts ≤ 8
-  pub short : list_all (is_short 512) parts ≡ true
+  pub few : length parts ≤ MOST_PARTS
+  pub short : list_all (is_short LONGEST_TEXT) parts ≡ true
 
 pub record AreNames (names : List (List ℕ)) : Type 0 where
-  pub few : length names ≤ 1024
+  pub few : length names ≤ MOST_NAMES
   pub distinct : (place : ℕ) → IsRepeated names place → ⊥
 
 -- a moment, or a period that a text can give
 abbrev pub IsEnd : End → Type 0
 IsEnd (At m) = m.0 ≤ last_moment
-IsEnd (After period) = period ≤ longest_period
+IsEnd (After period) = period ≤ LONGEST_PERIOD
 
 abbrev pub IsCommand : Command → Type 0
 IsCommand (Create model input activate_at) = AreGiven input × IfSome activate_at (λ m. m.0 ≤ last_moment)
 IsCommand (Forward persons) = AreNames persons × 1 ≤ length persons
 IsCommand (Nominate persons) = AreNames persons × 1 ≤ length persons
 IsCommand (SetRole role persons) = AreNames persons
-IsCommand (SetPriority priority) = priority ≤ 10
+IsCommand (SetPriority priority) = priority ≤ LOWEST_PRIORITY
 IsCommand (SuspendUntil end) = IsEnd end
 IsCommand (SetOutput output) = AreGiven output × 1 ≤ length output
 IsCommand (Complete output) = AreGiven output
-IsCommand (AddComment text) = (1 ≤ length text) × (length text ≤ 512)
+IsCommand (AddComment text) = (1 ≤ length text) × (length text ≤ LONGEST_TEXT)
 IsCommand _ = Unit {0}
 
 -- ---- events
 
--- the devices of a person are numbered from 0 to 15, and the commands of a device from 1 on
+-- the devices of a person are numbered from 0 to the last, and the commands of a device from 1 on
 abbrev pub IsRetry : Retry → Type 0
-IsRetry r = (r.device ≤ 15) × (1 ≤ r.number)
+IsRetry r = (r.device ≤ LAST_DEVICE) × (1 ≤ r.number)
 
 -- Its moment is at most the last there is, its number is one of a device, just a create names no task,
 -- and what it gives is in its limits.

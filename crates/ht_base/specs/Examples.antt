@@ -4,7 +4,8 @@ use Rattle.std.specs.Str.Parse.{digits_value}
 use Rattle.ht_base.specs.History.{Entry, IsLegal, end_of, own}
 use Rattle.ht_base.specs.Name.{is_name, name_of}
 use Rattle.ht_base.specs.Numbers.{is_number}
-use Rattle.ht_base.specs.Periods.{PeriodText, IsPeriod, millis, longest_period, period_of}
+use Rattle.ht_base.specs.declared.limits.TheConstants.{LONGEST_PERIOD}
+use Rattle.ht_base.specs.Periods.{PeriodText, IsPeriod, millis, period_of}
 use Rattle.ht_base.specs.Persons.{has}
 use Rattle.ht_base.specs.Places.{place_in}
 use Rattle.ht_base.specs.Values.{is_before, put, updated, value_of}
@@ -127,7 +128,7 @@ one_of_each_is_long = refl
 most_of_each : IsPeriod (codes "P999999DT999999H999999M999999S") (each (codes "999999"))
 most_of_each = record { written = refl; days = refl; time = record { hours = refl; minutes = refl; seconds = refl; given = refl }; given = refl }
 
-most_of_each_is_longest : millis (each (codes "999999")) ≡ longest_period
+most_of_each_is_longest : millis (each (codes "999999")) ≡ LONGEST_PERIOD
 most_of_each_is_longest = refl
 
 -- ---- histories, of a machine that adds and answers the sum

@@ -88,10 +88,6 @@ marked_time_millis (Some t) = time_millis t
 abbrev pub millis : PeriodText → ℕ
 millis p = amount p.days * (24 * 3600000) + marked_time_millis p.time
 
--- what the longest text gives, with 999999 of each
-abbrev pub longest_period : ℕ
-longest_period = 90060909939000
-
 -- ---- how it is read, part by part
 
 -- the bytes begin with an amount of this letter, which is read, and the rest is left; or with none, and all are left

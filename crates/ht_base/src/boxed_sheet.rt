@@ -32,10 +32,4 @@ impl BoxedSheet {
     {
         &self.sheet
     }
-
-    pub fn into_sheet(self) -> Sheet
-        ensures { result ≡ self }
-    {
-        Box::into_inner(self.sheet)
-    }
 }

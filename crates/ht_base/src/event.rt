@@ -41,7 +41,7 @@ pub enum Command {
         role: RoleList,
         persons: Names,
     },
-    /// 0, the highest, to 10.
+    /// 0, the highest, to `LOWEST_PRIORITY`.
     SetPriority {
         priority: u8,
     },
@@ -71,7 +71,7 @@ pub enum Command {
     Exit,
     /// The task ends by an operator, as one that went wrong.
     Error,
-    /// A text of 1 to 512 bytes is noted on the task.
+    /// A text of 1 to `LONGEST_TEXT` bytes is noted on the task.
     AddComment {
         text: Txt,
     },

@@ -1,6 +1,7 @@
 ghost use Rattle.std.specs.Prelude.{◌≡◌, IfOk};
+ghost use Rattle.ht_base.specs.Kinds.{kind_of_how};
 
-use crate::{Memory, Txt};
+use crate::{Kind, Memory, Txt};
 use std::alloc::Global;
 
 /// How the results of sub tasks become one value (WS-HumanTask 1.1, 4.8).
@@ -25,6 +26,21 @@ pub enum How {
 }
 
 impl How {
+    /// The kind of the values that it takes, and of its result.
+    pub fn kind(&self) -> Kind
+        ensures { result ≡ kind_of_how self.now }
+    {
+        match self {
+            How::Concat
+            | How::ConcatWithDelimiter(_)
+            | How::MostFrequent
+            | How::LeastFrequent
+            | How::VoteOnString(_) => Kind::Text,
+            How::And | How::Or | How::Vote(_) => Kind::Truth,
+            How::Min | How::Max | How::Sum | How::Avg => Kind::Int,
+        }
+    }
+
     pub fn copy(&self, alloc: Global) -> Result<How, Memory>
         ensures { IfOk result (λ how. how ≡ self.now) }
     {

@@ -10,6 +10,7 @@ mod how;
 mod ids;
 mod indexes;
 mod kind;
+mod limits;
 mod memory;
 mod moment;
 mod name;
@@ -28,7 +29,9 @@ mod role_list;
 mod scalar;
 mod sheet;
 mod shown_comments;
+mod spent;
 mod state;
+mod stepper;
 mod task_id;
 mod txt;
 mod value;
@@ -43,6 +46,12 @@ pub use how::How;
 pub use ids::Ids;
 pub use indexes::{IndexFault, Key, index, name_places};
 pub use kind::Kind;
+pub use limits::{
+    LARGEST_TREE, LAST_DEVICE, LAST_NUMBER, LONGEST_CHAIN, LONGEST_DELIMITER, LONGEST_NAME,
+    LONGEST_OFFICE_TEXT, LONGEST_PERIOD, LONGEST_TEXT, LOWEST_PRIORITY, MIDDLE_PRIORITY,
+    MOST_COMMENTS, MOST_DEADLINES, MOST_DIGITS, MOST_ESCALATIONS, MOST_GROUPS, MOST_LEVELS,
+    MOST_MODELS, MOST_NAMES, MOST_PARTS, MOST_PERSONS, MOST_SUBS, MOST_TASKS, MOST_TOKENS,
+};
 pub use memory::Memory;
 pub use moment::{LAST, Moment};
 pub use name::Name;
@@ -61,7 +70,9 @@ pub use role_list::RoleList;
 pub use scalar::Scalar;
 pub use sheet::Sheet;
 pub use shown_comments::{ShownComment, ShownComments};
+pub use spent::Spent;
 pub use state::{State, StateSet};
+pub use stepper::Stepper;
 pub use task_id::TaskId;
 pub use txt::Txt;
 pub use value::Value;

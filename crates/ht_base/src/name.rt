@@ -2,19 +2,17 @@ ghost use Rattle.std.specs.Prelude.{◌≡◌, ◌-◌, ◌≤◌, ◌++◌, len
 ghost use Rattle.std.specs.List.{list_all};
 ghost use Rattle.ht_base.specs.Name.{is_name_byte, is_name, name_of, IsName};
 
+use crate::LONGEST_NAME;
 use std::cmp::Ordering;
 use std::marker::Model;
 use std::str;
 
-/// The most bytes that a [`Name`] has.
-const MOST: usize = 32;
-
-/// A name of a person, a group, a model or a part: 1 to 32 bytes from `a-z A-Z 0-9 _ . -`. A
+/// A name of a person, a group, a model or a part: 1 to [`LONGEST_NAME`] bytes from `a-z A-Z 0-9 _ . -`. A
 /// contract sees it as its bytes, by which it is compared.
 #[derive(Clone, Copy, Debug)]
 pub struct Name {
     // Padded with 0.
-    bytes: [u8; MOST],
+    bytes: [u8; LONGEST_NAME],
     len: u8,
 }
 
@@ -52,7 +50,7 @@ impl Name {
     pub fn as_bytes(&self) -> &[u8]
         ensures value { result.now ≡ self.now }
         ensures name { IsName self.now }
-        ensures short { length self.now ≤ 32 }
+        ensures short { length self.now ≤ LONGEST_NAME }
     {
         &self.bytes[..usize::from(self.len)]
     }
@@ -70,7 +68,7 @@ impl Name {
 fn spells_name(bytes: &[u8]) -> bool
     ensures { result ≡ is_name bytes.now }
 {
-    !bytes.is_empty() && bytes.len() <= MOST && all_allowed(bytes)
+    !bytes.is_empty() && bytes.len() <= LONGEST_NAME && all_allowed(bytes)
 }
 
 fn all_allowed(bytes: &[u8]) -> bool
@@ -79,11 +77,11 @@ fn all_allowed(bytes: &[u8]) -> bool
     bytes.iter().all(|byte| is_allowed(*byte))
 }
 
-fn padded(bytes: &[u8]) -> [u8; MOST]
-    requires { length bytes.now ≤ 32 }
-    ensures { result ≡ bytes.now ++ replicate (32 - length bytes.now) 0 }
+fn padded(bytes: &[u8]) -> [u8; LONGEST_NAME]
+    requires { length bytes.now ≤ LONGEST_NAME }
+    ensures { result ≡ bytes.now ++ replicate (LONGEST_NAME - length bytes.now) 0 }
 {
-    let mut padded = [0; MOST];
+    let mut padded = [0; LONGEST_NAME];
     padded[..bytes.len()].copy_from_slice(bytes);
     padded
 }

@@ -4,14 +4,13 @@ ghost use Rattle.std.specs.List.{list_all};
 ghost use Rattle.std.specs.Str.Parse.{digits_value};
 ghost use Rattle.ht_base.specs.Numbers.{IsNumber};
 
-/// The most digits that a number has.
-const MOST: usize = 6;
+use crate::MOST_DIGITS;
 
 /// The number that one to six decimal digits spell; `None` where the bytes are anything else.
 pub fn number(bytes: &[u8]) -> Option<u32>
     ensures { MatchOption result (IsNumber bytes.now → ⊥) (λ n. IsNumber bytes.now × (n ≡ digits_value 10 bytes.now)) }
 {
-    if bytes.is_empty() || bytes.len() > MOST || !are_digits(bytes) {
+    if bytes.is_empty() || bytes.len() > MOST_DIGITS || !are_digits(bytes) {
         return None;
     }
     Some(value_of(bytes))

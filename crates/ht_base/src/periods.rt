@@ -1,5 +1,6 @@
 ghost use Rattle.std.specs.Prelude.{◌≡◌, ◌≤◌, ◌==◌, ◌∷◌, List, ℕ, Option, position, IfSome, MatchOption, Some};
-ghost use Rattle.ht_base.specs.Periods.{TimeText, PeriodText, time_text, marked_time as marked_text, marked_time_millis, IsTime, IsPeriod, time_millis, millis, longest_period, Begins};
+ghost use Rattle.ht_base.specs.Periods.{TimeText, PeriodText, time_text, marked_time as marked_text, marked_time_millis, IsTime, IsPeriod, time_millis, millis, Begins};
+ghost use Rattle.ht_base.specs.declared.limits.TheConstants.{LONGEST_PERIOD};
 
 use crate::number;
 
@@ -19,7 +20,7 @@ const DAY: u64 = 24 * HOUR;
 pub fn period(text: &str) -> Option<u64>
     ensures reads { (p : PeriodText) → IsPeriod text.now p → result ≡ Some (millis p) }
     ensures exact { IfSome result (λ ms. (p : PeriodText) × IsPeriod text.now p × (ms ≡ millis p)) }
-    ensures most { IfSome result (λ ms. ms ≤ longest_period) }
+    ensures most { IfSome result (λ ms. ms ≤ LONGEST_PERIOD) }
 {
     let parts = behind(text.as_bytes(), b'P')?;
     if parts.is_empty() {

@@ -3,9 +3,9 @@ use crate::{BoxedSheet, Name, Roles, State, StateSet, TaskId};
 /// The limit that a command would pass.
 #[derive(Clone, Copy, Debug)]
 pub enum Limit {
-    /// The number of tasks, 50,000.
+    /// `MOST_TASKS`.
     Tasks,
-    /// The number of comments on a task, 32.
+    /// `MOST_COMMENTS`.
     Comments,
 }
 
@@ -70,6 +70,8 @@ pub enum Refusal {
     /// The task has no entry of this name whose sub task could be made now.
     SubRefused(Name),
     Limit(Limit),
+    /// The caller's turns are spent. Nothing was changed.
+    Spent,
     /// There is not enough memory. Nothing was changed.
     Memory,
 }

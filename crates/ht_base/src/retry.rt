@@ -2,8 +2,8 @@
 /// acts only once.
 #[derive(Clone, Copy, Debug, PartialEq, Eq)]
 pub struct Retry {
-    /// 0 to 15.
+    /// 0 to `LAST_DEVICE`.
     pub device: u8,
-    /// 1 to 4,294,967,295. The numbers of a device rise.
+    /// 1 to `LAST_NUMBER`. The numbers of a device rise.
     pub number: u32,
 }

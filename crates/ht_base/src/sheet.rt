@@ -20,7 +20,7 @@ pub struct Sheet {
     pub owner: Option<Name>,
     pub parent: Option<TaskId>,
     pub potential_owners: Names,
-    /// 0 to 10, of which 0 is the highest.
+    /// 0, the highest, to `LOWEST_PRIORITY`.
     pub priority: u8,
     pub stakeholders: Names,
     pub started: bool,

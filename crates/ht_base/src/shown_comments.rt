@@ -9,7 +9,7 @@ use std::marker::Model;
 pub struct ShownComment {
     pub moment: Moment,
     pub person: Name,
-    /// 1 to 512 bytes.
+    /// 1 to `LONGEST_TEXT` bytes.
     pub text: Txt,
 }
 

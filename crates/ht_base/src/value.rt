@@ -1,6 +1,7 @@
 ghost use Rattle.std.specs.Prelude.{◌≡◌, IfOk};
+ghost use Rattle.ht_base.specs.Kinds.{kind_of_value};
 
-use crate::{Memory, Moment, Person, Txt};
+use crate::{Kind, Memory, Moment, Person, Txt};
 use std::alloc::Global;
 
 /// The value of a task's part, of the kind that its model declares.
@@ -14,6 +15,18 @@ pub enum Value {
 }
 
 impl Value {
+    pub fn kind(&self) -> Kind
+        ensures { result ≡ kind_of_value self.now }
+    {
+        match self {
+            Value::Text(_) => Kind::Text,
+            Value::Int(_) => Kind::Int,
+            Value::Truth(_) => Kind::Truth,
+            Value::Person(_) => Kind::Person,
+            Value::Instant(_) => Kind::Instant,
+        }
+    }
+
     pub fn copy(&self, alloc: Global) -> Result<Value, Memory>
         ensures { IfOk result (λ v. v ≡ self.now) }
     {

@@ -10,6 +10,7 @@ use Rattle.ht_base.proofs.PublicLaws.{front_has}
 use Rattle.ht_base.specs.Events.{AreGiven, is_short}
 use Rattle.ht_base.specs.Places.{IsRepeated}
 use Rattle.ht_base.specs.Values.{Ascend}
+use Rattle.ht_base.specs.declared.limits.TheConstants.{LONGEST_TEXT}
 use Rattle.ht_base.specs.declared.scalar.Scalar.{Scalar}
 use Rattle.ht_base.specs.declared.scalar.Scalar.TheVariants as scalars
 use Rattle.ht_codec.specs.Fields.{name, is_new, new_name, scalar, last_name, is_behind, name_behind, new_part}
@@ -96,7 +97,7 @@ ascending_items front v (w ∷ vs) behind ascend are =
     let next : IsTrue (is_behind (last_name (front ++ v ∷ [])) w.0) = rw (last_pushed front v) ascend.0 in
     (((p.0, behind), p.1), ascending_items (front ++ v ∷ []) w vs next ascend.1 (All-tail PartFits v (w ∷ vs) are))
 
-pub items_short : (front vs : List (List ℕ × Scalar)) → ((v : List ℕ × Scalar) → scalar.Fits v.1 → is_short 512 v ≡ true) → ItemsFit new_part front vs → list_all (is_short 512) vs ≡ true
+pub items_short : (front vs : List (List ℕ × Scalar)) → ((v : List ℕ × Scalar) → scalar.Fits v.1 → is_short LONGEST_TEXT v ≡ true) → ItemsFit new_part front vs → list_all (is_short LONGEST_TEXT) vs ≡ true
 items_short front [] short fits = refl
 items_short front (v ∷ vs) short fits = rw (short v fits.0.1) (items_short (front ++ v ∷ []) vs short fits.1)
 
@@ -104,16 +105,16 @@ both : (a b : Bool) → (a && b) ≡ true → (a ≡ true) × (b ≡ true)
 both true b h = (refl, h)
 both false b h = absurd cc
 
-unnamed : (n : List ℕ) (s : Scalar) → is_short 512 (n, s) ≡ true → is_short 512 ([], s) ≡ true
+unnamed : (n : List ℕ) (s : Scalar) → is_short LONGEST_TEXT (n, s) ≡ true → is_short LONGEST_TEXT ([], s) ≡ true
 unnamed n (scalars.Text t) h = h
 unnamed n (scalars.Int z) h = refl
 unnamed n (scalars.Truth b) h = refl
 
 -- a part's text is short, whatever its name
-pub short_at : (vs : List (List ℕ × Scalar)) (i : ℕ) (d : List ℕ × Scalar) → i < length vs → list_all (is_short 512) vs ≡ true → is_short 512 ([], (get_or vs i d).1) ≡ true
+pub short_at : (vs : List (List ℕ × Scalar)) (i : ℕ) (d : List ℕ × Scalar) → i < length vs → list_all (is_short LONGEST_TEXT) vs ≡ true → is_short LONGEST_TEXT ([], (get_or vs i d).1) ≡ true
 short_at [] i d lt h = absurd (omega arith)
-short_at ((n, s) ∷ vs) zero d lt h = unnamed n s (both (is_short 512 (n, s)) (list_all (is_short 512) vs) h).0
-short_at (v ∷ vs) (suc i) d lt h = short_at vs i d (omega arith) (both (is_short 512 v) (list_all (is_short 512) vs) h).1
+short_at ((n, s) ∷ vs) zero d lt h = unnamed n s (both (is_short LONGEST_TEXT (n, s)) (list_all (is_short LONGEST_TEXT) vs) h).0
+short_at (v ∷ vs) (suc i) d lt h = short_at vs i d (omega arith) (both (is_short LONGEST_TEXT v) (list_all (is_short LONGEST_TEXT) vs) h).1
 
-pub are_short : (vs ws : List (List ℕ × Scalar)) → ws ≡ vs → AreGiven vs → list_all (is_short 512) ws ≡ true
+pub are_short : (vs ws : List (List ℕ × Scalar)) → ws ≡ vs → AreGiven vs → list_all (is_short LONGEST_TEXT) ws ≡ true
 are_short vs ws same h = rw same h.short

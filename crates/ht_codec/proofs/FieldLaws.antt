@@ -8,7 +8,7 @@ use Rattle.std.proofs.lemmas.Int.{to_z-of_z, of_z-to_z}
 use Rattle.std.proofs.Math.Facts.{Fits-of_z, sfits_to_z}
 use Rattle.ht_base.specs.Moment.{last_moment}
 use Rattle.ht_base.specs.Name.{is_name}
-use Rattle.ht_base.specs.Periods.{longest_period}
+use Rattle.ht_base.specs.declared.limits.TheConstants.{LONGEST_NAME, LONGEST_OFFICE_TEXT, LONGEST_PERIOD, LONGEST_TEXT, MOST_NAMES, MOST_PARTS}
 use Rattle.ht_base.specs.declared.end.End.{End}
 use Rattle.ht_base.specs.declared.end.End.TheVariants as ends
 use Rattle.ht_base.specs.declared.retry.Retry.{Retry}
@@ -16,6 +16,7 @@ use Rattle.ht_base.specs.declared.role_list.RoleList.{RoleList}
 use Rattle.ht_base.specs.declared.role_list.RoleList.TheVariants.{PotentialOwners, ExcludedOwners, Administrators, Stakeholders}
 use Rattle.ht_base.specs.declared.scalar.Scalar.{Scalar}
 use Rattle.ht_base.specs.declared.scalar.Scalar.TheVariants as scalars
+use Rattle.ht_codec.specs.declared.fields.TheConstants.{NO_DEVICE}
 use Rattle.ht_codec.specs.Fields.{moment, period, name_length, name, device_of, device_byte, device, retry_number, next_retry, retry_line, retry, text_length, text, some_text, names_count, is_new, new_name, names, some_names, int, truth, scalar_byte, scalar_kind_of, scalar_kind, next_scalar, scalar_line, scalar, parts_count, is_behind, name_behind, last_name, new_part, parts, some_parts, role_byte, role_of, role, priority, end_byte, end_kind_of, end_kind, next_end, end_line, end, opening_length, opening_text}
 use Rattle.ht_codec.specs.Forms.{byte, number, flag_of, flag_byte}
 use Rattle.ht_codec.specs.Records.{IsBytes}
@@ -36,11 +37,11 @@ moment_lawful = seen_lawful _ _ _ (tested_lawful (λ n. nat_le n last_moment) _ 
 
 pub period_lawful : IsLawful period
 unfolding period
-period_lawful = tested_lawful (λ n. nat_le n longest_period) _ (number_lawful w64 (2 ^ 64) wide64)
+period_lawful = tested_lawful (λ n. nat_le n LONGEST_PERIOD) _ (number_lawful w64 (2 ^ 64) wide64)
 
 name_length_lawful : IsLawful name_length
 unfolding name_length
-name_length_lawful = tested_lawful (λ n. nat_le 1 n && nat_le n 32) byte byte_lawful
+name_length_lawful = tested_lawful (λ n. nat_le 1 n && nat_le n LONGEST_NAME) byte byte_lawful
 
 pub name_lawful : IsLawful name
 unfolding name
@@ -49,11 +50,11 @@ name_lawful = tested_lawful is_name _ (sized_lawful name_length name_length_lawf
 -- ---- the device and the number of a command
 
 device_back : (n : ℕ) (d : Option ℕ) → device_of n ≡ Some d → device_byte d ≡ n
-device_back n d = at (ltb n 16) (eqb n 16) refl
+device_back n d = at (ltb n NO_DEVICE) (eqb n NO_DEVICE) refl
   where
-    at : (low sixteen : Bool) → eqb n 16 ≡ sixteen → cond low (Some (Some n)) (cond sixteen (Some None) None) ≡ Some d → device_byte d ≡ n
-    at true sixteen is e = ap device_byte (sym (some_is (Some n) d e))
-    at false true is e = ap device_byte (sym (some_is None d e)) ∙ sym (eqb-true n 16 is)
+    at : (low none : Bool) → eqb n NO_DEVICE ≡ none → cond low (Some (Some n)) (cond none (Some None) None) ≡ Some d → device_byte d ≡ n
+    at true none is e = ap device_byte (sym (some_is (Some n) d e))
+    at false true is e = ap device_byte (sym (some_is None d e)) ∙ sym (eqb-true n NO_DEVICE is)
     at false false is e = absurd cc
 
 device_lawful : IsLawful device
@@ -80,7 +81,7 @@ retry_lawful = led_lawful device next_retry retry_line device_lawful retry_heads
 
 text_length_lawful : IsLawful text_length
 unfolding text_length
-text_length_lawful = tested_lawful (λ n. nat_le n 512) _ (number_lawful w16 (2 ^ 16) wide16)
+text_length_lawful = tested_lawful (λ n. nat_le n LONGEST_TEXT) _ (number_lawful w16 (2 ^ 16) wide16)
 
 pub text_lawful : IsLawful text
 unfolding text
@@ -92,7 +93,7 @@ some_text_lawful = tested_lawful _ text text_lawful
 
 opening_length_lawful : IsLawful opening_length
 unfolding opening_length
-opening_length_lawful = tested_lawful (λ n. nat_le n 262144) _ (number_lawful w32 (2 ^ 32) wide32)
+opening_length_lawful = tested_lawful (λ n. nat_le n LONGEST_OFFICE_TEXT) _ (number_lawful w32 (2 ^ 32) wide32)
 
 pub opening_text_lawful : IsLawful opening_text
 unfolding opening_text
@@ -102,7 +103,7 @@ opening_text_lawful = sized_lawful opening_length opening_length_lawful
 
 names_count_lawful : IsLawful names_count
 unfolding names_count
-names_count_lawful = tested_lawful (λ n. nat_le n 1024) _ (number_lawful w16 (2 ^ 16) wide16)
+names_count_lawful = tested_lawful (λ n. nat_le n MOST_NAMES) _ (number_lawful w16 (2 ^ 16) wide16)
 
 pub new_names_lawful : AreLawful new_name
 unfolding new_name
@@ -173,7 +174,7 @@ scalar_lawful = led_lawful scalar_kind next_scalar scalar_line scalar_kind_lawfu
 
 parts_count_lawful : IsLawful parts_count
 unfolding parts_count
-parts_count_lawful = tested_lawful (λ n. nat_le n 8) byte byte_lawful
+parts_count_lawful = tested_lawful (λ n. nat_le n MOST_PARTS) byte byte_lawful
 
 name_behind_lawful : (last : Option (List ℕ)) → IsLawful (name_behind last)
 unfolding name_behind

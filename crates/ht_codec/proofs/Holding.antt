@@ -9,6 +9,7 @@ use Rattle.ht_base.specs.Events.{AreGiven, AreNames, IsCommand, IsRetry, is_shor
 use Rattle.ht_base.specs.Name.{IsName}
 use Rattle.ht_base.specs.Records.{RecordOf}
 use Rattle.ht_base.specs.Records.RecordOf.{a_turn, an_asking, an_opening}
+use Rattle.ht_base.specs.declared.limits.TheConstants.{LONGEST_TEXT}
 use Rattle.ht_base.specs.declared.event.Command.{Command}
 use Rattle.ht_base.specs.declared.event.Command.TheVariants as commands
 use Rattle.ht_base.specs.declared.retry.Retry.{Retry}
@@ -25,7 +26,7 @@ use Rattle.ht_codec.proofs.Ranges.{end_fits, moment_fits, name_fits, name_valid,
 
 -- ---- from what is valid and of its types
 
-scalar_fits : (s : Scalar) → ScalarHolds s → is_short 512 ([], s) ≡ true → scalar.Fits s
+scalar_fits : (s : Scalar) → ScalarHolds s → is_short LONGEST_TEXT ([], s) ≡ true → scalar.Fits s
 scalar_fits (scalars.Text t) h short = let lt = ltb-true (length t) 513 short in scalar_text_fits t (text_fits t h (omega arith))
 scalar_fits (scalars.Int z) h short = scalar_int_fits z h
 scalar_fits (scalars.Truth b) h short = scalar_truth_fits b

@@ -4,15 +4,15 @@ use Rattle.std.specs.Prelude.{IfSome, FitsSigned, ℤ}
 use Rattle.std.specs.Int.{w64}
 use Rattle.std.specs.List.{All, list_all}
 use Rattle.std.specs.Str.{is_utf8}
-use Rattle.std.proofs.lemmas.Bool.{le-leb, leb-true, lt-ltb, ltb-true, eqb-true}
+use Rattle.std.proofs.lemmas.Bool.{le-leb, leb-true, lt-ltb, ltb-true}
 use Rattle.std.proofs.lemmas.Bool.Decides.{nat_tests}
-use Rattle.ht_base.specs.Events.{AreGiven, AreNames, IsCommand, IsEnd, IsRetry, IsTaskOf, is_short}
+use Rattle.ht_base.specs.Events.{AreGiven, AreNames, IsCommand, IsEnd, IsRetry, IsTaskOf, is_short, suits}
 use Rattle.ht_base.specs.Moment.{last_moment}
 use Rattle.ht_base.specs.Name.{IsName, is_name_byte}
-use Rattle.ht_base.specs.Periods.{longest_period}
 use Rattle.ht_base.specs.Records.{RecordOf}
 use Rattle.ht_base.specs.Records.RecordOf.{an_opening, a_turn, an_asking}
 use Rattle.ht_base.specs.Values.{Ascend}
+use Rattle.ht_base.specs.declared.limits.TheConstants.{LAST_DEVICE, LONGEST_NAME, LONGEST_OFFICE_TEXT, LONGEST_PERIOD, LONGEST_TEXT, LOWEST_PRIORITY}
 use Rattle.ht_base.specs.declared.end.End.{End}
 use Rattle.ht_base.specs.declared.end.End.TheVariants as ends
 use Rattle.ht_base.specs.declared.event.Command.{Command}
@@ -22,8 +22,9 @@ use Rattle.ht_base.specs.declared.retry.Retry.{Retry}
 use Rattle.ht_base.specs.declared.scalar.Scalar.{Scalar}
 use Rattle.ht_base.specs.declared.scalar.Scalar.TheVariants as scalars
 use Rattle.ht_base.specs.declared.task_id.TaskId.{TaskId}
+use Rattle.ht_codec.specs.declared.fields.TheConstants.{NO_DEVICE}
 use Rattle.ht_codec.specs.Fields.{moment, period, name_length, name, device_of, device, retry_number, retry, text_length, text, some_text, names_count, names, some_names, int, truth, scalar_kind, scalar, parts_count, parts, some_parts, priority, end_kind, end, opening_length, opening_text}
-use Rattle.ht_codec.specs.Records.{op, command_line, suits, task_and_op, entry, IsRecord}
+use Rattle.ht_codec.specs.Records.{op, command_line, task_and_op, entry, IsRecord}
 use Rattle.ht_codec.proofs.Distinct.{PartFits, ascending_items, distinct_items, items_distinct, items_short}
 use Rattle.ht_codec.proofs.Steps.{some_is}
 
@@ -37,20 +38,23 @@ pub moment_valid : (m : Moment) → moment.Fits m → m.0 ≤ last_moment
 unfolding moment
 moment_valid m h = leb-true _ _ h.1
 
-pub period_fits : (n : ℕ) → n ≤ longest_period → period.Fits n
+pub period_fits : (n : ℕ) → n ≤ LONGEST_PERIOD → period.Fits n
 unfolding period
 period_fits n h = (omega arith, le-leb _ _ h)
 
-pub period_valid : (n : ℕ) → period.Fits n → n ≤ longest_period
+pub period_valid : (n : ℕ) → period.Fits n → n ≤ LONGEST_PERIOD
 unfolding period
 period_valid n h = leb-true _ _ h.1
 
--- a name has 1 to 32 bytes
-length_test : (n : ℕ) (rest : Bool) → (not (eqb n 0) && nat_le n 32 && rest) ≡ true → (nat_le 1 n && nat_le n 32) ≡ true
+-- how many bytes a name has
+length_test : (n : ℕ) (rest : Bool) → (not (eqb n 0) && nat_le n LONGEST_NAME && rest) ≡ true → (nat_le 1 n && nat_le n LONGEST_NAME) ≡ true
 length_test n rest h = grind (arith, nat_tests)
 
-length_low : (n : ℕ) → (nat_le 1 n && nat_le n 32) ≡ true → n < 256
-length_low n h = grind (arith, nat_tests)
+length_within : (n : ℕ) → (nat_le 1 n && nat_le n LONGEST_NAME) ≡ true → n ≤ LONGEST_NAME
+length_within n h = grind (arith, nat_tests)
+
+length_low : (n : ℕ) → (nat_le 1 n && nat_le n LONGEST_NAME) ≡ true → n < 256
+length_low n h = let within = length_within n h in omega arith
 
 pub name_fits : (n : List ℕ) → IsName n → name.Fits n
 unfolding name name_length
@@ -60,23 +64,20 @@ pub name_valid : (n : List ℕ) → name.Fits n → IsName n
 unfolding name
 name_valid n h = h.1
 
-length_within : (n : ℕ) → (nat_le 1 n && nat_le n 32) ≡ true → n ≤ 32
-length_within n h = grind (arith, nat_tests)
-
-pub name_short : (n : List ℕ) → name.Fits n → length n ≤ 32
+pub name_short : (n : List ℕ) → name.Fits n → length n ≤ LONGEST_NAME
 unfolding name name_length
 name_short n h = length_within (length n) h.0.1
 
 -- ---- the device and the number of a command
 
-low_device : (d : ℕ) → d ≤ 15 → device_of d ≡ Some (Some d)
-low_device d h = let low : ltb d 16 ≡ true = lt-ltb d 16 (omega arith) in rw low refl
+low_device : (d : ℕ) → d ≤ LAST_DEVICE → device_of d ≡ Some (Some d)
+low_device d h = let low : ltb d NO_DEVICE ≡ true = lt-ltb d NO_DEVICE (omega arith) in rw low refl
 
-device_low : (d : ℕ) → device_of d ≡ Some (Some d) → d ≤ 15
-device_low d h = at (ltb d 16) (eqb d 16) refl h
+device_low : (d : ℕ) → device_of d ≡ Some (Some d) → d ≤ LAST_DEVICE
+device_low d h = at (ltb d NO_DEVICE) (eqb d NO_DEVICE) refl h
   where
-    at : (low sixteen : Bool) → ltb d 16 ≡ low → cond low (Some (Some d)) (cond sixteen (Some None) None) ≡ Some (Some d) → d ≤ 15
-    at true sixteen is e = let lt = ltb-true d 16 is in omega arith
+    at : (low none : Bool) → ltb d NO_DEVICE ≡ low → cond low (Some (Some d)) (cond none (Some None) None) ≡ Some (Some d) → d ≤ LAST_DEVICE
+    at true none is e = let lt = ltb-true d NO_DEVICE is in omega arith
     at false true is e = absurd (let same : None ≡ Some d = some_is None (Some d) e in cc)
     at false false is e = absurd cc
 
@@ -99,11 +100,11 @@ retry_valid (Some r) h = (device_low r.device h.0.1, leb-true _ _ h.1.1)
 
 -- ---- texts
 
-pub text_fits : (t : List ℕ) → is_utf8 t ≡ true → length t ≤ 512 → text.Fits t
+pub text_fits : (t : List ℕ) → is_utf8 t ≡ true → length t ≤ LONGEST_TEXT → text.Fits t
 unfolding text text_length
 text_fits t utf8 h = ((omega arith, le-leb _ _ h), utf8)
 
-pub text_valid : (t : List ℕ) → text.Fits t → length t ≤ 512
+pub text_valid : (t : List ℕ) → text.Fits t → length t ≤ LONGEST_TEXT
 unfolding text text_length
 text_valid t h = leb-true _ _ h.0.1
 
@@ -111,15 +112,15 @@ pub some_text_fits : (t : List ℕ) → text.Fits t → 1 ≤ length t → some_
 unfolding some_text
 some_text_fits t fits h = (fits, le-leb _ _ h)
 
-pub some_text_valid : (t : List ℕ) → some_text.Fits t → (1 ≤ length t) × (length t ≤ 512)
+pub some_text_valid : (t : List ℕ) → some_text.Fits t → (1 ≤ length t) × (length t ≤ LONGEST_TEXT)
 unfolding some_text
 some_text_valid t h = (leb-true _ _ h.1, text_valid t h.0)
 
-pub opening_text_fits : (t : List ℕ) → length t ≤ 262144 → opening_text.Fits t
+pub opening_text_fits : (t : List ℕ) → length t ≤ LONGEST_OFFICE_TEXT → opening_text.Fits t
 unfolding opening_text opening_length
 opening_text_fits t h = (omega arith, le-leb _ _ h)
 
-pub opening_text_valid : (t : List ℕ) → opening_text.Fits t → length t ≤ 262144
+pub opening_text_valid : (t : List ℕ) → opening_text.Fits t → length t ≤ LONGEST_OFFICE_TEXT
 unfolding opening_text opening_length
 opening_text_valid t h = leb-true _ _ h.1
 
@@ -156,7 +157,7 @@ unfolding scalar scalar_kind truth
 scalar_truth_fits true = ((omega arith, refl), (omega arith, refl))
 scalar_truth_fits false = ((omega arith, refl), (omega arith, refl))
 
-scalar_short : (v : List ℕ × Scalar) → scalar.Fits v.1 → is_short 512 v ≡ true
+scalar_short : (v : List ℕ × Scalar) → scalar.Fits v.1 → is_short LONGEST_TEXT v ≡ true
 unfolding scalar
 scalar_short (n, scalars.Text t) h = let short = text_valid t h.1 in lt-ltb _ _ (omega arith)
 scalar_short (n, scalars.Int z) h = refl
@@ -181,11 +182,11 @@ some_parts_valid vs h = (parts_valid vs h.0, leb-true _ _ h.1)
 
 -- ---- a priority, and the end of a suspension
 
-pub priority_fits : (n : ℕ) → n ≤ 10 → priority.Fits n
+pub priority_fits : (n : ℕ) → n ≤ LOWEST_PRIORITY → priority.Fits n
 unfolding priority
 priority_fits n h = (omega arith, le-leb _ _ h)
 
-pub priority_valid : (n : ℕ) → priority.Fits n → n ≤ 10
+pub priority_valid : (n : ℕ) → priority.Fits n → n ≤ LOWEST_PRIORITY
 unfolding priority
 priority_valid n h = leb-true _ _ h.1
 
@@ -230,12 +231,12 @@ op_fits (commands.Create model input activate_at) = (omega arith, refl)
 op_fits _ = (omega arith, refl)
 
 task_valid : (c : Command) (task : TaskId) → suits task.0 (command_line c).head ≡ true → IsTaskOf c task
-task_valid (commands.Create model input activate_at) task h = eqb-true _ _ h
-task_valid _ task h = leb-true _ _ h
+task_valid (commands.Create model input activate_at) task h = h
+task_valid _ task h = h
 
 pub task_fits : (c : Command) (task : TaskId) → IsTaskOf c task → suits task.0 (command_line c).head ≡ true
-task_fits (commands.Create model input activate_at) task h = rw h refl
-task_fits _ task h = le-leb _ _ h
+task_fits (commands.Create model input activate_at) task h = h
+task_fits _ task h = h
 
 -- ---- records
 

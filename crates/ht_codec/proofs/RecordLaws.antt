@@ -2,6 +2,7 @@
 use Rattle.std.proofs.Common.{◌≡◌, ℕ, ◌^◌, eqb, List, [], ◌∷◌, Some, Ok, refl, ap, subst}
 use Rattle.std.specs.Prelude.{find}
 use Rattle.std.specs.Int.{w32}
+use Rattle.ht_base.specs.Events.{suits}
 use Rattle.ht_base.specs.Records.{RecordOf}
 use Rattle.ht_base.specs.Records.RecordOf.{an_opening, a_turn, an_asking}
 use Rattle.ht_base.specs.declared.event.Command.{Command}
@@ -11,7 +12,7 @@ use Rattle.ht_base.specs.declared.operation.Op.TheVariants.{Create, Claim, Start
 use Rattle.ht_codec.specs.Fields.{moment, name, retry, names, parts, role}
 use Rattle.ht_codec.specs.Forms.{byte, ◌then◌, option}
 use Rattle.ht_codec.specs.Records.{IsBytes}
-use Rattle.ht_codec.specs.Records.{op_byte, kept_operations, op_with, op, command_line, next_command, suits, task_and_op, asker, Head, head, Question, question_line, next_question, question, asking, kind_byte, kind_of, kind, record_line, next_record, entry}
+use Rattle.ht_codec.specs.Records.{op_byte, kept_operations, op_with, op, command_line, next_command, task_and_op, asker, Head, head, Question, question_line, next_question, question, asking, kind_byte, kind_of, kind, record_line, next_record, entry}
 use Rattle.ht_codec.specs.declared.kinds.RecordKind.{RecordKind}
 use Rattle.ht_codec.specs.declared.kinds.RecordKind.TheVariants.{Opening, Turn, Asked}
 use Rattle.ht_codec.specs.declared.refusal.CodecRefusal.TheVariants.{Memory, Tag}

@@ -5,8 +5,8 @@ use Rattle.std.specs.Str.{is_utf8}
 use Rattle.std.specs.Int.{w16, w32, w64, to_le_bytes, cast_signed, cast_unsigned}
 use Rattle.ht_base.specs.Moment.{last_moment}
 use Rattle.ht_base.specs.Name.{is_name}
-use Rattle.ht_base.specs.Periods.{longest_period}
 use Rattle.ht_base.specs.Values.{is_before}
+use Rattle.ht_base.specs.declared.limits.TheConstants.{LONGEST_NAME, LONGEST_OFFICE_TEXT, LONGEST_PERIOD, LONGEST_TEXT, LOWEST_PRIORITY, MOST_NAMES, MOST_PARTS}
 use Rattle.ht_base.specs.declared.end.End.{End}
 use Rattle.ht_base.specs.declared.end.End.TheVariants as ends
 use Rattle.ht_base.specs.declared.moment.Moment.{Moment}
@@ -17,6 +17,7 @@ use Rattle.ht_base.specs.declared.scalar.Scalar.{Scalar}
 use Rattle.ht_base.specs.declared.scalar.Scalar.TheVariants as scalars
 use Rattle.ht_codec.specs.Reading.{◌>>=◌}
 use Rattle.ht_codec.specs.Forms.{Form, nothing, byte, number, ◌then◌, tested, seen, coded, sized, flag_of, flag_byte, listed, Line, line, Next, taken, led}
+use Rattle.ht_codec.specs.declared.fields.TheConstants.{NO_DEVICE}
 use Rattle.ht_codec.specs.declared.kinds.EndKind.{EndKind}
 use Rattle.ht_codec.specs.declared.kinds.EndKind.TheVariants as end_kinds
 use Rattle.ht_codec.specs.declared.kinds.ScalarKind.{ScalarKind}
@@ -31,11 +32,11 @@ moment = seen (λ n. record { 0 = n }) (λ m. m.0) (tested (λ n. nat_le n last_
 
 -- milliseconds in 8 bytes, at most those of the longest period that a text gives
 unfoldable pub period : Form ℕ
-period = tested (λ n. nat_le n longest_period) (number w64 (2 ^ 64))
+period = tested (λ n. nat_le n LONGEST_PERIOD) (number w64 (2 ^ 64))
 
--- a byte from 1 to 32
+-- a byte: one at least, and at most the length of the longest name
 unfoldable pub name_length : Form ℕ
-name_length = tested (λ n. nat_le 1 n && nat_le n 32) byte
+name_length = tested (λ n. nat_le 1 n && nat_le n LONGEST_NAME) byte
 
 -- its length, and its bytes
 unfoldable pub name : Form (List ℕ)
@@ -43,13 +44,13 @@ name = tested is_name (sized name_length)
 
 -- ---- the device and the number of a command
 
--- a device from 0 to 15, or 16 for none
+-- the number of a device, or the one behind the last for none
 abbrev pub device_byte : Option ℕ → ℕ
-device_byte None = 16
+device_byte None = NO_DEVICE
 device_byte (Some d) = d
 
 abbrev pub device_of : ℕ → Option (Option ℕ)
-device_of n = if nat_lt n 16 then Some (Some n) else if n == 16 then Some None else None
+device_of n = if nat_lt n NO_DEVICE then Some (Some n) else if n == NO_DEVICE then Some None else None
 
 unfoldable pub device : Form (Option ℕ)
 device = coded Range device_of device_byte byte
@@ -72,9 +73,9 @@ retry = led device next_retry retry_line
 
 -- ---- texts
 
--- 2 bytes, at most 512
+-- 2 bytes, at most the length of the longest text
 unfoldable pub text_length : Form ℕ
-text_length = tested (λ n. nat_le n 512) (number w16 (2 ^ 16))
+text_length = tested (λ n. nat_le n LONGEST_TEXT) (number w16 (2 ^ 16))
 
 -- its length, and its bytes in UTF-8
 unfoldable pub text : Form (List ℕ)
@@ -86,9 +87,9 @@ some_text = tested (λ t. nat_le 1 (length t)) text
 
 -- ---- lists of names
 
--- 2 bytes, at most 1,024
+-- 2 bytes, at most as many names as a list has
 unfoldable pub names_count : Form ℕ
-names_count = tested (λ n. nat_le n 1024) (number w16 (2 ^ 16))
+names_count = tested (λ n. nat_le n MOST_NAMES) (number w16 (2 ^ 16))
 
 -- none of these is the name
 abbrev pub is_new : List (List ℕ) → List ℕ → Bool
@@ -148,9 +149,9 @@ scalar = led scalar_kind next_scalar scalar_line
 
 -- ---- parts
 
--- a byte, at most 8
+-- a byte, at most as many as a model has
 unfoldable pub parts_count : Form ℕ
-parts_count = tested (λ n. nat_le n 8) byte
+parts_count = tested (λ n. nat_le n MOST_PARTS) byte
 
 abbrev pub last_name : List (List ℕ × Scalar) → Option (List ℕ)
 last_name [] = None
@@ -191,9 +192,9 @@ role_of n = if n == 0 then Some PotentialOwners else if n == 1 then Some Exclude
 unfoldable pub role : Form RoleList
 role = coded Range role_of role_byte byte
 
--- a byte from 0 to 10
+-- a byte up to the lowest priority
 unfoldable pub priority : Form ℕ
-priority = tested (λ n. nat_le n 10) byte
+priority = tested (λ n. nat_le n LOWEST_PRIORITY) byte
 
 -- ---- the end of a suspension
 
@@ -221,9 +222,9 @@ end = led end_kind next_end end_line
 
 -- ---- the texts of an office
 
--- 4 bytes, at most 262,144
+-- 4 bytes, at most the length of the longest text of an office
 unfoldable pub opening_length : Form ℕ
-opening_length = tested (λ n. nat_le n 262144) (number w32 (2 ^ 32))
+opening_length = tested (λ n. nat_le n LONGEST_OFFICE_TEXT) (number w32 (2 ^ 32))
 
 -- its length, and its bytes
 unfoldable pub opening_text : Form (List ℕ)

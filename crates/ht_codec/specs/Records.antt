@@ -1,10 +1,11 @@
 -- The bytes of records: a line a record, a line an operation.
-use Rattle.std.specs.Prelude.{◌≡◌, ℕ, ◌^◌, ◌≤◌, nat_le, Bool, ◌==◌, List, [], ◌∷◌, length, slice_index, ◌<◌, find, Option, Some, None, Result, Ok, Err, ◌⊎◌, if◌then◌else◌}
+use Rattle.std.specs.Prelude.{◌≡◌, ℕ, ◌^◌, ◌≤◌, ◌==◌, List, [], ◌∷◌, length, slice_index, ◌<◌, find, Option, Some, None, Result, Ok, Err, ◌⊎◌, if◌then◌else◌}
 use Rattle.std.specs.Int.{w32}
-use Rattle.ht_base.specs.Events.{IsValid}
+use Rattle.ht_base.specs.Events.{IsValid, suits}
 use Rattle.ht_base.specs.Moment.{last_moment}
 use Rattle.ht_base.specs.Records.{RecordOf, record_of}
 use Rattle.ht_base.specs.Records.RecordOf.{an_opening, a_turn, an_asking}
+use Rattle.ht_base.specs.declared.limits.TheConstants.{LONGEST_OFFICE_TEXT}
 use Rattle.ht_base.specs.declared.event.Command.{Command}
 use Rattle.ht_base.specs.declared.event.Command.TheVariants as commands
 use Rattle.ht_base.specs.declared.event.Event.TheVariants.{Ask}
@@ -117,11 +118,6 @@ next_command Get = meaningless
 
 -- ---- what is asked
 
--- the task is 0 exactly for a create
-abbrev pub suits : ℕ → Op → Bool
-suits task Create = task == 0
-suits task o = nat_le 1 task
-
 -- the operation's byte is read before the task in front of it is judged
 unfoldable pub task_and_op : Form (ℕ × Op)
 task_and_op = tested (λ x. suits x.0 x.1) (number w32 (2 ^ 32) then op)
@@ -199,7 +195,7 @@ Refuses bytes fault = entry.Fails (length bytes) bytes fault ⊎ Behind entry by
 -- A record that may be kept: its texts have at most 262,144 bytes each, its moment is at most the last
 -- there is, and what is asked is a valid event.
 abbrev pub IsRecord : RecordOf → Type 0
-IsRecord (an_opening models people) = (length models ≤ 262144) × (length people ≤ 262144)
+IsRecord (an_opening models people) = (length models ≤ LONGEST_OFFICE_TEXT) × (length people ≤ LONGEST_OFFICE_TEXT)
 IsRecord (a_turn at) = at.0 ≤ last_moment
 IsRecord (an_asking at caller retry task command) = IsValid (Ask at caller retry task command)
 

@@ -1,6 +1,6 @@
 ghost use Rattle.std.specs.Prelude.{◌≡◌, length};
 ghost use Rattle.ht_codec.specs.Reading.{Gives};
-ghost use Rattle.ht_codec.specs.Records.{next_command, op, suits, task_and_op};
+ghost use Rattle.ht_codec.specs.Records.{next_command, op, task_and_op};
 
 use crate::CodecRefusal;
 use crate::fields::{
@@ -47,15 +47,6 @@ fn read_op(r: &mut Reader<'_>) -> Result<Op, CodecRefusal>
     }
 }
 
-fn suits(task: u32, op: Op) -> bool
-    ensures { result ≡ suits task op }
-{
-    match op {
-        Op::Create => task == 0,
-        _ => task >= 1,
-    }
-}
-
 #[tactic(auto, unfolding(crate::specs::Records::task_and_op))]
 pub(crate) fn read_task_and_op(r: &mut Reader<'_>) -> Result<(u32, Op), CodecRefusal>
     ensures { Gives task_and_op.read r.old r.new result }
@@ -63,7 +54,7 @@ pub(crate) fn read_task_and_op(r: &mut Reader<'_>) -> Result<(u32, Op), CodecRef
     let at = r.place();
     let task = read_u32(r)?;
     let op = read_op(r)?;
-    if !suits(task, op) {
+    if !op.suits(task) {
         return Err(CodecRefusal::Range(at));
     }
     Ok((task, op))

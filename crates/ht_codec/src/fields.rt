@@ -7,10 +7,13 @@ use crate::CodecRefusal;
 use crate::kinds::EndKind;
 use crate::numbers::{read_byte, read_u32, read_u64};
 use crate::reader::Reader;
-use ht_base::{End, LAST, Moment, Name, Retry, RoleList};
+use ht_base::{
+    End, LAST, LAST_DEVICE, LONGEST_NAME, LONGEST_PERIOD, LOWEST_PRIORITY, Moment, Name, Retry,
+    RoleList,
+};
 
-/// The longest period that a text can give, in milliseconds.
-const LONGEST_PERIOD: u64 = 90_060_909_939_000;
+/// The byte of a device that there isn't.
+pub(crate) const NO_DEVICE: u8 = LAST_DEVICE + 1;
 
 #[tactic(auto, unfolding(crate::specs::Fields::moment))]
 pub(crate) fn read_moment(r: &mut Reader<'_>) -> Result<Moment, CodecRefusal>
@@ -42,7 +45,7 @@ fn read_name_length(r: &mut Reader<'_>) -> Result<u8, CodecRefusal>
 {
     let at = r.place();
     let length = read_byte(r)?;
-    if length < 1 || length > 32 {
+    if length < 1 || usize::from(length) > LONGEST_NAME {
         return Err(CodecRefusal::Range(at));
     }
     Ok(length)
@@ -105,9 +108,9 @@ fn read_device(r: &mut Reader<'_>) -> Result<Option<u8>, CodecRefusal>
 {
     let at = r.place();
     let device = read_byte(r)?;
-    if device < 16 {
+    if device < NO_DEVICE {
         Ok(Some(device))
-    } else if device == 16 {
+    } else if device == NO_DEVICE {
         Ok(None)
     } else {
         Err(CodecRefusal::Range(at))
@@ -166,7 +169,7 @@ pub(crate) fn read_priority(r: &mut Reader<'_>) -> Result<u8, CodecRefusal>
 {
     let at = r.place();
     let priority = read_byte(r)?;
-    if priority > 10 {
+    if priority > LOWEST_PRIORITY {
         return Err(CodecRefusal::Range(at));
     }
     Ok(priority)

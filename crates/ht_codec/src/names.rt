@@ -7,7 +7,7 @@ use crate::CodecRefusal;
 use crate::fields::read_name;
 use crate::numbers::read_u16;
 use crate::reader::Reader;
-use ht_base::{Name, Names};
+use ht_base::{MOST_NAMES, Name, Names};
 use std::alloc::Global;
 
 #[tactic(auto, unfolding(crate::specs::Fields::names_count))]
@@ -16,7 +16,7 @@ fn read_names_count(r: &mut Reader<'_>) -> Result<u16, CodecRefusal>
 {
     let at = r.place();
     let count = read_u16(r)?;
-    if count > 1024 {
+    if usize::from(count) > MOST_NAMES {
         return Err(CodecRefusal::Range(at));
     }
     Ok(count)

@@ -9,7 +9,7 @@ use crate::kinds::ScalarKind;
 use crate::numbers::read_byte;
 use crate::reader::Reader;
 use crate::texts::read_text;
-use ht_base::{Name, Parts, Scalar};
+use ht_base::{MOST_PARTS, Name, Parts, Scalar};
 use std::alloc::Global;
 
 #[tactic(auto, unfolding(crate::specs::Fields::int))]
@@ -127,7 +127,7 @@ fn read_parts_count(r: &mut Reader<'_>) -> Result<u8, CodecRefusal>
 {
     let at = r.place();
     let count = read_byte(r)?;
-    if count > 8 {
+    if usize::from(count) > MOST_PARTS {
         return Err(CodecRefusal::Range(at));
     }
     Ok(count)

@@ -6,7 +6,7 @@ ghost use Rattle.ht_codec.specs.Texts.{text_of};
 use crate::CodecRefusal;
 use crate::numbers::{read_u16, read_u32};
 use crate::reader::Reader;
-use ht_base::{Bytes, Txt};
+use ht_base::{Bytes, LONGEST_OFFICE_TEXT, LONGEST_TEXT, Txt};
 use std::alloc::Global;
 
 #[tactic(auto, unfolding(crate::specs::Fields::text_length))]
@@ -15,7 +15,7 @@ fn read_text_length(r: &mut Reader<'_>) -> Result<u16, CodecRefusal>
 {
     let at = r.place();
     let length = read_u16(r)?;
-    if length > 512 {
+    if usize::from(length) > LONGEST_TEXT {
         return Err(CodecRefusal::Range(at));
     }
     Ok(length)
@@ -68,7 +68,7 @@ fn read_opening_length(r: &mut Reader<'_>) -> Result<u32, CodecRefusal>
 {
     let at = r.place();
     let length = read_u32(r)?;
-    if length > 262_144 {
+    if length > LONGEST_OFFICE_TEXT {
         return Err(CodecRefusal::Range(at));
     }
     Ok(length)

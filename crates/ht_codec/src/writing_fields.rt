@@ -2,11 +2,13 @@
 ghost use Rattle.std.specs.Prelude.{◌≡◌, ◌≤◌, ◌^◌, ◌∷◌, [], ◌++◌, length, IfSome, IsTrue, OnOk, true};
 ghost use Rattle.std.specs.Int.{w16, w32, w64};
 ghost use Rattle.std.specs.Str.{is_utf8};
+ghost use Rattle.ht_base.specs.declared.limits.TheConstants.{LONGEST_OFFICE_TEXT, LONGEST_TEXT, LOWEST_PRIORITY};
 ghost use Rattle.ht_base.specs.Events.{AreGiven, AreNames, IsEnd, IsRetry, is_short};
 ghost use Rattle.ht_base.specs.Moment.{last_moment};
 ghost use Rattle.ht_codec.specs.Fields.{moment, name, retry_number, retry, text, some_text, names, some_names, scalar, parts, some_parts, role, priority, end, opening_text};
 ghost use Rattle.ht_codec.specs.Forms.{number, option};
 
+use crate::fields::NO_DEVICE;
 use ht_base::{Bytes, End, Memory, Moment, Name, Names, Parts, Retry, RoleList, Scalar, Txt};
 
 // ---- bytes and numbers
@@ -103,7 +105,7 @@ pub(crate) fn write_retry(out: &mut Bytes, value: Option<Retry>) -> Result<(), M
     ensures bytes { OnOk result (out.new.items ≡ out.old.items ++ retry.text value) }
 {
     match value {
-        None => write_byte(out, 16),
+        None => write_byte(out, NO_DEVICE),
         Some(slot) => {
             write_byte(out, slot.device)?;
             write_retry_number(out, slot.number)
@@ -123,7 +125,7 @@ fn bytes_of(value: &Txt) -> &[u8]
 
 #[tactic(auto, unfolding(crate::specs::Fields::text, crate::specs::Fields::text_length), using(crate::proofs::Ranges::text_fits))]
 fn write_text(out: &mut Bytes, value: &Txt) -> Result<(), Memory>
-    requires { length value.now ≤ 512 }
+    requires { length value.now ≤ LONGEST_TEXT }
     ensures fits { OnOk result (text.Fits value.now) }
     ensures bytes { OnOk result (out.new.items ≡ out.old.items ++ text.text value.now) }
 {
@@ -134,7 +136,7 @@ fn write_text(out: &mut Bytes, value: &Txt) -> Result<(), Memory>
 
 #[tactic(auto, unfolding(crate::specs::Fields::some_text), using(crate::proofs::Ranges::some_text_fits))]
 pub(crate) fn write_some_text(out: &mut Bytes, value: &Txt) -> Result<(), Memory>
-    requires { (1 ≤ length value.now) × (length value.now ≤ 512) }
+    requires { (1 ≤ length value.now) × (length value.now ≤ LONGEST_TEXT) }
     ensures fits { OnOk result (some_text.Fits value.now) }
     ensures bytes { OnOk result (out.new.items ≡ out.old.items ++ some_text.text value.now) }
 {
@@ -144,7 +146,7 @@ pub(crate) fn write_some_text(out: &mut Bytes, value: &Txt) -> Result<(), Memory
 
 #[tactic(auto, unfolding(crate::specs::Fields::opening_text, crate::specs::Fields::opening_length), using(crate::proofs::Ranges::opening_text_fits))]
 pub(crate) fn write_opening_text(out: &mut Bytes, value: &Bytes) -> Result<(), Memory>
-    requires { length value.now.items ≤ 262144 }
+    requires { length value.now.items ≤ LONGEST_OFFICE_TEXT }
     ensures fits { opening_text.Fits value.now.items }
     ensures bytes { OnOk result (out.new.items ≡ out.old.items ++ opening_text.text value.now.items) }
 {
@@ -183,7 +185,7 @@ pub(crate) fn write_some_names(out: &mut Bytes, value: &Names) -> Result<(), Mem
 
 #[tactic(auto, unfolding(crate::specs::Fields::scalar, crate::specs::Fields::scalar_kind, crate::specs::Fields::int, crate::specs::Fields::truth), using(crate::proofs::Ranges::scalar_text_fits, crate::proofs::Ranges::scalar_int_fits, crate::proofs::Ranges::scalar_truth_fits))]
 fn write_scalar(out: &mut Bytes, value: &Scalar) -> Result<(), Memory>
-    requires { is_short 512 ([], value.now) ≡ true }
+    requires { is_short LONGEST_TEXT ([], value.now) ≡ true }
     ensures fits { OnOk result (scalar.Fits value.now) }
     ensures bytes { OnOk result (out.new.items ≡ out.old.items ++ scalar.text value.now) }
 {
@@ -247,7 +249,7 @@ pub(crate) fn write_role(out: &mut Bytes, value: RoleList) -> Result<(), Memory>
 
 #[tactic(auto, unfolding(crate::specs::Fields::priority), using(crate::proofs::Ranges::priority_fits))]
 pub(crate) fn write_priority(out: &mut Bytes, value: u8) -> Result<(), Memory>
-    requires { value ≤ 10 }
+    requires { value ≤ LOWEST_PRIORITY }
     ensures fits { priority.Fits value }
     ensures bytes { OnOk result (out.new.items ≡ out.old.items ++ priority.text value) }
 {

@@ -5,6 +5,7 @@ use Rattle.std.proofs.lemmas.Bool.{and_parts}
 use Rattle.std.proofs.lemmas.List.Elements.{All-head, All-tail}
 use Rattle.std.proofs.lemmas.Slice.Eq.{bytes_eq-Decides}
 use Rattle.std.specs.List.{list_all}
+use Rattle.ht_base.specs.declared.limits.TheConstants.{LONGEST_TEXT}
 use Rattle.ht_base.specs.declared.kind.Kind.{Kind}
 use Rattle.ht_base.specs.declared.value.Value.{Value}
 use Rattle.ht_base.specs.declared.value.Value.TheVariants as values
@@ -44,7 +45,7 @@ known_so persons a b (values.Int n) h = h
 known_so persons a b (values.Truth t) h = h
 known_so persons a b (values.Instant m) h = h
 
-short_so : (a b : List ℕ) (v : Value) → is_short 512 (a, v) ≡ true → is_short 512 (b, v) ≡ true
+short_so : (a b : List ℕ) (v : Value) → is_short LONGEST_TEXT (a, v) ≡ true → is_short LONGEST_TEXT (b, v) ≡ true
 short_so a b (values.Person p) h = h
 short_so a b (values.Text text) h = h
 short_so a b (values.Int n) h = h
@@ -67,7 +68,7 @@ module _ (n m : ModelOf) (persons : ℕ) (input : Values) (held : AreHeld (parts
   one_more pair v vs is found all =
       let declared = found_passes (is_declared (parts_of m.input m.output) Input) pair.1 v input held.declared found in
       let known = known_so persons pair.1 pair.0 v (found_passes (is_known persons) pair.1 v input held.known found) in
-      let short = short_so pair.1 pair.0 v (found_passes (is_short 512) pair.1 v input held.texts_within found) in
+      let short = short_so pair.1 pair.0 v (found_passes (is_short LONGEST_TEXT) pair.1 v input held.texts_within found) in
       let timely = timely_so pair.1 pair.0 v (found_passes is_timely pair.1 v input held.moments_within found) in
       let D : Option Kind → Type 0 = λ k. (is_some k && may_be k v) ≡ true in
       let own : is_declared (parts_of n.input n.output) Input (pair.0, v) ≡ true = subst D (sym is.same) declared in

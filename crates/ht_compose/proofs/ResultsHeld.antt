@@ -7,9 +7,9 @@ use Rattle.std.proofs.lemmas.Option.{get_or_from_slice_get}
 use Rattle.std.specs.List.{list_all}
 use Rattle.std.specs.Option.{option_or}
 use Rattle.std.specs.Prelude.{is_none}
+use Rattle.ht_base.specs.declared.limits.TheConstants.{LONGEST_TEXT}
 use Rattle.ht_aggregate.specs.Aggregates.{IsAggregate}
 use Rattle.ht_aggregate.specs.Given.{text_in, texts}
-use Rattle.ht_aggregate.specs.Joining.{most_bytes}
 use Rattle.ht_aggregate.proofs.PublicLaws.{result_kind, result_short}
 use Rattle.ht_base.specs.declared.how.How.{How}
 use Rattle.ht_base.specs.declared.how.How.TheVariants as how
@@ -42,20 +42,20 @@ use Rattle.ht_tree.proofs.PublicLaws.{some_at, updated_held}
 -- ---- texts are short
 
 abbrev IsShort : Value → Type 0
-IsShort v = is_short most_bytes ([], v) ≡ true
+IsShort v = is_short LONGEST_TEXT ([], v) ≡ true
 
-short_at : (name : List ℕ) (v : Value) → is_short most_bytes (name, v) ≡ true → IsShort v
+short_at : (name : List ℕ) (v : Value) → is_short LONGEST_TEXT (name, v) ≡ true → IsShort v
 short_at name (values.Text text) short = short
 short_at name _ short = refl
 
 -- the value of a name
-short_of : (name : List ℕ) (vs : List (List ℕ × Value)) → list_all (is_short most_bytes) vs ≡ true → IfSome (value_of name vs) IsShort
+short_of : (name : List ℕ) (vs : List (List ℕ × Value)) → list_all (is_short LONGEST_TEXT) vs ≡ true → IfSome (value_of name vs) IsShort
 short_of name [] short = tt
 short_of name (v ∷ vs) short =
-    let both = and_parts (is_short most_bytes v) (list_all (is_short most_bytes) vs) short in
+    let both = and_parts (is_short LONGEST_TEXT v) (list_all (is_short LONGEST_TEXT) vs) short in
     at (bytes_eq v.0 name) both.0 (short_of name vs both.1)
   where
-    at : (b : Bool) → is_short most_bytes v ≡ true → IfSome (value_of name vs) IsShort → IfSome (option_map (λ (w : List ℕ × Value). w.1) (cond b (Some v) (find (λ w. bytes_eq w.0 name) vs))) IsShort
+    at : (b : Bool) → is_short LONGEST_TEXT v ≡ true → IfSome (value_of name vs) IsShort → IfSome (option_map (λ (w : List ℕ × Value). w.1) (cond b (Some v) (find (λ w. bytes_eq w.0 name) vs))) IsShort
     at true one rest = short_at v.0 v.1 one
     at false one rest = rest
 
@@ -67,20 +67,20 @@ of_kind_short k (Some v) short = at (same_kind k (kind_of_value v))
     at true = short
     at false = tt
 
-low : (m : ℕ) → nat_lt m (most_bytes + 1) ≡ true → m ≤ most_bytes
+low : (m : ℕ) → nat_lt m (LONGEST_TEXT + 1) ≡ true → m ≤ LONGEST_TEXT
 low m is = grind (arith, nat_tests)
 
-text_short : (v : Value) → IsShort v → IfSome (text_in v) (λ t. length t ≤ most_bytes)
+text_short : (v : Value) → IsShort v → IfSome (text_in v) (λ t. length t ≤ LONGEST_TEXT)
 text_short (values.Text text) short = low (length text) short
 text_short _ short = tt
 
 -- the output of a task has only short texts
 abbrev HasShort : Row → Type 0
-HasShort s = list_all (is_short most_bytes) s.output ≡ true
+HasShort s = list_all (is_short LONGEST_TEXT) s.output ≡ true
 
-texts_short : (how : How) (from : List ℕ) (subs : List Row) → All HasShort subs → All (λ t. length t ≤ most_bytes) (texts (values_for how from subs))
+texts_short : (how : How) (from : List ℕ) (subs : List Row) → All HasShort subs → All (λ t. length t ≤ LONGEST_TEXT) (texts (values_for how from subs))
 texts_short how from subs short =
-    kept_all IsShort (λ t. length t ≤ most_bytes) text_in text_short (values_for how from subs)
+    kept_all IsShort (λ t. length t ≤ LONGEST_TEXT) text_in text_short (values_for how from subs)
     (kept_all HasShort IsShort (λ s. of_kind (kind_of_how how) (value_of from s.output))
     (λ s is. of_kind_short (kind_of_how how) (value_of from s.output) (short_of from s.output is)) subs short)
 
@@ -94,14 +94,14 @@ no_moment : (h : How) → kind.Instant ≡ kind_of_how h → ⊥
 no_moment how.Concat is = cc
 no_moment _ is = cc
 
-within : (m : ℕ) → m ≤ most_bytes → nat_lt m (most_bytes + 1) ≡ true
+within : (m : ℕ) → m ≤ LONGEST_TEXT → nat_lt m (LONGEST_TEXT + 1) ≡ true
 within m short = grind (arith, nat_tests)
 
 same_itself : (k : Kind) → same_kind k k ≡ true
 same_itself kind.Text = refl
 same_itself _ = refl
 
-held_alone : (kinds : Declared) (persons : ℕ) (k : Kind) (name : List ℕ) (v : Value) → declared_kind kinds Output name ≡ Some k → same_kind k (kind_of_value v) ≡ true → is_known persons (name, v) ≡ true → is_short most_bytes (name, v) ≡ true → is_timely (name, v) ≡ true → AreHeld kinds persons Output ((name, v) ∷ [])
+held_alone : (kinds : Declared) (persons : ℕ) (k : Kind) (name : List ℕ) (v : Value) → declared_kind kinds Output name ≡ Some k → same_kind k (kind_of_value v) ≡ true → is_known persons (name, v) ≡ true → is_short LONGEST_TEXT (name, v) ≡ true → is_timely (name, v) ≡ true → AreHeld kinds persons Output ((name, v) ∷ [])
 held_alone kinds persons k name v declared fits known short timely = record {
   declared = rw (declared, fits) refl;
   known = rw known refl;
@@ -109,7 +109,7 @@ held_alone kinds persons k name v declared fits known short timely = record {
   moments_within = rw timely refl;
 }
 
-result_held : (kinds : Declared) (persons : ℕ) (s : Setting) (vs : List Value) (v : Value) → IsSettable kinds s → All (λ t. length t ≤ most_bytes) (texts vs) → IsAggregate s.how vs (Some v) → AreHeld kinds persons Output ((s.part, v) ∷ [])
+result_held : (kinds : Declared) (persons : ℕ) (s : Setting) (vs : List Value) (v : Value) → IsSettable kinds s → All (λ t. length t ≤ LONGEST_TEXT) (texts vs) → IsAggregate s.how vs (Some v) → AreHeld kinds persons Output ((s.part, v) ∷ [])
 result_held kinds persons s vs v settable short is = at v (result_kind s.how vs v is) is
   where
     fits : (k : Kind) → k ≡ kind_of_how s.how → same_kind (kind_of_how s.how) k ≡ true

@@ -1,4 +1,5 @@
 ghost use Rattle.std.specs.Prelude.{◌≡◌, ◌≤◌, true, ◌∷◌, [], ◌++◌, IfOk, length, map, OnErr};
+ghost use Rattle.ht_base.specs.declared.limits.TheConstants.{MOST_SUBS};
 ghost use Rattle.ht_base.specs.declared.moment.Moment.{Moment};
 ghost use Rattle.ht_compose.specs.Items.Item.{Begin, Check};
 ghost use Rattle.ht_compose.specs.Running.{Acts};
@@ -49,7 +50,7 @@ fn begun(row: Row) -> Row
 
 // What is to be done where a task begins.
 fn begun_with(alloc: Global, model: &Model, row: &Row) -> Result<Vec<Item>, Memory>
-    requires { length model.now.subs.items ≤ 8 }
+    requires { length model.now.subs.items ≤ MOST_SUBS }
     ensures { IfOk result (λ items. map item_of items.items ≡ spec.begins_with (model_of model.now) row.now ++ Check row.now.task.0 ∷ []) }
 {
     let mut items = Vec::new(alloc);
@@ -64,7 +65,7 @@ fn begun_with(alloc: Global, model: &Model, row: &Row) -> Result<Vec<Item>, Memo
 
 // How many entries are made first: all, or one where they come one behind another.
 fn first_entries(model: &Model) -> u32
-    requires { length model.now.subs.items ≤ 8 }
+    requires { length model.now.subs.items ≤ MOST_SUBS }
     ensures { result ≡ spec.first_entries (model_of model.now) }
 {
     let count = model.subs.len() as u32;

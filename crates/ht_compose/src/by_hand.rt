@@ -1,5 +1,6 @@
 ghost use Rattle.std.specs.Prelude.{◌≡◌, ◌≤◌, not, ◌&&◌, ◌||◌, IfOk, length};
 ghost use Rattle.std.specs.List.{list_any};
+ghost use Rattle.ht_base.specs.declared.limits.TheConstants.{MOST_SUBS};
 ghost use Rattle.ht_compose.specs.ByHand.{IsEntryOf, named_from};
 ghost use Rattle.ht_compose.specs.Finding.{rows_of};
 ghost use Rattle.ht_compose.specs.Finishes.{all_ended};
@@ -50,7 +51,7 @@ pub fn entry_to_make(
 }
 
 fn place_of(model: &Model, name: Name) -> Option<u32>
-    requires { length model.now.subs.items ≤ 8 }
+    requires { length model.now.subs.items ≤ MOST_SUBS }
     ensures { result ≡ named_from 0 name (model_of model.now).subs }
 {
     for (place, entry) in model.subs.iter().enumerate() {

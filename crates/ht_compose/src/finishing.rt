@@ -20,7 +20,7 @@ ghost use Rattle.ht_tree.specs.Tables.{model_of, task_row};
 use ht_aggregate::aggregate;
 use ht_base::{How, Memory, Name, TaskId, Value, ValueList, Values};
 use ht_entries::Setting;
-use ht_expr::Env;
+use ht_expr::{Env, is_of_kind};
 use ht_models::{Finish, Model};
 use ht_tree::{Plan, Row, Tables, env_with};
 use std::alloc::Global;
@@ -261,15 +261,7 @@ fn value_for<'a>(row: &'a Row, setting: &Setting) -> Option<&'a Value>
 fn takes(how: &How, value: &Value) -> bool
     ensures { result ≡ same_kind (kind_of_how how.now) (kind_of_value value.now) }
 {
-    match how {
-        How::Concat
-        | How::ConcatWithDelimiter(_)
-        | How::MostFrequent
-        | How::LeastFrequent
-        | How::VoteOnString(_) => matches!(value, Value::Text(_)),
-        How::And | How::Or | How::Vote(_) => matches!(value, Value::Truth(_)),
-        How::Min | How::Max | How::Sum | How::Avg => matches!(value, Value::Int(_)),
-    }
+    is_of_kind(how.kind(), Some(value.kind()))
 }
 
 // No result leaves the part as it was.

@@ -3,6 +3,7 @@
 use Rattle.std.specs.Prelude.{ℕ, nat_le, List, [], ◌∷◌, length, Option, Some, None, codes, option_map, if◌then◌else◌}
 use Rattle.std.specs.Option.{option_and_then}
 use Rattle.toml.specs.Data.{Data, as_str}
+use Rattle.ht_base.specs.declared.limits.TheConstants.{LONGEST_DELIMITER}
 use Rattle.ht_toml.specs.Values.{meaning, whole_of}
 use Rattle.ht_base.specs.declared.how.How.{How}
 use Rattle.ht_base.specs.declared.how.How.TheVariants as how
@@ -13,9 +14,9 @@ use Rattle.ht_base.specs.declared.how.How.TheVariants as how
 abbrev pub percent_of : Data → Option ℕ
 percent_of d = whole_of 0 100 d
 
--- a delimiter is a text of at most 16 bytes
+-- a delimiter is a short text
 abbrev pub delimiter : List ℕ → Option (List ℕ)
-delimiter text = if nat_le (length text) 16 then Some text else None
+delimiter text = if nat_le (length text) LONGEST_DELIMITER then Some text else None
 
 abbrev pub delimiter_of : Data → Option (List ℕ)
 delimiter_of d = option_and_then delimiter (as_str d)

@@ -2,14 +2,11 @@ ghost use Rattle.std.specs.Prelude.{◌≡◌, IfOk, option_map};
 ghost use Rattle.ht_toml.specs.Values.{meaning};
 ghost use Rattle.ht_entries.specs.Aggregates as spec;
 
-use ht_base::{How, Txt};
+use ht_base::{How, LONGEST_DELIMITER, Txt};
 use ht_toml::{Shape, whole_of};
 use std::alloc::{AllocError, Global};
 use std::marker::Model;
 use toml::Value;
-
-/// The most bytes of a delimiter.
-const LONGEST_DELIMITER: usize = 16;
 
 /// The least part of a hundred that a vote must pass.
 #[derive(Drop)]
@@ -36,7 +33,7 @@ impl Shape for Percent {
     }
 }
 
-/// What stands between each two texts: at most 16 bytes.
+/// What stands between each two texts: at most [`LONGEST_DELIMITER`] bytes.
 #[derive(Drop)]
 pub struct Delimiter(pub Txt);
 

@@ -4,12 +4,13 @@ use Rattle.std.specs.Prelude.{◌≢◌, ◌⊎◌}
 use Rattle.std.specs.Str.{IsUtf8}
 use Rattle.std.proofs.lemmas.Bool.{both_ways}
 use Rattle.std.proofs.lemmas.List.{append-nil, append_assoc, map-append}
+use Rattle.ht_base.specs.declared.limits.TheConstants.{MOST_TOKENS}
 use Rattle.ht_expr.specs.declared.refusal.ExprRefusal.{ExprRefusal}
 use Rattle.ht_expr.specs.declared.refusal.ExprRefusal.TheVariants as refusal
 use Rattle.ht_expr.specs.Expected.{Checks}
 use Rattle.ht_expr.specs.Kinds.{Declared}
 use Rattle.ht_expr.specs.KindTable.{kinds_fit}
-use Rattle.ht_expr.specs.Reading.{bare, most_tokens, Begins, StopsBefore, HasShapeFault, HasTokens, IsOnly, IsText, IsWritten, Reads}
+use Rattle.ht_expr.specs.Reading.{bare, Begins, StopsBefore, HasShapeFault, HasTokens, IsOnly, IsText, IsWritten, Reads}
 use Rattle.ht_expr.specs.Scanning.{Scans, placed, seen}
 use Rattle.ht_expr.specs.declared.token.Placed.{Placed as BorrowedPlaced}
 use Rattle.ht_expr.specs.Building.{all}
@@ -74,7 +75,7 @@ whole_or_shape : (IsWhole : List Token → Type 0) (tokens : List Placed) (end a
 whole_or_shape IsWhole tokens end at whole (inl x) = begins_or_stops IsWhole tokens at (begins_whole IsWhole (bare tokens) whole) x
 whole_or_shape IsWhole tokens end at whole (inr x) = x.0.1 whole
 
-too_long : (text : List ℕ) (ts us : List Placed) → HasTokens text ts → AreTokens text us → most_tokens < length us → ⊥
+too_long : (text : List ℕ) (ts us : List Placed) → HasTokens text ts → AreTokens text us → MOST_TOKENS < length us → ⊥
 too_long text ts us x y lt = let len : length ts ≡ length us = ap length (one_list text ts us x.0 y) in let le = x.1 in omega arith
 
 -- a text that is written as a tree is refused for its kinds alone

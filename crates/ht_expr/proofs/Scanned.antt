@@ -5,8 +5,8 @@ use Rattle.std.specs.Bool.{MatchBool}
 use Rattle.std.specs.List.{list_all}
 use Rattle.std.proofs.lemmas.Bool.{and_parts, eqb-true, not_from_false}
 use Rattle.std.proofs.lemmas.List.{length-append, length-replicate, length-map, map-append}
+use Rattle.ht_base.specs.declared.limits.TheConstants.{MOST_TOKENS}
 use Rattle.ht_expr.specs.Tokens.{Placed, blank, begins, IsFirst, NoneFirst, AreBefore, HasNoTokenAt}
-use Rattle.ht_expr.specs.Reading.{most_tokens}
 use Rattle.ht_expr.specs.Scanning.{IsRun, IsBehindBlanks, HasFound, placed, seen}
 use Rattle.ht_expr.specs.declared.token.Placed.{Placed as BorrowedPlaced}
 
@@ -73,13 +73,13 @@ longer text rest behind next kept b t bytes h is first place step =
     let there : t.at + length rest ≡ 0 + length text = omega arith in
     (step.blanks, subst (λ l. AreBefore 0 text (h.found ++ placed t ∷ []) l) step.split (one_more 0 text h.found h.blanks rest (placed t) bytes behind h.before is first there), step.stops)
 
-kept_more : (found : List Placed) (kept : List BorrowedPlaced) (b : Bool) (t : BorrowedPlaced) → length kept < most_tokens
-    → MatchBool b (most_tokens < length found) (found ≡ map placed kept) → MatchBool b (most_tokens < length (found ++ placed t ∷ [])) (found ++ placed t ∷ [] ≡ map placed (kept ++ t ∷ []))
+kept_more : (found : List Placed) (kept : List BorrowedPlaced) (b : Bool) (t : BorrowedPlaced) → length kept < MOST_TOKENS
+    → MatchBool b (MOST_TOKENS < length found) (found ≡ map placed kept) → MatchBool b (MOST_TOKENS < length (found ++ placed t ∷ [])) (found ++ placed t ∷ [] ≡ map placed (kept ++ t ∷ []))
 kept_more found kept true t lt h = omega (arith, length-append found (placed t ∷ []))
 kept_more found kept false t lt h = ap (λ l. l ++ placed t ∷ []) h ∙ sym (map-append placed kept (t ∷ []))
 
-too_many : (found : List Placed) (kept : List BorrowedPlaced) (b : Bool) (t : BorrowedPlaced) → most_tokens ≤ length kept
-    → MatchBool b (most_tokens < length found) (found ≡ map placed kept) → most_tokens < length (found ++ placed t ∷ [])
+too_many : (found : List Placed) (kept : List BorrowedPlaced) (b : Bool) (t : BorrowedPlaced) → MOST_TOKENS ≤ length kept
+    → MatchBool b (MOST_TOKENS < length found) (found ≡ map placed kept) → MOST_TOKENS < length (found ++ placed t ∷ [])
 too_many found kept true t le h = omega (arith, length-append found (placed t ∷ []))
 too_many found kept false t le h =
     let len : length found ≡ length kept = ap length h ∙ length-map kept placed in omega (arith, length-append found (placed t ∷ []))
@@ -90,7 +90,7 @@ Stands rest t behind = (bytes : List ℕ) × (rest ≡ bytes ++ behind) × IsFir
 
 -- a token more, where there is room for it
 pub found_kept : (text rest behind next : List ℕ) (kept : List BorrowedPlaced) (b : Bool) (t : BorrowedPlaced) → HasFound text rest kept b
-    → Stands rest t behind → t.at ≡ length text - length rest → IsBehindBlanks behind next → length kept < most_tokens
+    → Stands rest t behind → t.at ≡ length text - length rest → IsBehindBlanks behind next → length kept < MOST_TOKENS
     → HasFound text next (kept ++ t ∷ []) b
 found_kept text rest behind next kept b t h stands place step lt =
     let more = longer text rest behind next kept b t stands.0 h stands.1 stands.2 place step in
@@ -105,7 +105,7 @@ found_kept text rest behind next kept b t h stands place step lt =
 
 -- and where there is none
 pub found_dropped : (text rest behind next : List ℕ) (kept : List BorrowedPlaced) (b : Bool) (t : BorrowedPlaced) → HasFound text rest kept b
-    → Stands rest t behind → t.at ≡ length text - length rest → IsBehindBlanks behind next → most_tokens ≤ length kept
+    → Stands rest t behind → t.at ≡ length text - length rest → IsBehindBlanks behind next → MOST_TOKENS ≤ length kept
     → HasFound text next kept true
 found_dropped text rest behind next kept b t h stands place step le =
     let more = longer text rest behind next kept b t stands.0 h stands.1 stands.2 place step in

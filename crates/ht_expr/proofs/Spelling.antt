@@ -9,10 +9,11 @@ use Rattle.std.proofs.lemmas.Bool.{and_parts, ltb-true}
 use Rattle.std.proofs.lemmas.Fmt.{decimal_nonempty, digits_decimal, digits_value-decimal, IsAscii-decimal}
 use Rattle.std.proofs.lemmas.List.{length-map}
 use Rattle.std.proofs.lemmas.Str.{IsUtf8-append, IsUtf8-from_ascii, IsUtf8-nil}
+use Rattle.ht_base.specs.declared.limits.TheConstants.{MOST_TOKENS}
 use Rattle.ht_expr.specs.declared.token.Mark.{Mark}
 use Rattle.ht_expr.specs.declared.token.Mark.TheVariants.{Open, Close, Comma, Dot, Plus, Minus, Times, Equal, NotEqual, Less, LessOrEqual, Greater, GreaterOrEqual}
 use Rattle.ht_expr.specs.Tokens.{Token, Placed, number, quoted, word, mark, mark_bytes, blank, quotation_mark, begins, is_word_byte, IsFirst, AreBefore}
-use Rattle.ht_expr.specs.Reading.{bare, most_tokens, AreWritable, IsWritable, IsWritten}
+use Rattle.ht_expr.specs.Reading.{bare, AreWritable, IsWritable, IsWritten}
 use Rattle.ht_expr.specs.Scanning.{mark_in, begins_mark}
 use Rattle.ht_expr.specs.Trees.{Tree, Fits, tokens_of}
 use Rattle.ht_expr.proofs.Firsts.{begins_on, first_mark, first_number, first_quoted, first_word, numerals}
@@ -119,7 +120,7 @@ all_text : (ts : List Token) → AreWritable ts → IsUtf8 (text_of ts)
 all_text [] written = IsUtf8-nil
 all_text (t ∷ ts) written = IsUtf8-append (blank ∷ []) (spell t ++ text_of ts) (ascii (blank ∷ []) refl) (IsUtf8-append (spell t) (text_of ts) (spelled_text t written.0) (all_text ts written.1))
 
-pub some_text : (level : ℕ) (a : Tree) → Fits level a → AreWritable (tokens_of a) → length (tokens_of a) ≤ most_tokens → (text : List ℕ) × IsUtf8 text × IsWritten level text a
+pub some_text : (level : ℕ) (a : Tree) → Fits level a → AreWritable (tokens_of a) → length (tokens_of a) ≤ MOST_TOKENS → (text : List ℕ) × IsUtf8 text × IsWritten level text a
 some_text level a fits written few =
     let ts = tokens_of a in
     let all = bare_placed 0 ts in

@@ -6,13 +6,14 @@ use Rattle.std.specs.Str.{IsUtf8}
 use Rattle.std.proofs.lemmas.Bool.{leb-true, cases_lt, ltb-true}
 use Rattle.std.proofs.lemmas.List.{append-nil, append_assoc, map-append}
 use Rattle.std.proofs.lemmas.Str.{IsUtf8-from_ascii}
+use Rattle.ht_base.specs.declared.limits.TheConstants.{MOST_TOKENS}
 use Rattle.ht_expr.specs.declared.expected.Symbol.{Symbol}
 use Rattle.ht_expr.specs.declared.refusal.ExprRefusal.{ExprRefusal}
 use Rattle.ht_expr.specs.declared.refusal.ExprRefusal.TheVariants as refusal
 use Rattle.ht_expr.specs.Expected.{Breaks, is_done, next, run}
 use Rattle.ht_expr.specs.Kinds.{Declared}
 use Rattle.ht_expr.specs.KindTable.{kinds_fit}
-use Rattle.ht_expr.specs.Reading.{bare, most_tokens, HasTokens, IsWritten, Reads}
+use Rattle.ht_expr.specs.Reading.{bare, HasTokens, IsWritten, Reads}
 use Rattle.ht_expr.specs.Tokens.{Placed, blank, AreBefore, AreTokens, HasNoTokenAt}
 use Rattle.ht_expr.specs.Trees.{Tree, Fits, tokens_of}
 use Rattle.ht_expr.proofs.Checking.{run_more}
@@ -92,12 +93,12 @@ by_shape kinds p text ts None le utf8 has is =
     let tree = whole_tree p (bare ts) st le there done in by_kinds kinds p text tree.0 _ (ts, has, text_written text ts utf8 has.0, tree.1) refl
 by_shape kinds p text ts (Some at) le utf8 has is = (Err (refusal.Shape at), wrong_shape kinds p text ts at le utf8 has is, λ e. absurd (cc))
 
-by_length : (kinds : Declared) (p : ℕ) (text : List ℕ) (ts : List Placed) → p ≤ 9 → IsUtf8 text → AreTokens text ts → (most_tokens < length ts) ⊎ (length ts ≤ most_tokens) → HasAnswer kinds p text
+by_length : (kinds : Declared) (p : ℕ) (text : List ℕ) (ts : List Placed) → p ≤ 9 → IsUtf8 text → AreTokens text ts → (MOST_TOKENS < length ts) ⊎ (length ts ≤ MOST_TOKENS) → HasAnswer kinds p text
 by_length kinds p text ts le utf8 tokens (inl lt) = (Err refusal.TooLong, (ts, tokens, lt), λ e. absurd (cc))
 by_length kinds p text ts le utf8 tokens (inr few) = by_shape kinds p text ts _ le utf8 (tokens, few) refl
 
 by_scan : (kinds : Declared) (p : ℕ) (text : List ℕ) (ts : List Placed) (found : Option ℕ) → p ≤ 9 → IsUtf8 text → IsScan 0 text (ts, found) → HasAnswer kinds p text
-by_scan kinds p text ts None le utf8 is = let tokens = whole_tokens text ts None is refl in by_length kinds p text ts le utf8 tokens (cases_lt most_tokens (length ts))
+by_scan kinds p text ts None le utf8 is = let tokens = whole_tokens text ts None is refl in by_length kinds p text ts le utf8 tokens (cases_lt MOST_TOKENS (length ts))
 by_scan kinds p text ts (Some at) le utf8 is = (Err (refusal.Token at), no_token text ts (Some at) at is refl, λ e. absurd (cc))
 
 -- each text has an answer
@@ -112,10 +113,10 @@ pub record IsAnswer (kinds : Declared) (p : ℕ) (text : List ℕ) (answer : Res
 pub token_row : (kinds : Declared) (p : ℕ) (text : List ℕ) (at : ℕ) → (scan_of text).1 ≡ Some at → IsAnswer kinds p text (Err (refusal.Token at))
 token_row kinds p text at is = record { reads = no_token text _ _ at (is_scan text) is }
 
-pub long_row : (kinds : Declared) (p : ℕ) (text : List ℕ) → (scan_of text).1 ≡ None → nat_lt most_tokens (length (scan_of text).0) ≡ true → IsAnswer kinds p text (Err refusal.TooLong)
+pub long_row : (kinds : Declared) (p : ℕ) (text : List ℕ) → (scan_of text).1 ≡ None → nat_lt MOST_TOKENS (length (scan_of text).0) ≡ true → IsAnswer kinds p text (Err refusal.TooLong)
 long_row kinds p text is more = record { reads = ((scan_of text).0, whole_tokens text _ _ (is_scan text) is, ltb-true _ _ more) }
 
-few : (text : List ℕ) → (scan_of text).1 ≡ None → nat_le (length (scan_of text).0) most_tokens ≡ true → HasTokens text (scan_of text).0
+few : (text : List ℕ) → (scan_of text).1 ≡ None → nat_le (length (scan_of text).0) MOST_TOKENS ≡ true → HasTokens text (scan_of text).0
 few text is le = (whole_tokens text _ _ (is_scan text) is, leb-true _ _ le)
 
 abbrev is_ascii : List ℕ → Bool
@@ -124,7 +125,7 @@ is_ascii text = list_all (λ b. nat_lt b 128) text
 ascii_text : (text : List ℕ) → is_ascii text ≡ true → IsUtf8 text
 ascii_text text ascii = IsUtf8-from_ascii text (low_ascii (λ b. nat_lt b 128) text (λ b h. ltb-true b 128 h) ascii)
 
-pub shape_row : (kinds : Declared) (p : ℕ) (text : List ℕ) (at : ℕ) → p ≤ 9 → is_ascii text ≡ true → (scan_of text).1 ≡ None → nat_le (length (scan_of text).0) most_tokens ≡ true
+pub shape_row : (kinds : Declared) (p : ℕ) (text : List ℕ) (at : ℕ) → p ≤ 9 → is_ascii text ≡ true → (scan_of text).1 ≡ None → nat_le (length (scan_of text).0) MOST_TOKENS ≡ true
     → wrong_at p (scan_of text).0 (length text) ≡ Some at → IsAnswer kinds p text (Err (refusal.Shape at))
 shape_row kinds p text at le ascii is small wrong = record { reads = wrong_shape kinds p text (scan_of text).0 at le (ascii_text text ascii) (few text is small) wrong }
 
@@ -132,7 +133,7 @@ shape_row kinds p text at le ascii is small wrong = record { reads = wrong_shape
 pub record IsSpelled (p : ℕ) (text : List ℕ) (a : Tree) : Type 0 where
   pub written : IsWritten p text a
 
-pub spelled_row : (p : ℕ) (text : List ℕ) (a : Tree) → Fits p a → is_ascii text ≡ true → (scan_of text).1 ≡ None → nat_le (length (scan_of text).0) most_tokens ≡ true → tokens_of a ≡ bare (scan_of text).0
+pub spelled_row : (p : ℕ) (text : List ℕ) (a : Tree) → Fits p a → is_ascii text ≡ true → (scan_of text).1 ≡ None → nat_le (length (scan_of text).0) MOST_TOKENS ≡ true → tokens_of a ≡ bare (scan_of text).0
     → IsSpelled p text a
 spelled_row p text a fits ascii is small spelled =
     let has = few text is small in

@@ -2,16 +2,13 @@
 use Rattle.std.specs.Prelude.{◌≡◌, ◌≢◌, ◌⊎◌, ◌<◌, ◌≤◌, ℕ, true, false, IsTrue, List, [], ◌∷◌, ◌++◌, ⊤, length, map, Result, Ok, Err}
 use Rattle.std.specs.List.{list_all}
 use Rattle.std.specs.Str.{IsUtf8}
+use Rattle.ht_base.specs.declared.limits.TheConstants.{MOST_TOKENS}
 use Rattle.ht_expr.specs.declared.refusal.ExprRefusal.{ExprRefusal}
 use Rattle.ht_expr.specs.declared.refusal.ExprRefusal.TheVariants as refusal
 use Rattle.ht_expr.specs.KindTable.{kinds_fit}
 use Rattle.ht_expr.specs.Kinds.{Declared}
 use Rattle.ht_expr.specs.Tokens.{Token, Placed, number, quoted, word, mark, greatest_number, is_text_byte, is_word, AreTokens, HasNoTokenAt}
 use Rattle.ht_expr.specs.Trees.{Tree, AreTree}
-
--- the most tokens of a text
-abbrev pub most_tokens : ℕ
-most_tokens = 128
 
 -- the tokens without their places
 abbrev pub bare : List Placed → List Token
@@ -53,7 +50,7 @@ HasShapeFault IsWhole tokens end at = StopsBefore IsWhole tokens at ⊎ (EndsEar
 
 -- the text has these tokens, and not too many
 abbrev pub HasTokens : List ℕ → List Placed → Type 0
-HasTokens text tokens = AreTokens text tokens × (length tokens ≤ most_tokens)
+HasTokens text tokens = AreTokens text tokens × (length tokens ≤ MOST_TOKENS)
 
 -- the text is written as this tree of this level, whatever its kinds
 abbrev pub IsWritten : ℕ → List ℕ → Tree → Type 0
@@ -63,7 +60,7 @@ IsWritten level text tree = (tokens : List Placed) × HasTokens text tokens × A
 abbrev pub Reads : Declared → ℕ → List ℕ → Result Tree ExprRefusal → Type 0
 Reads kinds level text (Ok tree) = IsWritten level text tree × (kinds_fit kinds level tree ≡ true)
 Reads kinds level text (Err (refusal.Token at)) = HasNoTokenAt text at
-Reads kinds level text (Err refusal.TooLong) = (tokens : List Placed) × AreTokens text tokens × (most_tokens < length tokens)
+Reads kinds level text (Err refusal.TooLong) = (tokens : List Placed) × AreTokens text tokens × (MOST_TOKENS < length tokens)
 Reads kinds level text (Err (refusal.Shape at)) =
     (tokens : List Placed) × HasTokens text tokens × HasShapeFault (IsText level) tokens (length text) at
 Reads kinds level text (Err refusal.BadKind) = (tree : Tree) × IsWritten level text tree × (kinds_fit kinds level tree ≡ false)

@@ -5,6 +5,7 @@ use Rattle.std.specs.Borrow.{Bor}
 use Rattle.std.specs.Char.{is_ascii_alphabetic, is_ascii_digit}
 use Rattle.std.specs.List.{list_all}
 use Rattle.std.specs.declared.alloc.Global.{Global}
+use Rattle.ht_base.specs.declared.limits.TheConstants.{MOST_TOKENS}
 use Rattle.ht_expr.specs.declared.token.Mark.{Mark}
 use Rattle.ht_expr.specs.declared.token.Mark.TheVariants.{Open, Close, Comma, Dot, Plus, Minus, Times, Equal, NotEqual, Less, LessOrEqual, Greater, GreaterOrEqual}
 use Rattle.ht_expr.specs.declared.refusal.ExprRefusal.{ExprRefusal}
@@ -15,7 +16,7 @@ use Rattle.ht_expr.specs.declared.token.Token.TheVariants as borrowed
 use Rattle.ht_expr.specs.declared.scanning.Class.{Class}
 use Rattle.ht_expr.specs.declared.scanning.Class.TheVariants as class
 use Rattle.ht_expr.specs.Tokens.{Token, number, quoted, word, mark, begins, blank, quotation_mark, is_text_byte, is_word_byte, IsFirst, NoneFirst, Placed, AreBefore, AreTokens, HasNoTokenAt}
-use Rattle.ht_expr.specs.Reading.{HasTokens, most_tokens}
+use Rattle.ht_expr.specs.Reading.{HasTokens}
 
 -- a token that borrows its text
 abbrev pub seen : Borrowed → Token
@@ -77,13 +78,13 @@ pub record HasFound (text rest : List ℕ) (kept : List BorrowedPlaced) (is_too_
   pub blanks : ℕ
   pub before : AreBefore 0 text found (replicate blanks blank ++ rest)
   pub stops : begins (λ b. b == blank) rest ≡ false
-  pub most : length kept ≤ most_tokens
-  pub kept_all : MatchBool is_too_long (most_tokens < length found) (found ≡ map placed kept)
+  pub most : length kept ≤ MOST_TOKENS
+  pub kept_all : MatchBool is_too_long (MOST_TOKENS < length found) (found ≡ map placed kept)
 
 -- the text's tokens, or why it has none that can be read
 abbrev pub Scans : List ℕ → Result (Vec BorrowedPlaced Global) ExprRefusal → Type 0
 Scans text (Ok tokens) = HasTokens text (map placed tokens.items)
 Scans text (Err (refusal.Token at)) = HasNoTokenAt text at
-Scans text (Err refusal.TooLong) = (tokens : List Placed) × AreTokens text tokens × (most_tokens < length tokens)
+Scans text (Err refusal.TooLong) = (tokens : List Placed) × AreTokens text tokens × (MOST_TOKENS < length tokens)
 Scans text (Err refusal.Memory) = ⊤
 Scans text (Err _) = ⊥

@@ -71,7 +71,7 @@ only_persons_are_found = refl
 a_test_is_a_truth : map (λ t. kinds_fit kinds an_assignment (union nobody (when t nobody nobody))) (part Input (codes "i") ∷ part Input (codes "b") ∷ []) ≡ false ∷ true ∷ []
 a_test_is_a_truth = refl
 
-a_person_is_an_expression_too : kinds_fit kinds an_expression (part Input (codes "t")) ≡ true
+a_person_is_an_expression_too : kinds_fit kinds an_expression (part Input (codes "p")) ≡ true
 a_person_is_an_expression_too = refl
 
 -- ---- parts

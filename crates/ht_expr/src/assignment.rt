@@ -38,7 +38,7 @@ impl Assign {
     /// Reads an assignment from its text: `nobody`, `everybody`, `initiator`, `in.word`,
     /// `user('name')`, `group('name')`, `union`, `intersect` or `except` of two assignments, as
     /// `union(nobody, initiator)`, and `when` of an expression and two assignments. Blanks may stand
-    /// between its tokens, of which there are at most 128. A name is any text without `'` and without
+    /// between its tokens, of which there are at most `MOST_TOKENS`. A name is any text without `'` and without
     /// bytes below 32. Of the causes of a refusal the first in the order of [`ExprRefusal`] is
     /// answered. The parts are declared by `kinds`: each is a person, and the expression of `when`
     /// a truth.

@@ -1,5 +1,4 @@
 ghost use Rattle.std.specs.Prelude.{◌≡◌, [], ◌∷◌, ◌++◌, IfOk, OnOk, OnErr, option_map};
-ghost use Rattle.ht_base.specs.Kinds.{kind_of_value};
 ghost use Rattle.ht_expr.specs.Environment as environment;
 
 use crate::kinding::is_of_kind;
@@ -110,19 +109,7 @@ fn may_be(kind: Option<Kind>, value: &Value) -> bool
     ensures { result ≡ environment.may_be kind value.now }
 {
     match kind {
-        Some(kind) => is_of_kind(kind, Some(kind_of_value(value))),
+        Some(kind) => is_of_kind(kind, Some(value.kind())),
         None => true,
-    }
-}
-
-fn kind_of_value(value: &Value) -> Kind
-    ensures { result ≡ kind_of_value value.now }
-{
-    match value {
-        Value::Text(_) => Kind::Text,
-        Value::Int(_) => Kind::Int,
-        Value::Truth(_) => Kind::Truth,
-        Value::Person(_) => Kind::Person,
-        Value::Instant(_) => Kind::Instant,
     }
 }

@@ -35,7 +35,7 @@ impl Model for Expr {
 
 impl Expr {
     /// Reads an expression from its text. Blanks may stand between its tokens, of which there are at
-    /// most 128. Its parts are declared by `kinds`. Of the causes of a refusal the first in the order
+    /// most `MOST_TOKENS`. Its parts are declared by `kinds`. Of the causes of a refusal the first in the order
     /// of [`ExprRefusal`] is answered.
     pub fn read(alloc: Global, text: &str, kinds: &Kinds) -> Result<Expr, ExprRefusal>
         ensures reads { Reads kinds.now an_expression text.now (expr_answer result) }

@@ -42,7 +42,7 @@ pub(crate) fn kind_of(node: &Node, kinds: &Kinds) -> Option<Kind>
 }
 
 /// Whether there is a kind, and it is this one.
-pub(crate) fn is_of_kind(wanted: Kind, kind: Option<Kind>) -> bool
+pub fn is_of_kind(wanted: Kind, kind: Option<Kind>) -> bool
     ensures { result ≡ table.is_of_kind wanted kind }
 {
     match kind {

@@ -1,11 +1,12 @@
 //! Laws of reading and of values, for proofs alone: the functions do nothing.
 ghost use Rattle.std.specs.Prelude.{◌≡◌, ◌≢◌, ◌≤◌, ℕ, IsTrue, List, Result, Some, length};
 ghost use Rattle.std.specs.Str.{IsUtf8};
+ghost use Rattle.ht_base.specs.declared.limits.TheConstants.{MOST_TOKENS};
 ghost use Rattle.ht_base.specs.declared.kind.Kind.{Kind};
 ghost use Rattle.ht_expr.specs.Environment.{has_parts};
 ghost use Rattle.ht_expr.specs.Kinds.{Declared};
 ghost use Rattle.ht_expr.specs.KindTable.{kind_of};
-ghost use Rattle.ht_expr.specs.Reading.{AreWritable, IsWritten, Reads, most_tokens};
+ghost use Rattle.ht_expr.specs.Reading.{AreWritable, IsWritten, Reads};
 ghost use Rattle.ht_expr.specs.Trees.{Fits, Tree, tokens_of};
 ghost use Rattle.ht_expr.specs.Values.{kind_of_outcome, value};
 ghost use Rattle.ht_expr.specs.declared.environment.Env.{Env};
@@ -21,10 +22,10 @@ pub fn each_text_has_one_answer()
         → (a : Result Tree ExprRefusal) × Reads kinds level text a × (a ≢ Err ExprRefusal.Memory) }
 {}
 
-/// Each tree whose tokens can be written, at most 128, is what some text is written as. So it is read
+/// Each tree whose tokens can be written, no more than there may be, is what some text is written as. So it is read
 /// where its kinds fit, and else refused for them.
 pub fn each_tree_has_a_text()
-    ensures { (level : ℕ) (a : Tree) → Fits level a → AreWritable (tokens_of a) → length (tokens_of a) ≤ most_tokens
+    ensures { (level : ℕ) (a : Tree) → Fits level a → AreWritable (tokens_of a) → length (tokens_of a) ≤ MOST_TOKENS
         → (text : List ℕ) × IsUtf8 text × IsWritten level text a }
 {}
 

@@ -25,6 +25,7 @@ mod token;
 pub use assignment::Assign;
 pub use environment::{Env, Subs};
 pub use expression::Expr;
+pub use kinding::is_of_kind;
 pub use kinds::{Kinds, Side};
 pub use laws::{each_kind_has_a_value, each_text_has_one_answer, each_tree_has_a_text};
 pub use node::Count;

@@ -10,8 +10,8 @@ pub enum ExprRefusal {
     /// At this byte no token begins.
     #[error("no token begins at byte {0}")]
     Token(usize),
-    /// The text has more than 128 tokens.
-    #[error("more than 128 tokens")]
+    /// The text has more tokens than it may.
+    #[error("too many tokens")]
     TooLong,
     /// Here stands the first token that no text with the tokens before it can have there. Where the
     /// end comes too early, it is the text's length.

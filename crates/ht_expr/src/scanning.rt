@@ -7,10 +7,8 @@ ghost use Rattle.ht_expr.specs.Tokens.{begins, is_digits, greatest_number, quota
 
 use crate::ExprRefusal;
 use crate::token::{Mark, Placed, Token};
+use ht_base::MOST_TOKENS;
 use std::alloc::Global;
-
-/// The most tokens of a text.
-const MOST: usize = 128;
 
 /// The greatest number that is a token.
 const GREATEST: u64 = i64::MAX as u64;
@@ -39,7 +37,7 @@ impl Class {
     }
 }
 
-/// The tokens of a text in their order, of which there are at most 128.
+/// The tokens of a text in their order, of which there are at most [`MOST_TOKENS`].
 pub(crate) fn tokens(alloc: Global, text: &str) -> Result<Vec<Placed<'_>>, ExprRefusal>
     ensures { Scans text.now result }
 {
@@ -51,7 +49,7 @@ pub(crate) fn tokens(alloc: Global, text: &str) -> Result<Vec<Placed<'_>>, ExprR
         let Some((token, behind)) = first_token(rest) else {
             return Err(ExprRefusal::Token(at));
         };
-        if tokens.len() < MOST {
+        if tokens.len() < MOST_TOKENS {
             tokens.push(Placed { token, at })?;
         } else {
             is_too_long = true;

@@ -5,6 +5,7 @@ use Rattle.std.proofs.lemmas.List.{append-nil, take_at, drop_at, nil_from_length
 use Rattle.std.proofs.lemmas.Bool.{cases_lt}
 use Rattle.std.proofs.lemmas.Bool.Decides.{nat_tests}
 use Rattle.std.proofs.lemmas.Nat.{from_le_bytes-to_le_bytes_4}
+use Rattle.ht_journal.specs.declared.limits.TheConstants.{LONGEST_BODY}
 use Rattle.ht_journal.specs.Files.{header, length_bytes, length_at, frame, frames, front, is_whole, with_body, bodies_from, contents, Fit, Rests, journal_length}
 
 pub length-length_bytes : (n : ℕ) → length (length_bytes n) ≡ 4
@@ -82,13 +83,13 @@ pub walk_broken : (at : ℕ) (rest : List ℕ) → is_whole at rest ≡ false �
 unfolding bodies_from
 walk_broken at rest broken = ap (λ b. cond b (with_body (take (length_at rest) (drop 4 rest)) (bodies_from (suc at) (4 + length_at rest) rest)) (Err at)) broken
 
-pub is_whole-frame : (at : ℕ) (body rest : List ℕ) → length body ≤ 1048576 → 0 < length rest → at + 5 + length body < 2 ^ 32 → is_whole at (frame body ++ rest) ≡ true
+pub is_whole-frame : (at : ℕ) (body rest : List ℕ) → length body ≤ LONGEST_BODY → 0 < length rest → at + 5 + length body < 2 ^ 32 → is_whole at (frame body ++ rest) ≡ true
 is_whole-frame at body rest small more reach =
     let e : length_at (frame body ++ rest) ≡ length body = ap length_at (append_assoc (length_bytes (length body)) body rest) ∙ length_at-frame (length body) (body ++ rest) (omega arith) in
     let l : length (frame body ++ rest) ≡ 4 + length body + length rest = length-append (frame body) rest ∙ ap (λ n. n + length rest) (length-frame body) in
-    ap (λ n. nat_le n 1048576 && (nat_lt (4 + n) (length (frame body ++ rest)) && nat_lt (at + 5 + n) (2 ^ 32))) e ∙ grind (arith, nat_tests)
+    ap (λ n. nat_le n LONGEST_BODY && (nat_lt (4 + n) (length (frame body ++ rest)) && nat_lt (at + 5 + n) (2 ^ 32))) e ∙ grind (arith, nat_tests)
 
-pub walk_frame : (at : ℕ) (body rest : List ℕ) → length body ≤ 1048576 → 0 < length rest → at + 5 + length body < 2 ^ 32 → bodies_from at 0 (1 ∷ (frame body ++ rest)) ≡ with_body body (bodies_from (at + 5 + length body) 0 rest)
+pub walk_frame : (at : ℕ) (body rest : List ℕ) → length body ≤ LONGEST_BODY → 0 < length rest → at + 5 + length body < 2 ^ 32 → bodies_from at 0 (1 ∷ (frame body ++ rest)) ≡ with_body body (bodies_from (at + 5 + length body) 0 rest)
 unfolding bodies_from
 walk_frame at body rest small more reach =
     let all : List ℕ = frame body ++ rest in
@@ -102,7 +103,7 @@ walk_frame at body rest small more reach =
     ∙ ap (λ (l : List ℕ). with_body l (bodies_from (suc at) (4 + length_at all) all)) taken
     ∙ ap (with_body body) over
 
-pub walk_frames : (xs : List (List ℕ)) (at : ℕ) (rest : List ℕ) → AllByRecursion (λ x. length x ≤ 1048576) xs → 0 < length rest → at + length (frames xs) < 2 ^ 32 → bodies_from at 0 (frames xs ++ rest) ≡ with_bodies xs (bodies_from (at + length (frames xs)) 0 rest)
+pub walk_frames : (xs : List (List ℕ)) (at : ℕ) (rest : List ℕ) → AllByRecursion (λ x. length x ≤ LONGEST_BODY) xs → 0 < length rest → at + length (frames xs) < 2 ^ 32 → bodies_from at 0 (frames xs ++ rest) ≡ with_bodies xs (bodies_from (at + length (frames xs)) 0 rest)
 unfolding with_bodies
 walk_frames [] at rest small more reach = ap (λ n. bodies_from n 0 rest) (omega arith)
 walk_frames (x ∷ xs) at rest small more reach =

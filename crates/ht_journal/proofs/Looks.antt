@@ -2,6 +2,7 @@
 use Rattle.std.proofs.Common.{◌≡◌, ◌≢◌, ℕ, ◌+◌, ◌≤◌, ◌^◌, List, ◌∷◌, ◌++◌, length, take, drop, get_or, refl, sym, ◌∙◌, ap, arith, Option, Some, None, IfSome, option_map}
 use Rattle.std.specs.Option.{ForSome}
 use Rattle.std.proofs.lemmas.List.{length-take, length-drop, length-take-le, get_or_at}
+use Rattle.ht_journal.specs.declared.limits.TheConstants.{LONGEST_BODY}
 use Rattle.ht_journal.specs.Files.{front, Fit, Rests, Doubts}
 use Rattle.ht_journal.specs.Parts.{Stands, Reads}
 use Rattle.ht_journal.proofs.Frames.{contents_rests}
@@ -12,7 +13,7 @@ use Rattle.ht_journal.proofs.Writes.{reads_doubt, fit_push}
 abbrev pub held_body : List ℕ → ℕ → List ℕ
 held_body buffer n = take n (drop 4 buffer)
 
-pub stands_reads : (xs : List (List ℕ)) (buffer : List ℕ) (at : ℕ) (doubt : Option ℕ) → Fit xs → at ≡ length (front xs) + 1 → ForSome doubt (λ n. (n ≤ 1048576) × (at + 5 + n ≤ 2 ^ 32)) → (c : List ℕ) → Stands xs (option_map (held_body buffer) doubt) c → Reads xs (option_map (held_body buffer) doubt) c
+pub stands_reads : (xs : List (List ℕ)) (buffer : List ℕ) (at : ℕ) (doubt : Option ℕ) → Fit xs → at ≡ length (front xs) + 1 → ForSome doubt (λ n. (n ≤ LONGEST_BODY) × (at + 5 + n ≤ 2 ^ 32)) → (c : List ℕ) → Stands xs (option_map (held_body buffer) doubt) c → Reads xs (option_map (held_body buffer) doubt) c
 stands_reads xs buffer at None fit place fits c stands = contents_rests xs c fit stands
 stands_reads xs buffer at (Some n) fit place fits c stands =
     let f = fits n refl in

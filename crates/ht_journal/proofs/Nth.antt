@@ -3,6 +3,7 @@ use Rattle.std.proofs.Common.{◌≡◌, ℕ, zero, suc, ◌+◌, ◌-◌, ◌<�
 use Rattle.std.specs.List.{AllByRecursion}
 use Rattle.std.specs.Int.{w32, from_le_bytes}
 use Rattle.std.proofs.lemmas.List.{take_more, take_at, drop_at, drop-drop}
+use Rattle.ht_journal.specs.declared.limits.TheConstants.{LONGEST_BODY}
 use Rattle.ht_journal.specs.Bodies.{HasFront, IsBehind, IsNth}
 use Rattle.ht_journal.specs.Files.{Fit, frame, frames, front, length_at, length_bytes}
 use Rattle.ht_journal.specs.Parts.{Stands}
@@ -32,8 +33,8 @@ module _ (xs : List (List ℕ)) (k : ℕ) (fit : Fit xs) (lt : k < length xs) wh
   pub taken : take (k + 1) xs ≡ take k xs ++ body ∷ []
   taken = take_more xs k [] lt
 
-  pub small : length body ≤ 1048576
-  small = all_at (λ x. length x ≤ 1048576) xs k fit.small lt
+  pub small : length body ≤ LONGEST_BODY
+  small = all_at (λ x. length x ≤ LONGEST_BODY) xs k fit.small lt
 
   -- the next gate
   pub next_gate : length (front (take (k + 1) xs)) ≡ length (front (take k xs)) + (5 + length body)
@@ -71,13 +72,13 @@ module _ (xs : List (List ℕ)) (k : ℕ) (fit : Fit xs) (lt : k < length xs) wh
       ap (λ n. take (length body) (drop n f)) (omega arith) ∙ ap (take (length body)) four ∙ take_at body b.0 (length body) refl
 
 -- what four bytes behind a gate say
-pub told_behind : (o : Option (List ℕ)) (gate end n m : ℕ) (bytes : List ℕ) → length bytes ≡ 4 → n ≡ from_le_bytes w32 bytes → IfSome o (λ f. bytes ≡ take (length bytes) (drop (gate + 1) f)) → m ≡ min n 1048576 → IfSome o (IsBehind gate end (gate + 5) m)
+pub told_behind : (o : Option (List ℕ)) (gate end n m : ℕ) (bytes : List ℕ) → length bytes ≡ 4 → n ≡ from_le_bytes w32 bytes → IfSome o (λ f. bytes ≡ take (length bytes) (drop (gate + 1) f)) → m ≡ min n LONGEST_BODY → IfSome o (IsBehind gate end (gate + 5) m)
 told_behind None gate end n m bytes four is read cut = tt
 told_behind (Some f) gate end n m bytes four is read cut =
     let same = length_read bytes (drop (gate + 1) f) n is (read ∙ ap (λ k. take k (drop (gate + 1) f)) four) in
     λ small within. (refl, omega arith)
 
-pub told_cut : (o : Option (List ℕ)) (gate end n m at : ℕ) (bytes : List ℕ) → length bytes ≡ 4 → n ≡ from_le_bytes w32 bytes → IfSome o (λ f. bytes ≡ take (length bytes) (drop (gate + 1) f)) → m ≡ min n 1048576 → end < gate + 5 + m → IfSome o (IsBehind gate end at 0)
+pub told_cut : (o : Option (List ℕ)) (gate end n m at : ℕ) (bytes : List ℕ) → length bytes ≡ 4 → n ≡ from_le_bytes w32 bytes → IfSome o (λ f. bytes ≡ take (length bytes) (drop (gate + 1) f)) → m ≡ min n LONGEST_BODY → end < gate + 5 + m → IfSome o (IsBehind gate end at 0)
 told_cut None gate end n m at bytes four is read cut over = tt
 told_cut (Some f) gate end n m at bytes four is read cut over =
     let same = length_read bytes (drop (gate + 1) f) n is (read ∙ ap (λ k. take k (drop (gate + 1) f)) four) in

@@ -5,6 +5,7 @@ use Rattle.std.specs.Int.{w32, from_le_bytes}
 use Rattle.std.proofs.lemmas.Bool.Decides.{nat_tests}
 use Rattle.std.proofs.lemmas.List.{drop_more, drop-drop, get_or-take, get_or-drop, length-drop, length-take-le, append-nil, length_push, length-replicate, drop_all}
 use Rattle.std.proofs.lemmas.Nat.{le_bytes_4}
+use Rattle.ht_journal.specs.declared.limits.TheConstants.{LONGEST_BODY}
 use Rattle.ht_journal.specs.Files.{header, frame, front, contents, bodies_from, length_at, length_bytes, Fit, Rests}
 use Rattle.ht_outside.specs.Disks.{Holds, Torn}
 use Rattle.ht_journal.specs.Opening.{StandsAt, IsScanned}
@@ -30,7 +31,7 @@ pub length_read : (bytes rest : List ℕ) (n : ℕ) → n ≡ from_le_bytes w32 
 unfolding length_at
 length_read bytes rest n is e = sym (length_at-take rest) ∙ ap (from_le_bytes w32) (sym e) ∙ sym is
 
-not_whole : (gate l len : ℕ) → gate < len → (1048576 < l) ⊎ (min len (2 ^ 32) ≤ gate + 5 + l) → (nat_le l 1048576 && (nat_lt (4 + l) (len - (gate + 1)) && nat_lt (gate + 5 + l) (2 ^ 32))) ≡ false
+not_whole : (gate l len : ℕ) → gate < len → (LONGEST_BODY < l) ⊎ (min len (2 ^ 32) ≤ gate + 5 + l) → (nat_le l LONGEST_BODY && (nat_lt (4 + l) (len - (gate + 1)) && nat_lt (gate + 5 + l) (2 ^ 32))) ≡ false
 not_whole gate l len lt why = grind (arith, nat_tests)
 
 pub open_gate : (o : Option (List ℕ)) (gate end : ℕ) (byte : List ℕ) → length byte ≡ 1 → IfSome o (λ f. end ≡ min (length f) (2 ^ 32)) → gate < end → get_or byte 0 0 ≡ 1 → IfSome o (λ f. byte ≡ take (length byte) (drop gate f))
@@ -41,23 +42,23 @@ open_gate (Some f) gate end byte one range lt is read =
     drop_more f gate 0 (omega arith) ∙ ap (λ n. n ∷ drop (gate + 1) f) same
 
 pub broken : (o : Option (List ℕ)) (gate end : ℕ) → IfSome o (λ f. end ≡ min (length f) (2 ^ 32)) → gate < end → IfSome o (λ f. drop gate f ≡ 1 ∷ drop (gate + 1) f)
-    → IfSome o (λ f. (1048576 < length_at (drop (gate + 1) f)) ⊎ (end ≤ gate + 5 + length_at (drop (gate + 1) f))) → IfSome o (λ f. bodies_from gate 0 (drop gate f) ≡ Err gate)
+    → IfSome o (λ f. (LONGEST_BODY < length_at (drop (gate + 1) f)) ⊎ (end ≤ gate + 5 + length_at (drop (gate + 1) f))) → IfSome o (λ f. bodies_from gate 0 (drop gate f) ≡ Err gate)
 broken None gate end range lt is why = tt
 broken (Some f) gate end range lt is why =
     let rest : List ℕ = drop (gate + 1) f in
     let l : length rest ≡ length f - (gate + 1) = length-drop (gate + 1) f in
-    ap (bodies_from gate 0) is ∙ walk_broken gate rest (ap (λ n. nat_le (length_at rest) 1048576 && (nat_lt (4 + length_at rest) n && nat_lt (gate + 5 + length_at rest) (2 ^ 32))) l
+    ap (bodies_from gate 0) is ∙ walk_broken gate rest (ap (λ n. nat_le (length_at rest) LONGEST_BODY && (nat_lt (4 + length_at rest) n && nat_lt (gate + 5 + length_at rest) (2 ^ 32))) l
     ∙ not_whole gate (length_at rest) (length f) (omega arith) (⊎_elim (λ a. inl a) (λ (b : end ≤ gate + 5 + length_at rest). inr (omega arith)) why))
 
 -- what the four bytes behind the gate say
-pub too_long : (o : Option (List ℕ)) (gate end n : ℕ) (bytes : List ℕ) → length bytes ≡ 4 → n ≡ from_le_bytes w32 bytes → IfSome o (λ f. bytes ≡ take (length bytes) (drop (gate + 1) f)) → (1048576 < n) ⊎ (end ≤ gate + 5 + n)
-    → IfSome o (λ f. (1048576 < length_at (drop (gate + 1) f)) ⊎ (end ≤ gate + 5 + length_at (drop (gate + 1) f)))
+pub too_long : (o : Option (List ℕ)) (gate end n : ℕ) (bytes : List ℕ) → length bytes ≡ 4 → n ≡ from_le_bytes w32 bytes → IfSome o (λ f. bytes ≡ take (length bytes) (drop (gate + 1) f)) → (LONGEST_BODY < n) ⊎ (end ≤ gate + 5 + n)
+    → IfSome o (λ f. (LONGEST_BODY < length_at (drop (gate + 1) f)) ⊎ (end ≤ gate + 5 + length_at (drop (gate + 1) f)))
 too_long None gate end n bytes four is read why = tt
 too_long (Some f) gate end n bytes four is read why =
     let same = length_read bytes (drop (gate + 1) f) n is (read ∙ ap (λ k. take k (drop (gate + 1) f)) four) in
-    subst (λ k. (1048576 < k) ⊎ (end ≤ gate + 5 + k)) (sym same) why
+    subst (λ k. (LONGEST_BODY < k) ⊎ (end ≤ gate + 5 + k)) (sym same) why
 
-pub too_short : (o : Option (List ℕ)) (gate end : ℕ) → end ≤ gate + 5 → IfSome o (λ f. (1048576 < length_at (drop (gate + 1) f)) ⊎ (end ≤ gate + 5 + length_at (drop (gate + 1) f)))
+pub too_short : (o : Option (List ℕ)) (gate end : ℕ) → end ≤ gate + 5 → IfSome o (λ f. (LONGEST_BODY < length_at (drop (gate + 1) f)) ⊎ (end ≤ gate + 5 + length_at (drop (gate + 1) f)))
 too_short None gate end why = tt
 too_short (Some f) gate end why = inr (omega arith)
 
@@ -75,7 +76,7 @@ pub scan_start : (o : Option (List ℕ)) → IfSome o (λ f. f ≡ header ++ dro
 scan_start o headed = record { bodies = []; counted = refl; place = refl; fit = record { small = tt; reach = omega arith }; front_is = headed }
 
 -- one frame on, of a disk that doesn't tell its bytes
-on_untold : (gate count n end : ℕ) → IsScanned None gate count → n ≤ 1048576 → gate + 5 + n < end → end ≤ 2 ^ 32 → IsScanned None (gate + (5 + n)) (count + 1)
+on_untold : (gate count n end : ℕ) → IsScanned None gate count → n ≤ LONGEST_BODY → gate + 5 + n < end → end ≤ 2 ^ 32 → IsScanned None (gate + (5 + n)) (count + 1)
 on_untold gate count n end s small within reach =
     let b : List ℕ = replicate n 0 in
     let size : length b ≡ n = length-replicate n 0 in
@@ -87,7 +88,7 @@ on_untold gate count n end s small within reach =
       front_is = tt;
     }
 
-on_told : (f : List ℕ) (gate count n end : ℕ) → IsScanned (Some f) gate count → n ≤ 1048576 → gate + 5 + n < end → end ≤ 2 ^ 32 → end ≡ min (length f) (2 ^ 32) → StandsAt gate f (Some n) → IsScanned (Some f) (gate + (5 + n)) (count + 1)
+on_told : (f : List ℕ) (gate count n end : ℕ) → IsScanned (Some f) gate count → n ≤ LONGEST_BODY → gate + 5 + n < end → end ≤ 2 ^ 32 → end ≡ min (length f) (2 ^ 32) → StandsAt gate f (Some n) → IsScanned (Some f) (gate + (5 + n)) (count + 1)
 on_told f gate count n end s small within reach told at =
     let behind : List ℕ = drop (gate + 5) f in
     let b : List ℕ = take n behind in
@@ -104,7 +105,7 @@ on_told f gate count n end s small within reach told at =
       front_is = s.front_is ∙ ap (λ (l : List ℕ). front s.bodies ++ l) (at ∙ ap (λ (l : List ℕ). 1 ∷ l) framed) ∙ sym (front-append s.bodies (b ∷ []) rest);
     }
 
-pub scan_on : (o : Option (List ℕ)) (gate count n end : ℕ) → IsScanned o gate count → n ≤ 1048576 → gate + 5 + n < end → end ≤ 2 ^ 32 → IfSome o (λ f. end ≡ min (length f) (2 ^ 32)) → IfSome o (λ f. StandsAt gate f (Some n)) → IsScanned o (gate + (5 + n)) (count + 1)
+pub scan_on : (o : Option (List ℕ)) (gate count n end : ℕ) → IsScanned o gate count → n ≤ LONGEST_BODY → gate + 5 + n < end → end ≤ 2 ^ 32 → IfSome o (λ f. end ≡ min (length f) (2 ^ 32)) → IfSome o (λ f. StandsAt gate f (Some n)) → IsScanned o (gate + (5 + n)) (count + 1)
 scan_on None gate count n end s small within reach told at = on_untold gate count n end s small within reach
 scan_on (Some f) gate count n end s small within reach told at = on_told f gate count n end s small within reach told at
 

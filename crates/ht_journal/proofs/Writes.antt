@@ -3,6 +3,7 @@ use Rattle.std.proofs.Common.{◌≡◌, inl, inr, ⊎_elim, ℕ, ◌+◌, ◌<�
 use Rattle.std.specs.List.{AllByRecursion}
 use Rattle.std.proofs.lemmas.List.{length_push, take_at, drop_at, drop-take, take-take, set_at}
 use Rattle.ht_outside.specs.Disks.{Both, Holds, Torn, Follows, Only}
+use Rattle.ht_journal.specs.declared.limits.TheConstants.{LONGEST_BODY}
 use Rattle.ht_journal.specs.Files.{frame, front, Fit, Rests, Doubts, length_bytes}
 use Rattle.ht_journal.specs.Parts.{Stands, Reads}
 use Rattle.ht_journal.proofs.Frames.{contents_rests, length-front_push, length-length_bytes, length-frame}
@@ -15,11 +16,11 @@ images_told None may_leave P now only told c left = let e = now.1 in absurd (cc)
 images_told (Some f) may_leave P now only told c left = subst P (sym (only c left)) told
 
 -- the new body fits
-pub all_push : (xs : List (List ℕ)) (x : List ℕ) → AllByRecursion (λ body. length body ≤ 1048576) xs → length x ≤ 1048576 → AllByRecursion (λ body. length body ≤ 1048576) (xs ++ x ∷ [])
+pub all_push : (xs : List (List ℕ)) (x : List ℕ) → AllByRecursion (λ body. length body ≤ LONGEST_BODY) xs → length x ≤ LONGEST_BODY → AllByRecursion (λ body. length body ≤ LONGEST_BODY) (xs ++ x ∷ [])
 all_push [] x all small = (small, tt)
 all_push (y ∷ xs) x all small = (all.0, all_push xs x all.1 small)
 
-pub fit_push : (xs : List (List ℕ)) (x : List ℕ) → Fit xs → length x ≤ 1048576 → length (front xs) + (5 + length x) < 2 ^ 32 → Fit (xs ++ x ∷ [])
+pub fit_push : (xs : List (List ℕ)) (x : List ℕ) → Fit xs → length x ≤ LONGEST_BODY → length (front xs) + (5 + length x) < 2 ^ 32 → Fit (xs ++ x ∷ [])
 fit_push xs x fit small reach = record { small = all_push xs x fit.small small; reach = omega (arith, length-front_push xs x) }
 
 -- what may be read of a file with one body in doubt

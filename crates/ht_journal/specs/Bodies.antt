@@ -1,5 +1,6 @@
 -- Which body is read, and where it stands.
 use Rattle.std.specs.Prelude.{◌≡◌, ℕ, ◌+◌, ◌-◌, ◌≤◌, List, [], ◌∷◌, ◌++◌, length, take, drop}
+use Rattle.ht_journal.specs.declared.limits.TheConstants.{LONGEST_BODY}
 use Rattle.ht_journal.specs.Files.{front, length_at}
 
 -- The nth body, counted from 1, and the place of its first byte in the file: behind a gate and the four bytes of its length
@@ -14,4 +15,4 @@ HasFront bodies file = file ≡ front bodies ++ drop (length (front bodies)) fil
 -- Behind the gate begins at `at` a body of n bytes, if it is a frame that ends by `end`
 abbrev pub IsBehind : ℕ → ℕ → ℕ → ℕ → List ℕ → Type 0
 IsBehind gate end at n file =
-    length_at (drop (gate + 1) file) ≤ 1048576 → gate + 5 + length_at (drop (gate + 1) file) ≤ end → (at ≡ gate + 5) × (n ≡ length_at (drop (gate + 1) file))
+    length_at (drop (gate + 1) file) ≤ LONGEST_BODY → gate + 5 + length_at (drop (gate + 1) file) ≤ end → (at ≡ gate + 5) × (n ≡ length_at (drop (gate + 1) file))

@@ -4,6 +4,7 @@
 use Rattle.std.specs.Prelude.{◌≡◌, ◌==◌, ℕ, zero, suc, ◌+◌, ◌^◌, ◌<◌, ◌≤◌, ◌&&◌, Bool, List, [], ◌∷◌, ◌++◌, length, take, drop, Result, Ok, Err, nat_le, nat_lt, if◌then◌else◌, bytes_eq}
 use Rattle.std.specs.List.{AllByRecursion}
 use Rattle.std.specs.Int.{w32, to_le_bytes, from_le_bytes}
+use Rattle.ht_journal.specs.declared.limits.TheConstants.{LONGEST_BODY}
 
 -- the first eight bytes of a journal file: HTJ1, and a carriage return, a line feed, the byte 26 and a line feed
 abbrev pub header : List ℕ
@@ -24,7 +25,7 @@ frame body = length_bytes (length body) ++ body
 -- what stands behind an open gate at `at` is whole: a body of at most 1,048,576 bytes with its length, and
 -- then a gate, all in the file's first 4,294,967,296 bytes
 abbrev pub is_whole : ℕ → List ℕ → Bool
-is_whole at behind = nat_le (length_at behind) 1048576 && (nat_lt (4 + length_at behind) (length behind) && nat_lt (at + 5 + length_at behind) (2 ^ 32))
+is_whole at behind = nat_le (length_at behind) LONGEST_BODY && (nat_lt (4 + length_at behind) (length behind) && nat_lt (at + 5 + length_at behind) (2 ^ 32))
 
 -- one body more in front, unless there is damage
 abbrev pub with_body : List ℕ → Result (List (List ℕ)) ℕ → Result (List (List ℕ)) ℕ
@@ -68,7 +69,7 @@ journal_length (body ∷ bodies) = 5 + length body + journal_length bodies
 
 -- the bodies have lengths that are allowed, and the closed gate is in the first 4,294,967,296 bytes
 pub record Fit (bodies : List (List ℕ)) : Type 0 where
-  pub small : AllByRecursion (λ body. length body ≤ 1048576) bodies
+  pub small : AllByRecursion (λ body. length body ≤ LONGEST_BODY) bodies
   pub reach : length (front bodies) < 2 ^ 32
 
 -- the file has these bodies and then a closed gate, with anything behind it

@@ -1,6 +1,7 @@
 -- When a call of a journal answers what.
 use Rattle.std.specs.Prelude.{◌≡◌, ℕ, ◌+◌, ◌≤◌, ◌<◌, List, [], ◌∷◌, ◌++◌, length, ⊤}
 use Rattle.ht_outside.specs.Causes.{Rose}
+use Rattle.ht_journal.specs.declared.limits.TheConstants.{LONGEST_BODY}
 use Rattle.ht_journal.specs.declared.faults.AppendRefusal.{AppendRefusal}
 use Rattle.ht_journal.specs.declared.faults.AppendRefusal.TheVariants.{Store, TooLong, Full}
 use Rattle.ht_journal.specs.declared.faults.JournalFault.{JournalFault}
@@ -11,7 +12,7 @@ use Rattle.ht_journal.specs.declared.state.JournalState.{JournalState}
 
 -- a body of at most 1,048,576 bytes
 abbrev pub IsShort : List ℕ → Type 0
-IsShort body = length body ≤ 1048576
+IsShort body = length body ≤ LONGEST_BODY
 
 -- with its length and a gate it stays within the limit
 abbrev pub HasRoom : JournalState → List ℕ → Type 0
@@ -20,7 +21,7 @@ HasRoom state body = state.length + 4 + length body + 1 ≤ state.limit
 -- when an append is refused with what, over a disk whose count of faults went from before to now
 abbrev pub HasReason : JournalState → List ℕ → ℕ → ℕ → AppendRefusal → Type 0
 HasReason state body before now Store = IsShort body × HasRoom state body × Rose before now
-HasReason state body before now TooLong = 1048576 < length body
+HasReason state body before now TooLong = LONGEST_BODY < length body
 HasReason state body before now (Full at) = IsShort body × (state.limit < state.length + 4 + length body + 1) × (at ≡ state.length)
 
 -- the bodies after a doubt was looked into

@@ -7,13 +7,13 @@ ghost use Rattle.ht_journal.specs.Reasons.{HasReason, HasRoom, IsShort};
 ghost use Rattle.ht_journal.specs.Rooms.{IsRoomy};
 
 use crate::device::stored;
-use crate::state::LONGEST;
+use crate::limits::LONGEST_BODY;
 use crate::{AppendRefusal, JournalState};
 use ht_outside::Disk;
 
 // Puts the body's frame and a closed gate into the front of the buffer.
 fn stage(buffer: &mut [u8], body: &[u8])
-    requires { (length body.now ≤ 1048576) × (length buffer.old ≡ 1048581) }
+    requires { (length body.now ≤ LONGEST_BODY) × (length buffer.old ≡ LONGEST_BODY + 5) }
     ensures { take (length body.now + 5) buffer.new ≡ frame body.now ++ 0 ∷ [] }
 {
     let n = body.len();
@@ -50,7 +50,7 @@ impl JournalState {
         ensures faults { D.faults disk.old ≤ D.faults disk.new }
         ensures tells { D.tells_images disk.new ≡ D.tells_images disk.old }
     {
-        if body.len() > LONGEST as usize {
+        if body.len() > LONGEST_BODY as usize {
             return Err(AppendRefusal::TooLong);
         }
         let end = self.length + 5 + body.len() as u64;

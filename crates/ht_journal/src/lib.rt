@@ -9,6 +9,7 @@ mod body;
 mod device;
 mod faults;
 mod journal;
+mod limits;
 mod opening;
 mod reading;
 mod settling;

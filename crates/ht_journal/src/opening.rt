@@ -10,8 +10,9 @@ ghost use Rattle.ht_journal.specs.Reasons.{IsFault};
 ghost use Rattle.ht_journal.specs.Rooms.{IsRoomy};
 
 use crate::device::{stored, synced_len};
+use crate::limits::LONGEST_BODY;
 use crate::reading::zeros;
-use crate::state::{FIRST_GATE, LONGEST};
+use crate::state::FIRST_GATE;
 use crate::{JournalFault, JournalState, Reader};
 use ht_outside::{Disk, Failed};
 use std::alloc::{AllocError, Global};
@@ -35,7 +36,7 @@ fn frame_at<D: Disk>(
     requires told { IfSome (D.gives disk.old) (λ file. end ≡ min (length file) (2 ^ 32)) }
     requires piece { IfSome (D.gives disk.old) (IsPiece reader.old) }
     ensures stands { IfOk result (λ found. IfSome (D.gives disk.old) (λ file. StandsAt gate file found)) }
-    ensures whole { IfOk result (λ found. IfSome found (λ n. (n ≤ 1048576) × (gate + 5 + n < end))) }
+    ensures whole { IfOk result (λ found. IfSome found (λ n. (n ≤ LONGEST_BODY) × (gate + 5 + n < end))) }
     ensures fault { IfErr result (IsFault (λ at. (at ≡ gate) × IfSome (D.gives disk.old) (λ file. bodies_from gate 0 (drop gate file) ≡ Err gate)) (D.faults disk.old) (D.faults disk.new)) }
     ensures piece { IfSome (D.gives disk.old) (IsPiece reader.new) }
     ensures gate { (reader.new.gate ≡ reader.old.gate) × (reader.new.passed ≡ reader.old.passed) }
@@ -55,7 +56,7 @@ fn frame_at<D: Disk>(
     let mut bytes = [0; 4];
     reader.read(disk, gate + 1, &mut bytes)?;
     let n = u32::from_le_bytes(bytes);
-    if n > LONGEST {
+    if n > LONGEST_BODY {
         return Err(JournalFault::Damaged(gate));
     }
     if end - gate - 5 <= u64::from(n) {
@@ -175,7 +176,7 @@ pub fn open<D: Disk>(alloc: Global, disk: &mut D, limit: u64) -> Result<JournalS
     ensures faults { D.faults disk.old ≤ D.faults disk.new }
     ensures tells { D.tells_images disk.new ≡ D.tells_images disk.old }
 {
-    let buffer = zeros(alloc, LONGEST as usize + 5)?;
+    let buffer = zeros(alloc, LONGEST_BODY as usize + 5)?;
     let mut reader = Reader::new(alloc)?;
     let (gate, count) = find(&mut reader, disk)?;
     reader.held = 0;

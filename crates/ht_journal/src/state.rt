@@ -1,8 +1,6 @@
 ghost use Rattle.std.specs.Option.{ForSome};
 ghost use Rattle.std.specs.Prelude.{◌≡◌, ◌+◌, ◌*◌, ◌^◌, ◌<◌, ◌≤◌, vec_len};
-
-/// The most bytes of a body.
-pub(crate) const LONGEST: u32 = 1_048_576;
+ghost use Rattle.ht_journal.specs.declared.limits.TheConstants.{LONGEST_BODY};
 
 /// The place of the first gate, behind the header.
 pub(crate) const FIRST_GATE: u64 = 8;
@@ -34,11 +32,11 @@ pub struct JournalState {
     pub(crate) limit: u64,
     // The length of the body in doubt.
     pub(crate) doubt: Option<u32>,
-    ghost sized: { vec_len buffer ≡ 1048581 },
+    ghost sized: { vec_len buffer ≡ LONGEST_BODY + 5 },
     ghost limited: { limit ≤ 2 ^ 32 },
     ghost reach: { length ≤ 2 ^ 32 },
     ghost counted: { 9 + 5 * count ≤ length },
-    ghost doubted: { ForSome doubt (λ n. (n ≤ 1048576) × (length + 5 + n ≤ 2 ^ 32)) },
+    ghost doubted: { ForSome doubt (λ n. (n ≤ LONGEST_BODY) × (length + 5 + n ≤ 2 ^ 32)) },
     ghost passed: { reader.passed ≤ count },
     ghost before: { reader.gate < length },
 }

@@ -7,7 +7,8 @@ ghost use Rattle.ht_journal.specs.Quiet.{IsQuiet};
 ghost use Rattle.ht_journal.specs.Rooms.{IsRoomy};
 
 use crate::Reader;
-use crate::state::{FIRST_GATE, LONGEST};
+use crate::limits::LONGEST_BODY;
+use crate::state::FIRST_GATE;
 use ht_outside::{Disk, Failed};
 
 /// Where the body behind the reader's gate begins, and how long it is. The closed gate stands at
@@ -19,7 +20,7 @@ pub(crate) fn frame_behind<D: Disk>(
 ) -> Result<(u64, u32), Failed>
     requires range { (reader.old.gate ≤ end) × (end ≤ 2 ^ 32) × (end ≤ D.shown disk.old) }
     requires piece { IfSome (D.gives disk.old) (IsPiece reader.old) }
-    ensures within { IfOk result (λ r. (r.0 + r.1 ≤ end) × (r.1 ≤ 1048576)) }
+    ensures within { IfOk result (λ r. (r.0 + r.1 ≤ end) × (r.1 ≤ LONGEST_BODY)) }
     ensures behind { IfOk result (λ r. IfSome (D.gives disk.old) (IsBehind reader.old.gate end r.0 r.1)) }
     ensures piece { IfSome (D.gives disk.old) (IsPiece reader.new) }
     ensures gate { (reader.new.gate ≡ reader.old.gate) × (reader.new.passed ≡ reader.old.passed) }
@@ -35,7 +36,7 @@ pub(crate) fn frame_behind<D: Disk>(
     let at = gate + 5;
     let mut bytes = [0; 4];
     reader.read(disk, gate + 1, &mut bytes)?;
-    let n = u32::from_le_bytes(bytes).min(LONGEST);
+    let n = u32::from_le_bytes(bytes).min(LONGEST_BODY);
     if u64::from(n) > end - at {
         return Ok((at, 0));
     }

@@ -1,5 +1,6 @@
 -- What a command leaves, at the moment at which it acts.
 use Rattle.std.proofs.Common.{◌≡◌, ℕ, ◌<◌, ◌≤◌, List, length, Option, None, Some, IfSome, refl, ap, sym, subst, ◌∙◌, arith}
+use Rattle.std.proofs.lemmas.Bool.{eqb-true, le-leb}
 use Rattle.ht_base.specs.declared.event.Command.{Command}
 use Rattle.ht_base.specs.declared.event.Command.TheVariants as command
 use Rattle.ht_base.specs.declared.operation.Op.{Op}
@@ -68,8 +69,8 @@ acts_on_it u caller moment task c v about tasks there = at (gate u (op_of c) cal
 
 -- or none for a create
 named : (u : TablesOf) (caller moment : ℕ) (task : TaskId) (c : Command) (v : TablesOf) (about tasks : ℕ) → Comes u caller moment task.0 c (accepted v about) → IsTaskOf c task → (1 ≤ about) × (about ≤ tasks) → IsNamedBy tasks (op_of c) task
-named u caller moment task (command.Create model input activate_at) v about tasks comes is there = is
-named u caller moment task c v about tasks comes is there = acts_on_it u caller moment task.0 c v about tasks there comes
+named u caller moment task (command.Create model input activate_at) v about tasks comes is there = (is, let none = eqb-true task.0 0 is in omega arith)
+named u caller moment task c v about tasks comes is there = let on_it = acts_on_it u caller moment task.0 c v about tasks there comes in (le-leb 1 task.0 on_it.0, on_it.1)
 
 reply_is_sound : (u : TablesOf) (about : ℕ) (reply : Kept) → IsSound u → Shows u about reply → NamesOwner u.people reply → IsSoundReply u.people (length u.rows) reply
 reply_is_sound u about reply sound shows names =

@@ -1,11 +1,12 @@
 -- How many deadlines a model has.
-use Rattle.std.proofs.Common.{◌≡◌, ◌+◌, ◌<◌, ◌≤◌, ◌∙◌, ℕ, List, [], ◌∷◌, Some, All, ap, arith, filter, get_or, if◌then◌else◌, length, lt-ltb, map, option_map, refl, inl, inr}
+use Rattle.std.proofs.Common.{◌≡◌, ◌+◌, ◌*◌, ◌<◌, ◌≤◌, ◌∙◌, ℕ, List, [], ◌∷◌, Some, All, ap, arith, filter, get_or, if◌then◌else◌, length, lt-ltb, map, option_map, refl, inl, inr}
 use Rattle.std.specs.Prelude.{slice_get}
 use Rattle.std.specs.List.{AllZip, count_by}
 use Rattle.std.proofs.lemmas.Bool.{cases_lt, or_left, or_right}
 use Rattle.std.proofs.lemmas.List.{length-map}
 use Rattle.std.proofs.lemmas.List.Sums.{length-filter}
 use Rattle.std.proofs.lemmas.Option.{slice_get-get_or, slice_get-map, slice_get_read}
+use Rattle.ht_base.specs.declared.limits.TheConstants.{MOST_DEADLINES}
 use Rattle.ht_entries.specs.declared.deadlines.DeadlineKind.{DeadlineKind}
 use Rattle.ht_entries.specs.declared.deadlines.DeadlineKind.TheVariants.{Start, Completion}
 use Rattle.ht_models.specs.declared.model.Model.{Model}
@@ -38,20 +39,20 @@ of_either_kind (d ∷ ds) = go d.kind (of_either_kind ds)
     go Completion e = omega arith
 
 module _ (t : List ModelEntry) (limit : (place : ℕ) → IsTooMuch t place → ⊥) where
-  few_written : (place : ℕ) (e : ModelEntry) → slice_get t place ≡ Some e → length e.deadlines ≤ 4
+  few_written : (place : ℕ) (e : ModelEntry) → slice_get t place ≡ Some e → length e.deadlines ≤ 2 * MOST_DEADLINES
   few_written place e at =
       let all = of_either_kind e.deadlines in
       let starts = length-filter (λ (d : DeadlineText). is_start d.kind) e.deadlines in
       let completions = length-filter (λ (d : DeadlineText). is_completion d.kind) e.deadlines in
-      elim (cases_lt 2 (count_by (λ d. is_start d.kind) e.deadlines)) [
-        | inl many ↦ absurd (limit place (inr (inl (e, at, or_left _ _ (or_left _ _ (or_right _ _ (lt-ltb 2 _ many)))))))
-        | inr starts_few ↦ elim (cases_lt 2 (count_by (λ d. is_completion d.kind) e.deadlines)) [
-          | inl many ↦ absurd (limit place (inr (inl (e, at, or_left _ _ (or_right _ _ (lt-ltb 2 _ many))))))
+      elim (cases_lt MOST_DEADLINES (count_by (λ d. is_start d.kind) e.deadlines)) [
+        | inl many ↦ absurd (limit place (inr (inl (e, at, or_left _ _ (or_left _ _ (or_right _ _ (lt-ltb MOST_DEADLINES _ many)))))))
+        | inr starts_few ↦ elim (cases_lt MOST_DEADLINES (count_by (λ d. is_completion d.kind) e.deadlines)) [
+          | inl many ↦ absurd (limit place (inr (inl (e, at, or_left _ _ (or_right _ _ (lt-ltb MOST_DEADLINES _ many))))))
           | inr completions_few ↦ omega arith
         ]
       ]
 
-  pub few_kept : (ms : List Model) → AllZip IsModel t (map model_of ms) → All (λ m. length m.deadlines.items ≤ 4) ms
+  pub few_kept : (ms : List Model) → AllZip IsModel t (map model_of ms) → All (λ m. length m.deadlines.items ≤ 2 * MOST_DEADLINES) ms
   few_kept ms are place d within =
       let m = get_or ms place d in
       let at : slice_get (map model_of ms) place ≡ Some (model_of m) = slice_get-map model_of ms place ∙ ap (option_map model_of) (slice_get-get_or ms place d within) in
@@ -62,9 +63,9 @@ module _ (t : List ModelEntry) (limit : (place : ℕ) → IsTooMuch t place → 
       omega arith
 
 -- of a model that is found
-pub few_there : (m : Inside) (models : List ModelOf) (i : ℕ) (one : Model) → IsKept m → map model_of m.models.items ≡ models → i < length models → one ≡ get_or m.models.items i one → length one.deadlines.items ≤ 4
+pub few_there : (m : Inside) (models : List ModelOf) (i : ℕ) (one : Model) → IsKept m → map model_of m.models.items ≡ models → i < length models → one ≡ get_or m.models.items i one → length one.deadlines.items ≤ 2 * MOST_DEADLINES
 few_there m models i one kept view within is =
     let long = ap (λ (ms : List ModelOf). length ms) view in
     let same = length-map m.models.items model_of in
     let at : slice_get m.models.items i ≡ Some one = slice_get_read m.models.items (length m.models.items) i one refl (omega arith) is in
-    holds_at (λ (m : Model). length m.deadlines.items ≤ 4) m.models.items kept.deadlines i one at
+    holds_at (λ (m : Model). length m.deadlines.items ≤ 2 * MOST_DEADLINES) m.models.items kept.deadlines i one at

@@ -9,6 +9,7 @@ use Rattle.std.proofs.lemmas.Option.{get_or_from_slice_get, slice_get-map, slice
 use Rattle.ht_base.proofs.PublicLaws as found
 use Rattle.ht_base.proofs.PublicLaws.{own_place}
 use Rattle.ht_base.specs.Places.{place_in}
+use Rattle.ht_base.specs.declared.limits.TheConstants.{LARGEST_TREE}
 use Rattle.ht_models.specs.declared.model.Model.{Model}
 use Rattle.ht_models.specs.declared.models.Models.TheInside.{Inside}
 use Rattle.ht_models.specs.Kept.{IsKept, kept_names}
@@ -61,9 +62,9 @@ kinded_there m models i one kept view within is =
     let same = length-map m.models.items model_of in
     subst IsKinded (sym is) (kept.kinds i one (omega arith))
 
--- each model is a tree of 1 to 256 tasks
+-- each model is a tree of a task at least, and of no more than a tree may have
 abbrev IsSized : ℕ → Type 0
-IsSized size = (1 ≤ size) × (size ≤ 256)
+IsSized size = (1 ≤ size) × (size ≤ LARGEST_TREE)
 
 size_there : (ms : List Model) → All (λ m. IsSized m.size) ms → (place : ℕ) (m : ModelOf) → slice_get (map model_of ms) place ≡ Some m → IsSized m.size
 size_there ms sized place m at = here (slice_get ms place) refl (sym (slice_get-map model_of ms place) ∙ at)

@@ -8,6 +8,7 @@ use Rattle.std.specs.List.{AllZip}
 use Rattle.toml.specs.Data.{Members}
 use Rattle.ht_base.specs.Indexes.{IsIndex}
 use Rattle.ht_base.specs.Places.{IsLeast}
+use Rattle.ht_base.specs.declared.limits.TheConstants.{LARGEST_TREE, MOST_MODELS}
 use Rattle.ht_toml.specs.Documents.{IsDocument}
 use Rattle.ht_toml.specs.Refusals as text_reads
 use Rattle.ht_toml.specs.Refusals.{IsFirst, Of, TellsLeast, each_of, refused}
@@ -22,7 +23,7 @@ use Rattle.ht_models.specs.Model.{ModelOf}
 use Rattle.ht_entries.specs.ModelEntries.{ModelEntry}
 use Rattle.ht_models.specs.ModelsText.{IsMisshapen, IsModelsText, models_text}
 use Rattle.ht_models.specs.Reading.{AreModels, IsModel, IsModels, Reads}
-use Rattle.ht_models.specs.Refusals.{IsContradicted, IsTooMuch, IsTwice, IsUnreadable, NamesUnknownModel, ReachesItself, model_refusals, most, refusals}
+use Rattle.ht_models.specs.Refusals.{IsContradicted, IsTooMuch, IsTwice, IsUnreadable, NamesUnknownModel, ReachesItself, model_refusals, refusals}
 use Rattle.ht_models.specs.Shown.{model_of}
 use Rattle.ht_models.specs.Limits.{has_too_large_tree}
 use Rattle.ht_entries.specs.SubEntries.{AreInOrder}
@@ -104,14 +105,14 @@ module _ (t : List ModelEntry) where
 
 -- ---- the models, with the sizes of their trees
 
-too_large : (t : List ModelEntry) (place : ℕ) → 256 < size_of t place → has_too_large_tree t place ≡ true
-too_large t place large = rw (lt-ltb 256 (size_of t place) large) (or-true (is_too_deep t place))
+too_large : (t : List ModelEntry) (place : ℕ) → LARGEST_TREE < size_of t place → has_too_large_tree t place ≡ true
+too_large t place large = rw (lt-ltb LARGEST_TREE (size_of t place) large) (or-true (is_too_deep t place))
 
-few_models : (t : List ModelEntry) → Never t IsTooMuch → length t ≤ most
-few_models t limit = elim (cases_lt most (length t)) [ inl many ↦ absurd (limit 0 (inl (many, refl))) | inr few ↦ few ]
+few_models : (t : List ModelEntry) → Never t IsTooMuch → length t ≤ MOST_MODELS
+few_models t limit = elim (cases_lt MOST_MODELS (length t)) [ inl many ↦ absurd (limit 0 (inl (many, refl))) | inr few ↦ few ]
 
-small_tree : (t : List ModelEntry) → Never t IsTooMuch → (place : ℕ) → place < length t → size_of t place ≤ 256
-small_tree t limit place low = elim (cases_lt 256 (size_of t place)) [
+small_tree : (t : List ModelEntry) → Never t IsTooMuch → (place : ℕ) → place < length t → size_of t place ≤ LARGEST_TREE
+small_tree t limit place low = elim (cases_lt LARGEST_TREE (size_of t place)) [
   | inl large ↦ absurd (limit place (inr (inr (low, too_large t place large))))
   | inr small ↦ small
 ]
@@ -126,7 +127,7 @@ sized t counts models are counted limit sizes = record {
 
 -- ---- models as they are kept
 
-sizes_kept : (t : List ModelEntry) (ms : List Model) → Never t IsTooMuch → AreModels t (map model_of ms) → All (λ m. (1 ≤ m.size) × (m.size ≤ 256)) ms
+sizes_kept : (t : List ModelEntry) (ms : List Model) → Never t IsTooMuch → AreModels t (map model_of ms) → All (λ m. (1 ≤ m.size) × (m.size ≤ LARGEST_TREE)) ms
 sizes_kept t ms limit are place d within =
     let m = get_or ms place d in
     let at : slice_get (map model_of ms) place ≡ Some (model_of m) = slice_get-map model_of ms place ∙ ap (option_map model_of) (slice_get-get_or ms place d within) in

@@ -8,13 +8,14 @@ use Rattle.std.proofs.lemmas.List.Sums.{sum_by-cons}
 use Rattle.std.proofs.lemmas.Map.Keys.{any_passes_from_place}
 use Rattle.std.proofs.lemmas.Option.{get_or_from_slice_get, slice_get-map, slice_get_within}
 use Rattle.ht_base.specs.Places.{place_in}
+use Rattle.ht_base.specs.declared.limits.TheConstants.{LARGEST_TREE, MOST_LEVELS, MOST_PARTS, MOST_SUBS}
 use Rattle.ht_models.specs.Limits.{has_more}
 use Rattle.ht_models.specs.Model.{ModelOf, names}
 use Rattle.ht_entries.specs.ModelEntries.{ModelEntry}
 use Rattle.ht_models.specs.Reading.{AreModels, IsModel}
 use Rattle.ht_models.specs.Refusals.{IsTooMuch, NamesUnknownModel}
 use Rattle.ht_entries.specs.SubEntries.{SubEntry}
-use Rattle.ht_models.specs.SubTrees.{below, chains, is_too_deep, is_unknown, most_levels, names_of, size_of, sub_places, subs_at}
+use Rattle.ht_models.specs.SubTrees.{below, chains, is_too_deep, is_unknown, names_of, size_of, sub_places, subs_at}
 use Rattle.ht_models.specs.TreeSizes.{AreSized, IsSized, entries_size, size_at}
 use Rattle.ht_models.proofs.ModelLists.{same_names}
 use Rattle.ht_models.proofs.TreeLaws.{model_found}
@@ -35,15 +36,15 @@ sum_found f (Some x) xs = sum_by-cons f x xs
 -- ---- what is refused
 
 -- no chain of sub entries is as long as a tree may have levels
-not_deep : (t : List ModelEntry) → ((place : ℕ) → IsTooMuch t place → ⊥) → (place : ℕ) → place < length t → chains (subs_at t) most_levels place ≡ 0
-not_deep t limit place low = elim (cases_lt 0 (chains (subs_at t) most_levels place)) [
-  | inl deep ↦ absurd (limit place (inr (inr (low, or_left (is_too_deep t place) (nat_lt 256 (size_of t place)) (le-leb 1 (chains (subs_at t) most_levels place) (omega arith))))))
+not_deep : (t : List ModelEntry) → ((place : ℕ) → IsTooMuch t place → ⊥) → (place : ℕ) → place < length t → chains (subs_at t) MOST_LEVELS place ≡ 0
+not_deep t limit place low = elim (cases_lt 0 (chains (subs_at t) MOST_LEVELS place)) [
+  | inl deep ↦ absurd (limit place (inr (inr (low, or_left (is_too_deep t place) (nat_lt LARGEST_TREE (size_of t place)) (le-leb 1 (chains (subs_at t) MOST_LEVELS place) (omega arith))))))
   | inr none ↦ omega arith
 ]
 
-few_subs : (t : List ModelEntry) → ((place : ℕ) → IsTooMuch t place → ⊥) → (place : ℕ) (m : ModelEntry) → slice_get t place ≡ Some m → length m.subs ≤ 8
-few_subs t limit place m at = elim (cases_lt 8 (length m.subs)) [
-  | inl many ↦ absurd (limit place (inr (inl (m, at, or_left _ _ (or_left _ _ (or_left _ _ (or_right (has_more 8 m.input || has_more 8 m.output) _ (lt-ltb 8 (length m.subs) many))))))))
+few_subs : (t : List ModelEntry) → ((place : ℕ) → IsTooMuch t place → ⊥) → (place : ℕ) (m : ModelEntry) → slice_get t place ≡ Some m → length m.subs ≤ MOST_SUBS
+few_subs t limit place m at = elim (cases_lt MOST_SUBS (length m.subs)) [
+  | inl many ↦ absurd (limit place (inr (inl (m, at, or_left _ _ (or_left _ _ (or_left _ _ (or_right (has_more MOST_PARTS m.input || has_more MOST_PARTS m.output) _ (lt-ltb MOST_SUBS (length m.subs) many))))))))
   | inr few ↦ few
 ]
 
@@ -73,7 +74,7 @@ module _ (t : List ModelEntry) (models : List ModelOf) (are : AreModels t models
         let names_are = same_names t models are.each in
         let low : place < length t = slice_get_within t place m at in
         let none = not_deep t limit place low in
-        let all = top_and_below (subs_at t) most_levels place in
+        let all = top_and_below (subs_at t) MOST_LEVELS place in
         let leads : subs_at t place ≡ filter_map (λ s. place_in s.model (names models)) x.subs = leads_below t place m at ∙ rw (names_are, read.subs) refl in
         let below : entries_size models x.subs ≡ sum_by (size_of t) (subs_at t place) = rw leads (entries_below x.subs) in
         record {

@@ -8,11 +8,12 @@ use Rattle.std.proofs.lemmas.List.Elements.{filter_map-append}
 use Rattle.std.proofs.lemmas.List.Sums.{sum_by-cons}
 use Rattle.ht_base.proofs.PublicLaws.{found_within}
 use Rattle.ht_base.specs.Places.{place_in}
+use Rattle.ht_base.specs.declared.limits.TheConstants.{LARGEST_TREE, MOST_LEVELS}
 use Rattle.ht_graph.specs.Graphs.{IsClosed}
 use Rattle.ht_models.specs.Limits.{has_too_large_tree}
 use Rattle.ht_entries.specs.ModelEntries.{ModelEntry}
 use Rattle.ht_entries.specs.SubEntries.{SubEntry}
-use Rattle.ht_models.specs.SubTrees.{AreCounted, TreeCounts, below, chains, is_counted_too_large, most_levels, names_of, places_at, size_of, sub_places, subs_at, up_to_enough}
+use Rattle.ht_models.specs.SubTrees.{AreCounted, TreeCounts, below, chains, is_counted_too_large, names_of, places_at, size_of, sub_places, subs_at, up_to_enough}
 
 pub length_sub_places : (t : List ModelEntry) → length (sub_places t) ≡ length t
 length_sub_places t = length-map t (below (names_of t))
@@ -57,10 +58,10 @@ module _ (t : List ModelEntry) (counts : TreeCounts) (counted : AreCounted (sub_
   within : place < length (sub_places t)
   within = rw (length_sub_places t) low
 
-  pub counted_size : size_of t place ≤ 256 → slice_index_or counts.sizes place 0 ≡ size_of t place
+  pub counted_size : size_of t place ≤ LARGEST_TREE → slice_index_or counts.sizes place 0 ≡ size_of t place
   counted_size few = omega (arith, counted.sizes place within)
 
   pub counted_too_large : is_counted_too_large counts place ≡ has_too_large_tree t place
   counted_too_large = rw (counted.deep place within, counted.sizes place within) (ap₂ (λ (a b : Bool). a || b)
-      (same_test 0 (up_to_enough (chains (subs_at t) most_levels place)) 0 (chains (subs_at t) most_levels place) (λ h. omega arith) (λ h. omega arith))
-      (same_test 256 (up_to_enough (size_of t place)) 256 (size_of t place) (λ h. omega arith) (λ h. omega arith)))
+      (same_test 0 (up_to_enough (chains (subs_at t) MOST_LEVELS place)) 0 (chains (subs_at t) MOST_LEVELS place) (λ h. omega arith) (λ h. omega arith))
+      (same_test LARGEST_TREE (up_to_enough (size_of t place)) LARGEST_TREE (size_of t place) (λ h. omega arith) (λ h. omega arith)))

@@ -6,7 +6,8 @@ use Rattle.std.proofs.lemmas.Bool.{cases_lt}
 use Rattle.std.proofs.lemmas.List.{get_or_past, get_or-replicate, length-replicate}
 use Rattle.std.proofs.lemmas.List.FromFn.{get_or-map-range_with_len, length-map-range_with_len, map-range_with_len_more, sum_by-map-range_with_len_more}
 use Rattle.std.proofs.lemmas.List.Sums.{sum_by-cons}
-use Rattle.ht_models.specs.SubTrees.{AreCounted, chains, most_levels, places_at, up_to_enough}
+use Rattle.ht_base.specs.declared.limits.TheConstants.{MOST_LEVELS}
+use Rattle.ht_models.specs.SubTrees.{AreCounted, chains, places_at, up_to_enough}
 
 -- a sum of what is cut is cut where the whole sum is
 cut_sum : (f g : ℕ → ℕ) → ((x : ℕ) → f x ≡ up_to_enough (g x)) → (xs : List ℕ) → up_to_enough (sum_by f xs) ≡ up_to_enough (sum_by g xs)
@@ -74,7 +75,7 @@ module _ (graph : List (List ℕ)) where
           let tasks : List ℕ → ℕ = sum_by (λ n. chains (places_at graph) n place) in
           ap tasks (sym (map-id (range_with_len 0 (n + 1)))) ∙ sum_by-map-range_with_len_more (λ n. chains (places_at graph) n place) (λ n. n) 0 n n (omega arith) ∙ ap (λ ns. tasks ns + chains (places_at graph) n place) (map-id (range_with_len 0 n))
 
-  pub all_counted : (n : ℕ) (level sizes : List ℕ) → n ≡ most_levels → IsRound n level sizes → AreCounted graph (record { deep = level; sizes = sizes })
+  pub all_counted : (n : ℕ) (level sizes : List ℕ) → n ≡ MOST_LEVELS → IsRound n level sizes → AreCounted graph (record { deep = level; sizes = sizes })
   all_counted n level sizes is r =
-      let last : IsRound most_levels level sizes = subst (λ n. IsRound n level sizes) is r in
+      let last : IsRound MOST_LEVELS level sizes = subst (λ n. IsRound n level sizes) is r in
       record { deep = λ place low. last.chained place; sizes = last.sized }

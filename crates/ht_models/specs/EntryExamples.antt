@@ -61,6 +61,12 @@ each_word : entry_of (entry (
     })
 each_word = refl
 
+made_by_themselves_and_completed_by_hand : entry_of (entry (says (codes "instantiation") (codes "automatic") ∷ [])) ≡ Some (record (bare (codes "m")) { instantiation = Automatic })
+made_by_themselves_and_completed_by_hand = refl
+
+made_by_hand_and_completed_by_itself : entry_of (entry (says (codes "completion") (codes "automatic") ∷ [])) ≡ Some (record (bare (codes "m")) { completion = Automatic })
+made_by_hand_and_completed_by_itself = refl
+
 each_text : entry_of (entry (
     says (codes "priority") (codes "3") ∷ says (codes "potentialOwners") (codes "a") ∷ says (codes "excludedOwners") (codes "b")
     ∷ says (codes "administrators") (codes "c") ∷ says (codes "stakeholders") (codes "d")

@@ -1,6 +1,7 @@
 -- How much a model may hold.
 use Rattle.std.specs.Prelude.{ℕ, Bool, true, false, ◌||◌, nat_lt, List, length}
 use Rattle.std.specs.List.{count_by, list_any}
+use Rattle.ht_base.specs.declared.limits.TheConstants.{LARGEST_TREE, MOST_DEADLINES, MOST_ESCALATIONS, MOST_PARTS, MOST_SUBS}
 use Rattle.ht_entries.specs.declared.deadlines.DeadlineKind.{DeadlineKind}
 use Rattle.ht_entries.specs.declared.deadlines.DeadlineKind.TheVariants.{Start, Completion}
 use Rattle.ht_entries.specs.ModelEntries.{ModelEntry}
@@ -17,16 +18,16 @@ abbrev pub is_completion : DeadlineKind → Bool
 is_completion Start = false
 is_completion Completion = true
 
--- 8 input parts, 8 output parts, 8 sub entries, 2 deadlines of either kind, 4 escalations of each
+-- more input parts, output parts, sub entries, deadlines of a kind or escalations of one than there may be
 abbrev pub holds_too_much : ModelEntry → Bool
 holds_too_much m =
-    has_more 8 m.input
-    || has_more 8 m.output
-    || has_more 8 m.subs
-    || nat_lt 2 (count_by (λ d. is_start d.kind) m.deadlines)
-    || nat_lt 2 (count_by (λ d. is_completion d.kind) m.deadlines)
-    || list_any (λ d. has_more 4 d.escalations) m.deadlines
+    has_more MOST_PARTS m.input
+    || has_more MOST_PARTS m.output
+    || has_more MOST_SUBS m.subs
+    || nat_lt MOST_DEADLINES (count_by (λ d. is_start d.kind) m.deadlines)
+    || nat_lt MOST_DEADLINES (count_by (λ d. is_completion d.kind) m.deadlines)
+    || list_any (λ d. has_more MOST_ESCALATIONS d.escalations) m.deadlines
 
--- 5 levels of its tree, and 256 tasks
+-- its tree has more levels or more tasks than it may have
 abbrev pub has_too_large_tree : List ModelEntry → ℕ → Bool
-has_too_large_tree t place = is_too_deep t place || nat_lt 256 (size_of t place)
+has_too_large_tree t place = is_too_deep t place || nat_lt LARGEST_TREE (size_of t place)

@@ -1,6 +1,7 @@
 -- What is wrong with a models text: its refusals in their order, and where each holds.
 use Rattle.std.specs.Prelude.{◌≡◌, ◌⊎◌, ℕ, ◌<◌, true, List, [], ◌∷◌, length, Some, slice_get}
 use Rattle.ht_base.specs.Places.{IsRepeated}
+use Rattle.ht_base.specs.declared.limits.TheConstants.{MOST_MODELS}
 use Rattle.ht_graph.specs.Graphs.{IsInCycle}
 use Rattle.ht_toml.specs.Documents.{IsDocument}
 use Rattle.ht_toml.specs.Refusals.{About, IsNone, Of, Refusal, about, each_of_text, refused}
@@ -34,14 +35,10 @@ ReachesItself t place = IsInCycle (subs_at t) place
 abbrev pub IsUnreadable : List ModelEntry → ℕ → Type 0
 IsUnreadable t place = IsOne HasRefused t place
 
--- the most models of a text
-abbrev pub most : ℕ
-most = 256
-
 -- there are too many models, which has no place of a model; or it holds too much itself or by its tree
 abbrev pub IsTooMuch : List ModelEntry → ℕ → Type 0
 IsTooMuch t place =
-    ((most < length t) × (place ≡ 0))
+    ((MOST_MODELS < length t) × (place ≡ 0))
     ⊎ IsOne (λ m. holds_too_much m ≡ true) t place
     ⊎ ((place < length t) × (has_too_large_tree t place ≡ true))
 

@@ -2,7 +2,6 @@ ghost use Rattle.std.specs.Prelude.{◌≡◌, All, IfNone, false, option_map};
 ghost use Rattle.std.specs.List.{list_any};
 ghost use Rattle.ht_base.specs.Indexes.{IsIndex};
 ghost use Rattle.ht_base.specs.Places.{IsLeastIfAny};
-ghost use Rattle.ht_base.specs.Kinds.{kind_of_how};
 ghost use Rattle.ht_base.specs.Values.{Ascend};
 ghost use Rattle.ht_models.specs.Contradictions as spec;
 ghost use Rattle.ht_models.specs.Expressions.{declared};
@@ -10,9 +9,10 @@ ghost use Rattle.ht_models.specs.Refusals.{IsContradicted};
 ghost use Rattle.ht_entries.specs.SubEntries.{AreInOrder};
 ghost use Rattle.ht_models.specs.SubTrees.{model_named, names_of};
 
-use crate::declaring::{input_kind, is_of_kind, output_kind};
-use ht_base::{How, Kind, Name};
+use crate::declaring::{input_kind, output_kind};
+use ht_base::{Kind, Name};
 use ht_entries::{DeadlineText, FinishText, Label, ModelEntry, Setting, SubEntry, Trigger};
+use ht_expr::is_of_kind;
 use std::collections::BTreeMap;
 
 /// The first model that contradicts itself, by the places of the models.
@@ -174,22 +174,7 @@ fn has_unfit_setting(entry: &ModelEntry, finish: &FinishText) -> bool
 fn is_unfit(entry: &ModelEntry, setting: &Setting) -> bool
     ensures { result ≡ spec.is_unfit (declared entry.now) setting.now }
 {
-    !is_of_kind(kind_of(&setting.how), output_kind(entry, setting.part))
-}
-
-/// The kind of the values that an aggregate takes, and of its result.
-fn kind_of(how: &How) -> Kind
-    ensures { result ≡ kind_of_how how.now }
-{
-    match how {
-        How::Concat
-        | How::ConcatWithDelimiter(_)
-        | How::MostFrequent
-        | How::LeastFrequent
-        | How::VoteOnString(_) => Kind::Text,
-        How::And | How::Or | How::Vote(_) => Kind::Truth,
-        How::Min | How::Max | How::Sum | How::Avg => Kind::Int,
-    }
+    !is_of_kind(setting.how.kind(), output_kind(entry, setting.part))
 }
 
 /// Whether a finish without a condition isn't the last.

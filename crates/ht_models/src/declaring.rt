@@ -1,5 +1,4 @@
 ghost use Rattle.std.specs.Prelude.{◌≡◌, ◌++◌, IfOk, OnOk, map};
-ghost use Rattle.ht_expr.specs.KindTable.{is_of_kind};
 ghost use Rattle.ht_expr.specs.Kinds.{declared_kind};
 ghost use Rattle.ht_models.specs.Expressions as spec;
 
@@ -52,17 +51,4 @@ fn kind_in(parts: &[Part], name: Name) -> Option<Kind>
         }
     }
     None
-}
-
-pub fn is_of_kind(kind: Kind, found: Option<Kind>) -> bool
-    ensures { result ≡ is_of_kind kind found }
-{
-    matches!(
-        (kind, found),
-        (Kind::Text, Some(Kind::Text))
-            | (Kind::Int, Some(Kind::Int))
-            | (Kind::Truth, Some(Kind::Truth))
-            | (Kind::Person, Some(Kind::Person))
-            | (Kind::Instant, Some(Kind::Instant))
-    )
 }

@@ -5,9 +5,8 @@ ghost use Rattle.ht_models.specs.Expressions.{IsRefused, One, Spells, asked, ass
 ghost use Rattle.ht_models.specs.Kinded.{Assigns, IsOfKind};
 ghost use Rattle.ht_models.specs.Reading.{IsIfAny, IsOr};
 
-use crate::declaring::is_of_kind;
 use ht_base::{Kind, Txt};
-use ht_expr::{Assign, Expr, ExprRefusal, Kinds};
+use ht_expr::{Assign, Expr, ExprRefusal, Kinds, is_of_kind};
 use std::alloc::Global;
 
 /// The assignment that a text is.

@@ -6,19 +6,8 @@ ghost use Rattle.ht_models.specs.Refusals.{IsTooMuch};
 ghost use Rattle.ht_models.specs.SubTrees.{AreCounted, sub_places};
 
 use crate::tree_sizes::TreeSizes;
+use ht_base::{MOST_DEADLINES, MOST_ESCALATIONS, MOST_MODELS, MOST_PARTS, MOST_SUBS};
 use ht_entries::{DeadlineKind, DeadlineText, ModelEntry};
-
-/// The most models of a text.
-const MOST_MODELS: usize = 256;
-
-/// The most input parts, output parts or sub entries of a model.
-const MOST_PARTS: usize = 8;
-
-/// The most deadlines of either kind of a model.
-const MOST_DEADLINES: usize = 2;
-
-/// The most escalations of a deadline.
-const MOST_ESCALATIONS: usize = 4;
 
 /// The first place at which a limit is passed, which is 0 where there are too many models.
 pub fn first_too_much(entries: &[ModelEntry], trees: &TreeSizes) -> Option<usize>
@@ -42,7 +31,7 @@ pub fn holds_too_much(entry: &ModelEntry) -> bool
 {
     entry.input.len() > MOST_PARTS
         || entry.output.len() > MOST_PARTS
-        || entry.subs.len() > MOST_PARTS
+        || entry.subs.len() > MOST_SUBS
         || starts(&entry.deadlines) > MOST_DEADLINES
         || completions(&entry.deadlines) > MOST_DEADLINES
         || has_many_escalations(&entry.deadlines)
@@ -73,7 +62,7 @@ fn completions(deadlines: &[DeadlineText]) -> usize
 }
 
 fn has_many_escalations(deadlines: &[DeadlineText]) -> bool
-    ensures { result ≡ list_any (λ d. spec.has_more 4 d.escalations) deadlines.now }
+    ensures { result ≡ list_any (λ d. spec.has_more MOST_ESCALATIONS d.escalations) deadlines.now }
 {
     deadlines
         .iter()

@@ -28,7 +28,7 @@ pub struct Model {
     pub subs: Vec<SubEntry>,
     pub deadlines: Vec<Deadline>,
     pub finishes: Vec<Finish>,
-    /// How many tasks the tree of a task has, itself included: 1 to 256.
+    /// How many tasks the tree of a task has, itself included: 1 to `LARGEST_TREE`.
     pub size: u32,
 }
 

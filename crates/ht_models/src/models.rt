@@ -1,4 +1,5 @@
-ghost use Rattle.std.specs.Prelude.{◌≡◌, ◌≤◌, ◌<◌, ℕ, IfSome, Some, length, slice_get};
+ghost use Rattle.std.specs.Prelude.{◌≡◌, ◌*◌, ◌≤◌, ◌<◌, ℕ, IfSome, Some, length, slice_get};
+ghost use Rattle.ht_base.specs.declared.limits.TheConstants.{LARGEST_TREE, MOST_DEADLINES, MOST_MODELS};
 ghost use Rattle.ht_base.specs.Places.{place_in};
 ghost use Rattle.ht_toml.specs.Refusals as text_reads;
 ghost use Rattle.ht_toml.specs.Refusals.{each_of};
@@ -57,7 +58,7 @@ impl marker::Model for Models {
 impl Models {
     /// The models of a TOML text, or the first cause for which the text is refused.
     ///
-    /// The text's one top key is `model`, an array of 1 to 256 tables, whose keys docs/USING.md
+    /// The text's one top key is `model`, an array of 1 to `MOST_MODELS` tables, whose keys docs/USING.md
     /// lists. Each has a `name`. All its other keys may be missing. A text of an expression or an
     /// assignment is one that [`Expr::read`] or [`Assign::read`] reads with the parts of the model.
     ///
@@ -106,24 +107,24 @@ impl Models {
         requires { place < length self.now }
         ensures value { slice_get self.now place ≡ Some (model_of result.now) }
         ensures found { place_in result.now.name (names self.now) ≡ Some place }
-        ensures size { (1 ≤ result.now.size) × (result.now.size ≤ 256) }
+        ensures size { (1 ≤ result.now.size) × (result.now.size ≤ LARGEST_TREE) }
         ensures kinds { IsKinded result.now }
         ensures trees { AreSized self.now }
         ensures parts { DeclareOnce self.now }
         ensures inputs { AreMapped self.now }
         ensures outputs { SetOutputs self.now }
         ensures owned { ReassignOwned self.now }
-        ensures deadlines { length result.now.deadlines.items ≤ 4 }
+        ensures deadlines { length result.now.deadlines.items ≤ 2 * MOST_DEADLINES }
     {
         &self.models[place as usize]
     }
 
-    /// The number of models, from 1 to 256.
+    /// The number of models, from 1 to `MOST_MODELS`.
     pub fn count(&self) -> u32
         ensures value { result ≡ length self.now }
         ensures some { 1 ≤ result }
-        ensures few { result ≤ 256 }
-        ensures sizes { (place : ℕ) (m : ModelOf) → slice_get self.now place ≡ Some m → (1 ≤ m.size) × (m.size ≤ 256) }
+        ensures few { result ≤ MOST_MODELS }
+        ensures sizes { (place : ℕ) (m : ModelOf) → slice_get self.now place ≡ Some m → (1 ≤ m.size) × (m.size ≤ LARGEST_TREE) }
         ensures trees { AreSized self.now }
         ensures parts { DeclareOnce self.now }
         ensures inputs { AreMapped self.now }

@@ -26,9 +26,9 @@ pub enum ModelsRefusal {
     /// An expression or an assignment of the model is refused, or is of another kind.
     #[error("model {0}: an expression")]
     Expression(usize),
-    /// There are more than 256 models (at place 0), or the model has more than 8 inputs, outputs or
-    /// sub entries, 2 deadlines of one kind, 4 escalations of one deadline, 5 levels of sub tasks or
-    /// 256 tasks of its tree.
+    /// There are more models than there may be, which is told at place 0; or this model has more inputs,
+    /// outputs, sub entries, deadlines of one kind or escalations of a deadline than it may, or its
+    /// tree more levels, of which the model itself is one, or more tasks.
     #[error("model {0}: a limit")]
     Limit(usize),
     /// What the model says contradicts itself.

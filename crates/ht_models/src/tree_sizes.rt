@@ -3,18 +3,13 @@ ghost use Rattle.std.specs.List.{range_with_len, sum_by};
 ghost use Rattle.ht_models.specs.SubTrees as spec;
 
 use crate::sub_graph::SubGraph;
+use ht_base::{LARGEST_TREE, MOST_LEVELS};
 use ht_graph::Graph;
 use std::alloc::{AllocError, Global};
 use std::marker::Model;
 
-/// The most levels of a tree, of which the task at its top is one.
-const MOST_LEVELS: u32 = 5;
-
-/// The most tasks of a tree.
-const MOST_TASKS: u32 = 256;
-
 /// What is counted of a tree goes no further than this.
-const ENOUGH: u32 = MOST_TASKS + 1;
+const ENOUGH: u32 = LARGEST_TREE + 1;
 
 /// The trees of tasks of each model.
 #[derive(Drop)]
@@ -47,18 +42,18 @@ impl TreeSizes {
         Ok(TreeSizes { deep: level, sizes })
     }
 
-    /// The tasks of the tree at a place, or 257 where there are more than 256.
+    /// The tasks of the tree at a place, or one more than there may be where there are more.
     pub fn size(&self, place: usize) -> u32
         ensures { result ≡ slice_index_or self.now.sizes place 0 }
     {
         count_at(&self.sizes, place)
     }
 
-    /// Whether the tree at a place has more than 5 levels or more than 256 tasks.
+    /// Whether the tree at a place has more levels or more tasks than a tree may have.
     pub fn is_too_large(&self, place: usize) -> bool
         ensures { result ≡ spec.is_counted_too_large self.now place }
     {
-        count_at(&self.deep, place) > 0 || count_at(&self.sizes, place) > MOST_TASKS
+        count_at(&self.deep, place) > 0 || count_at(&self.sizes, place) > LARGEST_TREE
     }
 }
 

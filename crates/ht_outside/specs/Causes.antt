@@ -9,6 +9,11 @@ next_count n = min (n + 1) (2 ^ 64 - 1)
 abbrev pub Rose : ℕ → ℕ → Type 0
 Rose before now = next_count before ≤ now
 
+-- a count never falls, and it rose where this holds of the call
+pub record RoseWhere (Failed : Type 0) (before now : ℕ) : Type 0 where
+  pub later : before ≤ now
+  pub failed : Failed → Rose before now
+
 -- a count never falls, and it rose where the call failed
 pub record HasCause {T E : Type 0} (before now : ℕ) (result : Result T E) : Type 0 where
   pub later : before ≤ now

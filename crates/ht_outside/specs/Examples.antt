@@ -1,6 +1,7 @@
--- Worked examples of the definitions of disks. A wrong reading of one fails the check.
+-- Worked examples of the definitions. A wrong reading of one fails the check.
 use Rattle.std.specs.Prelude.{◌≡◌, refl, ℕ, List, [], ◌∷◌, ◌++◌, Some, codes, true, false, slice_index}
 use Rattle.std.proofs.Common.{ap, arith, inl, lit<, lit≤}
+use Rattle.ht_outside.specs.Clocks.{IsNext, later, moment_of}
 use Rattle.ht_outside.specs.CrashModel.{IsImage, IsMarked, IsTouched, IsUntouched, Unsynced, present}
 use Rattle.ht_outside.specs.DiskHistory.{stand}
 use Rattle.ht_outside.specs.Disks.{Torn, written}
@@ -106,3 +107,15 @@ not_before_it = refl
 
 the_earlier_stop_counts : earlier (Some 3) 5 ≡ 3
 the_earlier_stop_counts = refl
+
+-- ---- clocks
+
+the_third_moment : moment_of 1000 1000 2 ≡ 3000
+the_third_moment = refl
+
+moments_end : moment_of 1 253402300799999 1 ≡ 253402300799999
+moments_end = refl
+
+-- behind two moments the clock gives the third
+the_third_is_next : IsNext (later (later (Some (moment_of 1000 1000)))) 3000
+the_third_is_next = refl

@@ -1,4 +1,5 @@
 pub mod Causes
+pub mod Clocks
 pub mod CrashModel
 pub mod DiskHistory
 pub mod Disks

@@ -1,7 +1,6 @@
 -- What is told of texts that are read by their names, and what a read answers.
-use Rattle.std.specs.Prelude.{ℕ, ◌<◌, ◌≤◌, ◌≡◌, ◌⊎◌, List, [], ◌∷◌, ◌++◌, length, Bool, true, false, IsTrue, Option, Result, Ok, Err, MatchResult, ⊤}
+use Rattle.std.specs.Prelude.{ℕ, ◌<◌, ◌≤◌, ◌≡◌, ◌⊎◌, List, [], ◌∷◌, ◌++◌, length, Bool, true, false, Option, Result, Ok, Err, MatchResult, ⊤}
 use Rattle.ht_base.specs.Bytes.{BytesOf}
-use Rattle.ht_outside.specs.Causes.{Rose}
 use Rattle.ht_outside.specs.declared.asked.Asked.{Asked}
 use Rattle.ht_outside.specs.declared.text_fault.TextFault.{TextFault}
 use Rattle.ht_outside.specs.declared.text_fault.TextFault.TheVariants.{Failed, TooLong, Memory}
@@ -29,13 +28,8 @@ is_failed (Err Failed) = true
 is_failed (Err TooLong) = false
 is_failed (Err Memory) = false
 
--- a count of faults never falls, and it rose where the read answered Failed
-pub record HasTextCause (before now : ℕ) (result : Result BytesOf TextFault) : Type 0 where
-  pub later : before ≤ now
-  pub failed : IsTrue (is_failed result) → Rose before now
-
--- this read stands behind the others, unless there was no memory to note it
-abbrev pub IsNoted : TextsState → TextsState → List ℕ → Result BytesOf TextFault → Type 0
-IsNoted old new name result =
+-- a read of this name stands behind the others, unless there was no memory to note it
+abbrev pub IsNoted : Type 0 → List ℕ → TextsState → TextsState → Type 0
+IsNoted WantsMemory name old new =
     (new.asked ≡ old.asked ++ record { name = name; before = old.faults } ∷ [])
-    ⊎ ((result ≡ Err Memory) × (new.asked ≡ old.asked))
+    ⊎ (WantsMemory × (new.asked ≡ old.asked))

@@ -5,9 +5,20 @@ use crate::{Failed, Sink, Source};
 /// A connection: a source and a sink in one object. Reading leaves what was written, and writing
 /// leaves what is to be read.
 pub trait Link: Source + Sink {
+    /// What reading and writing keep besides, of the link before them and the link behind them.
+    ghost same: { Self → Self → Type 0 } = { λ _ _. Unit {0} };
+
     ghost reads_alone: { (x : Self) → Self.beside_source x ≡ Self.sink_state x };
 
     ghost writes_alone: { (x : Self) → Self.beside_sink x ≡ Self.source_state x };
+
+    ghost same_self: { (x : Self) → Self.same x x };
+
+    ghost read_same: { (x y : Self) → Self.same_source x y → Self.same x y };
+
+    ghost write_same: { (x y : Self) → Self.same_sink x y → Self.same x y };
+
+    ghost same_on: { (x y z : Self) → Self.same x y → Self.same y z → Self.same x z };
 }
 
 /// A link of a source and a sink.
@@ -41,4 +52,12 @@ impl<S: Source, K: Sink> Link for Pair<S, K> {
     ghost reads_alone = { λ x. refl };
 
     ghost writes_alone = { λ x. refl };
+
+    ghost same_self = { λ x. tt };
+
+    ghost read_same = { λ x y kept. tt };
+
+    ghost write_same = { λ x y kept. tt };
+
+    ghost same_on = { λ x y z first then_on. tt };
 }

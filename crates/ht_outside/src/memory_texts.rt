@@ -1,8 +1,8 @@
 ghost use Rattle.std.specs.Prelude.{◌≡◌, ◌≢◌, ◌==◌, ◌≤◌, [], true, length, Some, IfOk, IsTrue, IsErr};
 ghost use Rattle.std.specs.List.{list_any};
-ghost use Rattle.ht_outside.specs.Causes.{next_count};
+ghost use Rattle.ht_outside.specs.Causes.{RoseWhere, next_count};
 ghost use Rattle.ht_outside.specs.Scripted.{bytes_named, told_by};
-ghost use Rattle.ht_outside.specs.Texts.{HasTextCause, IsNoted, ReadsWhole, is_failed};
+ghost use Rattle.ht_outside.specs.Texts.{IsNoted, ReadsWhole, is_failed};
 
 use crate::asked::note;
 use crate::memory_source::is_among;
@@ -64,8 +64,8 @@ impl Texts for MemoryTexts {
         ensures text { ReadsWhole limit (bytes_named self.old.texts name.now) result }
         ensures limit { IfOk result (λ bytes. length bytes.items ≤ limit) }
         ensures kept { (self.new.texts ≡ self.old.texts) × (self.new.failing ≡ self.old.failing) }
-        ensures noted { IsNoted (told_by self.old) (told_by self.new) name.now result }
-        ensures cause { HasTextCause self.old.faults self.new.faults result }
+        ensures noted { IsNoted (result ≡ Err TextFault.Memory) name.now (told_by self.old) (told_by self.new) }
+        ensures cause { RoseWhere (IsTrue (is_failed result)) self.old.faults self.new.faults }
         ensures asked { IsTrue (is_failed result) → list_any (λ n. n == next_count self.old.calls) self.old.failing ≡ true }
         ensures fails { result ≢ Err TextFault.Memory → is_failed result ≡ list_any (λ n. n == next_count self.old.calls) self.old.failing }
         ensures counted { self.new.calls ≡ next_count self.old.calls }

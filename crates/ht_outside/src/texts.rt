@@ -1,5 +1,6 @@
-ghost use Rattle.std.specs.Prelude.{◌≡◌, ◌≤◌, length, IfOk, IfSome};
-ghost use Rattle.ht_outside.specs.Texts.{HasTextCause, IsNoted, ReadsWhole, TextsState};
+ghost use Rattle.std.specs.Prelude.{◌≡◌, ◌≤◌, length, IfOk, IfSome, IsTrue};
+ghost use Rattle.ht_outside.specs.Causes.{RoseWhere};
+ghost use Rattle.ht_outside.specs.Texts.{IsNoted, ReadsWhole, TextsState, is_failed};
 
 use crate::TextFault;
 use ht_base::Bytes;
@@ -18,6 +19,6 @@ pub trait Texts {
         ensures text { IfSome (texts_state self.old).texts (λ text. ReadsWhole limit (text name.now) result) }
         ensures limit { IfOk result (λ bytes. length bytes.items ≤ limit) }
         ensures kept { (texts_state self.new).texts ≡ (texts_state self.old).texts }
-        ensures noted { IsNoted (texts_state self.old) (texts_state self.new) name.now result }
-        ensures cause { HasTextCause (texts_state self.old).faults (texts_state self.new).faults result };
+        ensures noted { IsNoted (result ≡ Err TextFault.Memory) name.now (texts_state self.old) (texts_state self.new) }
+        ensures cause { RoseWhere (IsTrue (is_failed result)) (texts_state self.old).faults (texts_state self.new).faults };
 }

@@ -2,6 +2,8 @@
 #![tactic(auto)]
 
 #[cfg(test)]
+mod clocks;
+#[cfg(test)]
 mod disks;
 #[cfg(test)]
 mod streams;

@@ -1,7 +1,7 @@
 use ht_base::{Bytes, Memory, Txt};
 use ht_outside::{
-    Failed, FileTexts, Link, MemorySink, MemorySource, MemoryTexts, Pair, Sink, Source, StdSink,
-    StdSource, TextFault, Texts,
+    Failed, FileTexts, LentPair, Link, MemorySink, MemorySource, MemoryTexts, Pair, Sink, Source,
+    StdSink, StdSource, TextFault, Texts,
 };
 use std::alloc::Global;
 use std::test::Fail;
@@ -57,6 +57,28 @@ fn a_pair_is_a_link(rt: HostRuntime) -> Result<(), Fail> {
     assert_eq!(rt; echo(&mut link), Ok(2));
     assert_eq!(rt; echo(&mut link), Ok(0));
     assert_eq!(rt; link.output.written(), b"abcdef".as_slice());
+    Ok(())
+}
+
+// The same twice, through two streams that are lent.
+fn echo_lent<S: Source, K: Sink>(input: &mut S, output: &mut K) -> Result<usize, Failed> {
+    let mut link = LentPair { input, output };
+    let first = echo(&mut link);
+    let second = echo(&mut link);
+    let LentPair {
+        input: _,
+        output: _,
+    } = link;
+    Ok(first?.saturating_add(second?))
+}
+
+#[test]
+fn two_streams_that_are_lent_are_a_link(rt: HostRuntime) -> Result<(), Fail> {
+    let mut input = source(rt.alloc(), b"abcdef", &[])?;
+    let mut output = sink(rt.alloc(), &[])?;
+    assert_eq!(rt; echo_lent(&mut input, &mut output), Ok(6));
+    assert_eq!(rt; input.left(), b"".as_slice());
+    assert_eq!(rt; output.written(), b"abcdef".as_slice());
     Ok(())
 }
 

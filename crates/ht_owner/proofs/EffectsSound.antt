@@ -1,4 +1,5 @@
 -- That the effects of commands keep rows sound.
+use Rattle.ht_base.specs.declared.limits.TheConstants.{LONGEST_TEXT, MOST_COMMENTS}
 use Rattle.ht_tree.specs.Rows.{model_in}
 use Rattle.std.proofs.Common.{◌≡◌, ℕ, ◌<◌, nat_lt, Bool, true, false, ◌&&◌, ◌||◌, not, ◌+◌, ◌≤◌, if◌then◌else◌, List, [], ◌∷◌, ◌++◌, filter, Option, Some, None, IfSome, IsTrue, is_some, unwrap_or, length, get_or, slice_get, zero, suc, refl, ap, sym, ◌∙◌, subst, arith}
 use Rattle.std.proofs.lemmas.Bool.Decides.{nat_tests}
@@ -219,7 +220,7 @@ module _ (u : TablesOf) (m : ModelOf) (caller : ℕ) (moment : Moment) (row : Ro
       record { filed = sound.filed; held = subst New (sym of_model) held; who = sound.who; whose = sound.whose; when = sound.when; how = sound.how }
 
   -- with a comment more, of which there are fewer than the most
-  comment_sound : (text : List ℕ) → 1 ≤ length text → length text ≤ 512 → fully_commented row ≡ None → IsSoundRow u (with_comment row moment caller text)
+  comment_sound : (text : List ℕ) → 1 ≤ length text → length text ≤ LONGEST_TEXT → fully_commented row ≡ None → IsSoundRow u (with_comment row moment caller text)
   comment_sound text some short room =
       let how = sound.how in
       let more : List Comment = record { moment = moment; person = caller; text = text } ∷ [] in
@@ -234,14 +235,14 @@ module _ (u : TablesOf) (m : ModelOf) (caller : ℕ) (moment : Moment) (row : Ro
           few = one_more (length row.comments) (length (row.comments ++ more)) (length-append row.comments more) room;
           known = All-append (λ c. c.person < n) row.comments more how.known (alone (λ c. c.person < n) (record { moment = moment; person = caller; text = text }) known);
           moments_within = All-append (λ c. c.moment.0 ≤ last_moment) row.comments more how.moments_within (alone (λ c. c.moment.0 ≤ last_moment) (record { moment = moment; person = caller; text = text }) within);
-          texts_within = All-append (λ c. (1 ≤ length c.text) × (length c.text ≤ 512)) row.comments more how.texts_within (alone (λ c. (1 ≤ length c.text) × (length c.text ≤ 512)) (record { moment = moment; person = caller; text = text }) (some, short));
+          texts_within = All-append (λ c. (1 ≤ length c.text) × (length c.text ≤ LONGEST_TEXT)) row.comments more how.texts_within (alone (λ c. (1 ≤ length c.text) × (length c.text ≤ LONGEST_TEXT)) (record { moment = moment; person = caller; text = text }) (some, short));
         };
       }
     where
-      one_more : (k l : ℕ) → l ≡ k + 1 → told (not (nat_lt k 32)) (refusal.Limit Comments) ≡ None → l ≤ 32
-      one_more k l is room = few (nat_lt k 32) refl room
+      one_more : (k l : ℕ) → l ≡ k + 1 → told (not (nat_lt k MOST_COMMENTS)) (refusal.Limit Comments) ≡ None → l ≤ MOST_COMMENTS
+      one_more k l is room = few (nat_lt k MOST_COMMENTS) refl room
         where
-          few : (b : Bool) → nat_lt k 32 ≡ b → told (not b) (refusal.Limit Comments) ≡ None → l ≤ 32
+          few : (b : Bool) → nat_lt k MOST_COMMENTS ≡ b → told (not b) (refusal.Limit Comments) ≡ None → l ≤ MOST_COMMENTS
           few true low h = grind (arith, nat_tests)
           few false low h = cc
 

@@ -1,5 +1,6 @@
 -- Why a command isn't done that its caller may do (WS-HumanTask 1.1, 7.1.1): the faults of each
 -- operation, of which the first is told.
+use Rattle.ht_base.specs.declared.limits.TheConstants.{MOST_COMMENTS}
 use Rattle.ht_tree.specs.Tables.{directory, potential_owners_of, TablesOf}
 use Rattle.std.specs.Prelude.{ℕ, ◌==◌, nat_lt, Bool, true, false, not, ◌&&◌, List, [], ◌∷◌, find, is_none, length, Option, Some, None, option_map, if◌then◌else◌}
 use Rattle.std.specs.Option.{option_map_or}
@@ -84,9 +85,9 @@ output_refused d m output = option_map refusal.PartRefused (refused_part d false
 abbrev pub not_skipable : ModelOf → Option Refusal
 not_skipable m = told (not m.skipable) refusal.NotSkipable
 
--- it has 32 comments
+-- it has as many comments as it may have
 abbrev pub fully_commented : Row → Option Refusal
-fully_commented row = told (not (nat_lt (length row.comments) 32)) (refusal.Limit Comments)
+fully_commented row = told (not (nat_lt (length row.comments) MOST_COMMENTS)) (refusal.Limit Comments)
 
 -- a suspension that begins at a moment would have ended by then
 abbrev pub until_past : Moment → End → Option Refusal

@@ -9,17 +9,14 @@ ghost use Rattle.ht_tree.specs.Tables.{directory, TablesOf};
 
 use crate::suspending::end_at;
 use ht_base::{
-    Command, End, Limit, Memory, Moment, Name, Parts, Person, Persons, Refusal, RoleList, Unknown,
-    Values,
+    Command, End, Limit, MOST_COMMENTS, Memory, Moment, Name, Parts, Person, Persons, Refusal,
+    RoleList, Unknown, Values,
 };
 use ht_entries::{Delegation, Part};
 use ht_models::Model;
 use ht_people::Directory;
 use ht_tree::{Plan, Row, Tables, refused_part, resolve};
 use std::alloc::Global;
-
-/// The most comments on a task.
-const MOST_COMMENTS: usize = 32;
 
 /// Why a command on a task of this model isn't done, if it isn't.
 pub(crate) fn fault(

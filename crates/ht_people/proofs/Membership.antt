@@ -4,10 +4,11 @@ use Rattle.ht_base.specs.Places.{place_in}
 use Rattle.std.specs.Prelude.{slice_index_or}
 use Rattle.std.proofs.lemmas.Bool.Decides.{same_from_decides}
 use Rattle.std.proofs.lemmas.List.Elements.{filter_agree}
+use Rattle.ht_base.specs.declared.limits.TheConstants.{LONGEST_CHAIN}
 use Rattle.ht_graph.specs.Graphs.{IsDeeper, IsReached}
 use Rattle.ht_graph.proofs.PublicLaws.{near_reached}
 use Rattle.ht_people.specs.Directory.{DirectoryOf, members_at}
-use Rattle.ht_people.specs.Membership.{everybody, is_in, is_reached, longest_chain, members}
+use Rattle.ht_people.specs.Membership.{everybody, is_in, is_reached, members}
 use Rattle.ht_people.proofs.Filtering.{nobody_passes}
 
 module _ (d : DirectoryOf) (group : List ℕ) where
@@ -18,7 +19,7 @@ module _ (d : DirectoryOf) (group : List ℕ) where
   of_group i e = ap (λ (o : Option ℕ). filter (is_in d (option_map (λ i. length d.persons + i) o)) (everybody d)) e
 
 module _ (d : DirectoryOf) where
-  pub members_marked : (IsDeeper (members_at d) longest_chain → ⊥) → (from : ℕ) (met : List Bool) → ((place : ℕ) → (slice_index_or met place false ≡ true) ↔ IsReached (members_at d) from place)
+  pub members_marked : (IsDeeper (members_at d) LONGEST_CHAIN → ⊥) → (from : ℕ) (met : List Bool) → ((place : ℕ) → (slice_index_or met place false ≡ true) ↔ IsReached (members_at d) from place)
       → filter (λ place. slice_index_or met place false) (everybody d) ≡ filter (is_reached d from) (everybody d)
   members_marked short from met reached =
-      filter_agree (λ place. slice_index_or met place false) (is_reached d from) (λ place. same_from_decides (slice_index_or met place false) (is_reached d from place) (reached place) (near_reached (members_at d) longest_chain short from place)) (everybody d)
+      filter_agree (λ place. slice_index_or met place false) (is_reached d from) (λ place. same_from_decides (slice_index_or met place false) (is_reached d from place) (reached place) (near_reached (members_at d) LONGEST_CHAIN short from place)) (everybody d)

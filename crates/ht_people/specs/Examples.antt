@@ -73,7 +73,7 @@ the_group_behind_the_persons = refl
 
 -- ---- groups in groups
 
--- p0; groups 1 to 10, of which each has the next as a member, and the last has p0
+-- p0, at place 0; nine groups, at the places 1 to 9, of which each has the next as a member, and the last has p0
 abbrev link : ℕ → GroupOf
 link next = record { name = []; members = next ∷ [] }
 

@@ -1,6 +1,7 @@
--- Who is in a group: the persons to whom a chain of at most eight memberships leads from it.
+-- Who is in a group: the persons to whom a chain of memberships leads from it.
 use Rattle.std.specs.Prelude.{ℕ, Bool, false, List, length, filter, Option, Some, None}
 use Rattle.std.specs.List.{range_with_len}
+use Rattle.ht_base.specs.declared.limits.TheConstants.{LONGEST_CHAIN}
 use Rattle.ht_graph.specs.Graphs.{is_near}
 use Rattle.ht_people.specs.Directory.{DirectoryOf, find_group, members_at}
 
@@ -8,13 +9,9 @@ use Rattle.ht_people.specs.Directory.{DirectoryOf, find_group, members_at}
 abbrev pub everybody : DirectoryOf → List ℕ
 everybody d = range_with_len 0 (length d.persons)
 
--- the most memberships of a chain
-abbrev pub longest_chain : ℕ
-longest_chain = 8
-
--- a chain of one to eight memberships leads to the person
+-- a chain of at least one membership, and no longer than chains may be, leads to the person
 abbrev pub is_reached : DirectoryOf → ℕ → ℕ → Bool
-is_reached d place person = is_near (members_at d) longest_chain place person
+is_reached d place person = is_near (members_at d) LONGEST_CHAIN place person
 
 -- the person is in the group of this name. An unknown group is empty
 abbrev pub is_in : DirectoryOf → Option ℕ → ℕ → Bool

@@ -1,6 +1,7 @@
 -- What is wrong with a people text: its refusals in their order, and where each holds.
 use Rattle.std.specs.Prelude.{◌≡◌, ◌⊎◌, ℕ, ◌<◌, List, [], ◌∷◌, length, map, Some, None, slice_get}
 use Rattle.ht_base.specs.Places.{Behind, IsRepeated}
+use Rattle.ht_base.specs.declared.limits.TheConstants.{LONGEST_CHAIN, MOST_GROUPS, MOST_PERSONS}
 use Rattle.ht_graph.specs.Graphs.{IsDeeper, IsInCycle}
 use Rattle.ht_toml.specs.declared.documents.DocumentFault.{DocumentFault}
 use Rattle.ht_toml.specs.declared.documents.DocumentFault.TheVariants as document
@@ -10,7 +11,6 @@ use Rattle.ht_people.specs.declared.entries.MemberName.{MemberName}
 use Rattle.ht_people.specs.declared.refusal.PeopleRefusal.{PeopleRefusal}
 use Rattle.ht_people.specs.declared.refusal.PeopleRefusal.TheVariants.{Syntax, Field, Twice, UnknownMember, Cycle, Limit, Memory}
 use Rattle.ht_people.specs.Directory.{DirectoryOf, directory_of, members_at, person_names, place_of}
-use Rattle.ht_people.specs.Membership.{longest_chain}
 use Rattle.ht_people.specs.PeopleText.{GroupText, PeopleTextOf, IsMisshapen, text_of}
 
 -- a member of the group stands twice
@@ -34,7 +34,7 @@ HasUnknown t i = (group : GroupText) × (slice_get t.groups i ≡ Some group) ×
 
 -- more persons or groups than there may be, or a chain of more memberships
 abbrev pub IsTooMuch : DirectoryOf → Type 0
-IsTooMuch d = (1024 < length d.persons) ⊎ (256 < length d.groups) ⊎ IsDeeper (members_at d) longest_chain
+IsTooMuch d = (MOST_PERSONS < length d.persons) ⊎ (MOST_GROUPS < length d.groups) ⊎ IsDeeper (members_at d) LONGEST_CHAIN
 
 -- the text has this shape
 abbrev pub IsPeopleText : List ℕ → PeopleTextOf → Type 0

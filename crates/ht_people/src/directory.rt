@@ -1,5 +1,6 @@
 ghost use Rattle.std.specs.Prelude.{◌≡◌, ◌<◌, ◌≤◌, false, IfOk, IfSome, Some, filter, length, map, slice_get, slice_index_or};
 ghost use Rattle.std.specs.List.{range_with_len};
+ghost use Rattle.ht_base.specs.declared.limits.TheConstants.{MOST_GROUPS, MOST_PERSONS};
 ghost use Rattle.ht_people.specs.Directory as spec;
 ghost use Rattle.ht_people.specs.Membership as membership;
 
@@ -10,8 +11,8 @@ use ht_graph::{is_marked, reached_from};
 use std::alloc::Global;
 use std::marker::Model;
 
-/// The persons and groups of an office, of at most 1,024 persons, 256 groups, and chains of at most
-/// 8 memberships.
+/// The persons and groups of an office: at most `MOST_PERSONS` persons, `MOST_GROUPS` groups, and chains of
+/// at most `LONGEST_CHAIN` memberships.
 #[derive(Drop)]
 pub struct Directory {
     pub(crate) people: People,
@@ -59,18 +60,18 @@ impl Directory {
         self.people.person(person.0 as usize).operator
     }
 
-    /// How many persons there are, at most 1,024.
+    /// How many persons there are, at most `MOST_PERSONS`.
     pub fn persons(&self) -> u32
         ensures value { result ≡ length self.now.persons }
-        ensures few { result ≤ 1024 }
+        ensures few { result ≤ MOST_PERSONS }
     {
         self.people.person_count() as u32
     }
 
-    /// How many groups there are, at most 256.
+    /// How many groups there are, at most `MOST_GROUPS`.
     pub fn groups(&self) -> u32
         ensures value { result ≡ length self.now.groups }
-        ensures few { result ≤ 256 }
+        ensures few { result ≤ MOST_GROUPS }
     {
         self.people.group_count() as u32
     }
@@ -91,7 +92,7 @@ impl Directory {
 
 // The marked ones of this many persons.
 fn marked_persons(alloc: Global, marks: &[bool], count: usize) -> Result<Persons, Memory>
-    requires { count ≤ 1024 }
+    requires { count ≤ MOST_PERSONS }
     ensures { IfOk result (λ persons. persons ≡ filter (λ person. slice_index_or marks.now person false) (range_with_len 0 count)) }
 {
     let mut persons = Persons::new(alloc);

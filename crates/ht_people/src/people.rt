@@ -7,16 +7,10 @@ ghost use Rattle.ht_people.specs.Refusals.{IsTooMuch};
 use crate::PeopleRefusal;
 use crate::entries::PersonEntry;
 use crate::groups::Group;
+use ht_base::{LONGEST_CHAIN, MOST_GROUPS, MOST_PERSONS};
 use ht_graph::{Graph, first_cycle, is_deeper};
 use std::alloc::Global;
 use std::marker::Model;
-
-const MOST_PERSONS: usize = 1024;
-
-const MOST_GROUPS: usize = 256;
-
-/// The most memberships of a chain.
-const LONGEST_CHAIN: u32 = 8;
 
 /// Persons and groups. Each has a place, persons first, and a group leads to its members.
 #[derive(Drop)]

@@ -22,7 +22,8 @@ pub enum PeopleRefusal {
     /// Memberships lead from this group back to itself.
     #[error("group {0} is its own member")]
     Cycle(usize),
-    /// More than 1,024 persons, more than 256 groups, or a chain of more than 8 memberships.
+    /// More than `MOST_PERSONS` persons, more than `MOST_GROUPS` groups, or a chain of more than
+    /// `LONGEST_CHAIN` memberships.
     #[error("too many persons, groups or memberships in a chain")]
     Limit,
     #[error("out of memory")]

@@ -1,13 +1,10 @@
 -- What was written without a fault, and with memory for each reply, is the fold over the requests.
-use Rattle.std.proofs.Common.{◌≡◌, ◌≢◌, ◌⊎◌, inl, inr, ℕ, ◌+◌, ◌≤◌, ◌<◌, List, [], ◌∷◌, ◌++◌, length, append-nil, refl, sym, ap, subst, arith, Option, Result, Ok, Err}
+use Rattle.std.proofs.Common.{◌≡◌, ◌≢◌, ◌⊎◌, inl, inr, ℕ, ◌+◌, Bool, true, false, List, [], ◌∷◌, ◌++◌, length, append-nil, refl, sym, ap, subst, ◌∙◌, arith, Option, Some, Result, Ok, Err}
 use Rattle.std.proofs.lemmas.List.{length-map}
 use Rattle.ht_base.specs.declared.event.Event.{Event}
-use Rattle.ht_base.specs.declared.record.Record.{Record}
-use Rattle.ht_base.specs.declared.reply.Answer.TheVariants.{Refused}
 use Rattle.ht_base.specs.declared.reply.Reply.{Reply}
 use Rattle.ht_base.specs.History.{Entry}
-use Rattle.ht_machine.specs.Deciding as machine
-use Rattle.ht_machine.specs.History.{History, IsHistory, memory_reply}
+use Rattle.ht_machine.specs.History.{History, IsHistory, IsStep}
 use Rattle.ht_outside.specs.Tells.{Grows}
 use Rattle.ht_tree.specs.Tables.{TablesOf}
 use Rattle.ht_wire.specs.declared.request.Request.{Request}
@@ -18,26 +15,42 @@ use Rattle.ht_api.specs.declared.refusal.ApiRefusal.{ApiRefusal}
 use Rattle.ht_api.specs.declared.refusal.ApiRefusal.TheVariants as refusal
 use Rattle.ht_api.specs.Events.{event_due}
 use Rattle.ht_api.specs.Refusals.{Gives, refusal_of}
-use Rattle.ht_api.specs.Replies.{answer_text}
 use Rattle.ht_api.specs.Statuses.{refusal_status}
-use Rattle.ht_program.specs.declared.ending.Ending.{Ending}
-use Rattle.ht_program.specs.declared.ending.Ending.TheVariants as ending
-use Rattle.ht_program.specs.Exchanges.{AreExchanges, Exchange, IsOutcome, Outcome, answered, entries, entry_of, not_shown, refused, replies, requests, spelled, status_of, text_of}
-use Rattle.ht_program.specs.Folding.{Folds, IsBehind, IsOutput, RepliesTo}
-use Rattle.ht_program.specs.Inputs.{Close, GoOn}
-use Rattle.ht_program.specs.Running.{EndsAs, HaveMemory, IsSettled, Serves, Streams}
-use Rattle.ht_program.specs.Texts.{refusal_bytes, reply_status}
+use Rattle.ht_serve.specs.declared.ending.Ending.{Ending}
+use Rattle.ht_serve.specs.declared.ending.Ending.TheVariants as ending
+use Rattle.ht_serve.specs.Calls.{Call, StepsMade, call_of, calls_in}
+use Rattle.ht_serve.specs.Closing.{Close, GoOn, closes_at}
+use Rattle.ht_serve.specs.Exchanges.{AreExchanges, Exchange, HasAway, IsAway, IsOutcome, Outcome, answered, calls, calls_of, closings, not_shown, refused, replies, requests, spelled, status_of, text_of, turned_away}
+use Rattle.ht_serve.specs.Serving.{EndsAs, IsClosed, Served, sides}
+use Rattle.ht_serve.specs.Texts.{refusal_bytes, reply_status}
+use Rattle.ht_program.specs.Folding.{Decided, Folds, IsBehind, IsOutput, RepliesTo}
+use Rattle.ht_program.specs.Inputs.{lasts}
+use Rattle.ht_program.specs.Running.{HaveMemory, IsSettled, Ran, Streams}
+
+-- ---- which replies close a connection that isn't to be closed
+
+by_last : (most k : ℕ) (last : Bool) → closes_at false most k last ≡ last
+by_last most k true = refl
+by_last most k false = refl
+
+pub closings_are : (most k : ℕ) (clock : Option (ℕ → ℕ)) (xs : List Exchange) → AreExchanges false most clock k xs → closings xs ≡ lasts (requests xs)
+closings_are most k clock [] numbered = refl
+closings_are most k clock (x ∷ xs) numbered =
+    let first : x.closes ≡ x.request.last = numbered.2 ∙ by_last most k x.request.last in
+    (λ i. first i ∷ closings_are most (k + 1) _ xs numbered.4 i)
 
 -- ---- one request
 
 abbrev bytes : Request → Outcome → List ℕ
 bytes r o = reply_bytes (status_of o) (text_of o) r.last
 
--- it is replied as the machine decides, and the others follow
-record IsReplied (t : TablesOf) (r : Request) (m : ℕ) (o : Outcome) (later : History) : Type 0 where
+-- it is replied as the machine decides, and the calls that come later are those of the rest of the history
+record IsReplied (t : TablesOf) (r : Request) (m : ℕ) (o : Outcome) (later : List Call) : Type 0 where
   after : TablesOf
-  replies : RepliesTo t r (event_due r m) (bytes r o) after
-  legal : IsHistory after later
+  replies : RepliesTo Decided t r (event_due r m) (bytes r o) after
+  rest : History
+  legal : IsHistory after rest
+  rest_are : calls_in rest ≡ later
 
 module _ (t : TablesOf) (r : Request) (m : ℕ) where
   gives_due : (due : Result Event ApiRefusal) (why : ApiRefusal) → Gives due (Err why) → refusal_status (refusal_of why) ≢ 500 → Err why ≡ due
@@ -48,66 +61,100 @@ module _ (t : TablesOf) (r : Request) (m : ℕ) where
   gives_due due refusal.Person is memory = is
   gives_due due refusal.Memory is memory = absurd (memory refl)
 
-  by_step : (e : Entry TablesOf Event Reply) (later : History) → Ok e.event ≡ event_due r m → IsHistory t (e ∷ later) → status_of (answered e) ≢ 500
-      → ((left : Option Record) × machine.Decides t e.event left e.reply e.after) ⊎ ((e.reply ≡ memory_reply) × (e.after ≡ t)) → IsReplied t r m (answered e) later
-  by_step e later event legal memory (inl decides) = record {
+  by_step : (e : Entry TablesOf Event Reply) (es : History) (later : List Call) → Ok e.event ≡ event_due r m → IsHistory e.after es → calls_in es ≡ later → status_of (answered (call_of e)) ≢ 500 → IsStep t e.event e.reply e.after → IsReplied t r m (answered (call_of e)) later
+  by_step e es later event legal rest memory (inl decides) = record {
     after = e.after;
-    replies = subst (λ (d : Result Event ApiRefusal). RepliesTo t r d (bytes r (answered e)) e.after) event (decides.0, e.reply, decides.1, refl);
-    legal = legal.1;
-  }
-  by_step e later event legal memory (inr want) = absurd (memory (ap (λ (reply : Reply). reply_status e.event reply.answer) want.0))
-
-  replied : (o : Outcome) (later : History) → IsOutcome r m o → IsHistory t (entry_of o ++ later) → status_of o ≢ 500 → IsReplied t r m o later
-  replied (refused why) later is legal memory = record {
-    after = t;
-    replies = subst (λ (d : Result Event ApiRefusal). RepliesTo t r d (bytes r (refused why)) t) (gives_due (event_due r m) why is memory) (refl, refl);
+    replies = subst (λ (d : Result Event ApiRefusal). RepliesTo Decided t r d (bytes r (answered (call_of e))) e.after) event (e.reply, decides, refl);
+    rest = es;
     legal = legal;
+    rest_are = rest;
   }
-  replied (answered e) later is legal memory = by_step e later is.0 legal memory legal.0
-  replied (not_shown e) later is legal memory = absurd (memory refl)
+  by_step e es later event legal rest memory (inr want) = absurd (memory (ap (λ (reply : Reply). reply_status e.event reply.answer) want.0))
+
+  by_call : (c : Call) (later : List Call) (h : History) → Ok c.event ≡ event_due r m → IsHistory t h → calls_in h ≡ c ∷ later → status_of (answered c) ≢ 500 → IsReplied t r m (answered c) later
+  by_call c later [] due legal are memory = absurd (cc)
+  by_call c later (e ∷ es) due legal are memory =
+      let same : c ≡ call_of e = cc in
+      let rest : calls_in es ≡ later = cc in
+      subst (λ (d : Call). IsReplied t r m (answered d) later) (sym same)
+      (by_step e es later (subst (λ (d : Call). Ok d.event ≡ event_due r m) same due) legal.1 rest (subst (λ (d : Call). status_of (answered d) ≢ 500) same memory) legal.0)
+
+  replied : (o : Outcome) (later : List Call) (h : History) → IsOutcome (event_due r m) o → (IsAway o → ⊥) → IsHistory t h → calls_in h ≡ calls_of o ++ later → status_of o ≢ 500 → IsReplied t r m o later
+  replied (refused why) later h is here legal are memory = record {
+    after = t;
+    replies = subst (λ (d : Result Event ApiRefusal). RepliesTo Decided t r d (bytes r (refused why)) t) (gives_due (event_due r m) why is memory) (refl, refl);
+    rest = h;
+    legal = legal;
+    rest_are = are;
+  }
+  replied (answered c) later h is here legal are memory = by_call c later h is legal are memory
+  replied (not_shown c) later h is here legal are memory = absurd (memory refl)
+  replied (turned_away e) later h is here legal are memory = absurd (here tt)
 
 -- ---- all of them
 
-folded : (moment : ℕ → ℕ) (k : ℕ) (t : TablesOf) (xs : List Exchange) → AreExchanges moment k xs → IsHistory t (entries xs) → HaveMemory xs → Folds moment k t (requests xs) (replies xs)
-folded moment k t [] numbered legal memory = refl
-folded moment k t (x ∷ xs) numbered legal memory =
-    let one = replied t x.request x.moment x.outcome (entries xs) numbered.1 legal memory.0 in
-    let mine = subst (λ (m : ℕ). RepliesTo t x.request (event_due x.request m) (spelled x) one.after) numbered.0 one.replies in
-    (spelled x, one.after, replies xs, mine, folded moment (k + 1) one.after xs numbered.2 one.legal memory.1, refl)
+folded : (most k : ℕ) (moment : ℕ → ℕ) (t : TablesOf) (xs : List Exchange) (h : History) → AreExchanges false most (Some moment) k xs → (HasAway xs → ⊥) → IsHistory t h → calls_in h ≡ calls xs → HaveMemory xs → Folds Decided moment t (requests xs) (replies xs)
+folded most k moment t [] h numbered here legal are memory = refl
+folded most k moment t (x ∷ xs) h numbered here legal are memory =
+    let one = replied t x.request x.moment x.outcome (calls xs) h numbered.3 (λ away. here (inl away)) legal are memory.0 in
+    let closes : x.request.last ≡ x.closes = sym (numbered.2 ∙ by_last most k x.request.last) in
+    let told = subst (λ (b : Bool). RepliesTo Decided t x.request (event_due x.request x.moment) (reply_bytes (status_of x.outcome) (text_of x.outcome) b) one.after) closes one.replies in
+    let mine = subst (λ (m : ℕ). RepliesTo Decided t x.request (event_due x.request m) (spelled x) one.after) numbered.0 told in
+    (spelled x, one.after, replies xs, mine, folded most (k + 1) (λ j. moment (j + 1)) one.after xs one.rest numbered.4 (λ away. here (inr away)) one.legal one.rest_are memory.1, refl)
 
 -- ---- the run
 
-module _ (moment : ℕ → ℕ) (most : ℕ) (t u : TablesOf) (old new : Streams) (bytes rest : List ℕ) (xs : List Exchange) (serves : Serves moment 0 t u bytes rest xs) (memory : HaveMemory xs) where
+module _ (moment : ℕ → ℕ) (most : ℕ) (t u : TablesOf) (old new : Streams) (clock : Option (ℕ → ℕ)) (e : Ending) (s : Served (StepsMade IsStep t u) ⊥ false most 0 (sides old.input old.output (Some moment)) (sides new.input new.output clock) [] e) (memory : HaveMemory s.exchanges) where
+  abbrev xs : List Exchange
+  xs = s.exchanges
+
   abbrev Written : Type 0
-  Written = (out : List ℕ) × IsOutput moment most t bytes out × Grows old.output.written new.output.written out
+  Written = (out : List ℕ) × IsOutput Decided moment most t s.taken out × Grows old.output.written new.output.written out
 
   counted : length (requests xs) ≡ length xs
   counted = length-map xs (λ (x : Exchange). x.request)
 
-  whole : (tail : List ℕ) → IsBehind most (requests xs) rest tail → IsOutput moment most t bytes (replies xs ++ tail)
+  same : closings xs ≡ lasts (requests xs)
+  same = closings_are most 0 (Some moment) xs s.serves.numbered
+
+  open_still : GoOn (closings xs) → GoOn (lasts (requests xs))
+  open_still going = subst GoOn same going
+
+  whole : (tail : List ℕ) → IsBehind most (requests xs) s.rest tail → IsOutput Decided moment most t s.taken (replies xs ++ tail)
   whole tail behind = record {
     asked = requests xs;
-    rest = rest;
-    stand = serves.stand;
+    rest = s.rest;
+    stand = s.serves.stand;
     replies = replies xs;
-    folds = folded moment 0 t xs serves.numbered serves.legal memory;
+    folds = folded most 0 moment t xs (s.serves.made).history s.serves.numbered s.serves.away (s.serves.made).legal (s.serves.made).calls_are memory;
     tail = tail;
     behind = behind;
     all = refl;
   }
 
-  alone : IsBehind most (requests xs) rest [] → Grows old.output.written new.output.written (replies xs) → Written
-  alone behind wrote = (replies xs, subst (λ (out : List ℕ). IsOutput moment most t bytes out) (append-nil (replies xs)) (whole [] behind), wrote)
+  alone : IsBehind most (requests xs) s.rest [] → Grows old.output.written new.output.written (replies xs) → Written
+  alone behind wrote = (replies xs, subst (λ (out : List ℕ). IsOutput Decided moment most t s.taken out) (append-nil (replies xs)) (whole [] behind), wrote)
 
-  ended : Close (requests xs) ⊎ (GoOn (requests xs) × EndsAt new.input.flow rest) → Close (requests xs) ⊎ (GoOn (requests xs) × IsEnd rest)
-  ended (inl close) = inl close
-  ended (inr both) = inr (both.0, both.1.1)
+  ended : IsClosed (sides old.input old.output (Some moment)) (sides new.input new.output clock) [] xs ⊎ (GoOn (closings xs) × EndsAt new.input.flow s.rest) → Close (lasts (requests xs)) ⊎ (GoOn (lasts (requests xs)) × IsEnd s.rest)
+  ended (inl closed) = inl (subst Close same closed.closes)
+  ended (inr both) = inr (open_still both.0, both.1.1)
 
-  pub written : (e : Ending) → EndsAs most (length xs) e old new rest xs → IsSettled e → Written
-  written ending.Done ends settled = alone (inl (refl, inl ((let n = counted in let few = ends.1 in omega (arith, n, few)), ended ends.0))) ends.2
-  written (ending.Wire code) ends settled =
-      (replies xs ++ refusal_bytes code, whole (refusal_bytes code) (inr (ends.0, (let n = counted in let few = ends.1 in omega (arith, n, few)), (code, ends.2.0, refl))), ends.3)
-  written ending.Budget ends settled = alone (inl (refl, inr (ends.0, (let n = counted in let all = ends.1 in omega (arith, n, all))))) ends.3
-  written ending.ReadFault ends settled = absurd settled
-  written ending.WriteFault ends settled = absurd settled
-  written ending.Memory ends settled = absurd settled
+  written_as : (e : Ending) → EndsAs false most (0 + length xs) e (sides old.input old.output (Some moment)) (sides new.input new.output clock) [] s.rest xs → IsSettled e → Written
+  written_as ending.Done ends settled = alone (inl (refl, inl ((let n = counted in let few = ends.1 in omega (arith, n, few)), ended ends.0))) ends.2
+  written_as (ending.Wire code) ends settled = (
+    replies xs ++ refusal_bytes code,
+    whole (refusal_bytes code) (inr (open_still (ends.0).open_still, (let n = counted in let few = (ends.0).few in omega (arith, n, few)), (code, ((ends.0).refused).0, refl))),
+    ends.1,
+  )
+  written_as ending.Budget ends settled = alone (inl (refl, inr (open_still ends.1, (let n = counted in let all = ends.2 in omega (arith, n, all))))) ends.4
+  written_as ending.ReadFault ends settled = absurd settled
+  written_as ending.WriteFault ends settled = absurd settled
+  written_as ending.Memory ends settled = absurd settled
+
+pub ran : (moment : ℕ → ℕ) (most : ℕ) (t u : TablesOf) (old new : Streams) (clock : Option (ℕ → ℕ)) (e : Ending) → Served (StepsMade IsStep t u) ⊥ false most 0 (sides old.input old.output (Some moment)) (sides new.input new.output clock) [] e → Ran moment most t old new e
+ran moment most t u old new clock e s = record {
+  after = u;
+  clock = clock;
+  served = s;
+  written = λ settled memory. written_as moment most t u old new clock e s memory e s.ends settled;
+}

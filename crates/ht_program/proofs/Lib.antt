@@ -1,6 +1,4 @@
 mod Complaining
-mod Continuing
-mod Exchanging
 mod Folded
 mod Grammar
 mod Inputs
@@ -8,3 +6,4 @@ mod OneOutput
 mod Opened
 mod Options
 mod Statuses
+mod Stepping

@@ -1,7 +1,9 @@
 -- What two texts that were read give, and which texts were asked for.
 use Rattle.std.proofs.Common.{◌≡◌, ◌∙◌, inl, inr, ℕ, suc, ◌<◌, ◌≤◌, List, [], ◌∷◌, ◌++◌, length, arith, refl, sym, ap, subst, append_assoc, append-nil, Option, Some, None, Result, Ok, Err, IfSome}
 use Rattle.ht_base.specs.Bytes.{BytesOf}
-use Rattle.ht_outside.specs.Texts.{ReadsWhole, TextsState}
+use Rattle.ht_base.specs.declared.limits.TheConstants.{LONGEST_OFFICE_TEXT}
+use Rattle.ht_outside.specs.Causes.{RoseWhere}
+use Rattle.ht_outside.specs.Texts.{IsNoted, ReadsWhole, TextsState}
 use Rattle.ht_outside.specs.declared.asked.Asked.{Asked}
 use Rattle.ht_outside.specs.declared.text_fault.TextFault.TheVariants as read
 use Rattle.ht_tree.specs.Tables.{RoomyTables}
@@ -10,7 +12,7 @@ use Rattle.ht_program.specs.declared.opening.TextsFault.TheVariants.{Unread, Too
 use Rattle.ht_program.specs.declared.opening.Which.{Which}
 use Rattle.ht_program.specs.declared.opening.Which.TheVariants as which
 use Rattle.std.specs.Prelude.{OnOk}
-use Rattle.ht_program.specs.Opening.{Asks, HasTextsCause, IsAsked, IsTextOf, Judges, LastFailed, Opens, ReadsText, name_in, text_limit}
+use Rattle.ht_program.specs.Opening.{Asks, IsTextOf, IsUnread, Judges, LastFailed, Opens, ReadsText, name_in}
 
 -- ---- one text
 
@@ -29,8 +31,8 @@ module _ (w : Which) (told : Option (List ℕ → List ℕ)) (name : List ℕ) w
   pub no_memory : ReadsText w told name (Err Memory)
   no_memory = let text = some_text told name in (text.0, text.1, tt)
 
-pub read_long : (w : Which) (told : Option (List ℕ → List ℕ)) (name : List ℕ) → IfSome told (λ text. ReadsWhole text_limit (text name) (Err read.TooLong)) → ReadsText w told name (Err (TooLong w))
-read_long w None name reads = let text = long_text text_limit in (text.0, tt, (refl, text.1))
+pub read_long : (w : Which) (told : Option (List ℕ → List ℕ)) (name : List ℕ) → IfSome told (λ text. ReadsWhole LONGEST_OFFICE_TEXT (text name) (Err read.TooLong)) → ReadsText w told name (Err (TooLong w))
+read_long w None name reads = let text = long_text LONGEST_OFFICE_TEXT in (text.0, tt, (refl, text.1))
 read_long w (Some told) name reads = (told name, refl, (refl, reads))
 
 -- ---- what both texts give
@@ -60,7 +62,7 @@ no_fault : {T : Type 0} → (x : T) (why : TextsFault) → ◌≡◌ {A = Result
 no_fault x why e = cc
 
 -- a read that gave a text was noted
-was_noted : (bytes : BytesOf) (name : List ℕ) (old new : TextsState) → IsAsked {T = BytesOf} name old new (Ok bytes) → new.asked ≡ old.asked ++ noted name old ∷ []
+was_noted : (bytes : BytesOf) (name : List ℕ) (old new : TextsState) → IsNoted (◌≡◌ {A = Result BytesOf TextsFault} (Ok bytes) (Err Memory)) name old new → new.asked ≡ old.asked ++ noted name old ∷ []
 was_noted bytes name old new (inl first) = first
 was_noted bytes name old new (inr none) = absurd (no_fault bytes Memory none.0)
 
@@ -81,7 +83,7 @@ which_is told name v w Memory a is = absurd (cc)
 
 module _ (names : List ℕ × List ℕ) (old mid new : TextsState) (told : Option (List ℕ → List ℕ)) where
   -- the last read is of this text
-  last_failed : (v w : Which) (earlier : List Asked) (state : TextsState) (why : TextsFault) → ReadsText v told (name_in v names) (Err why) → HasTextsCause {T = BytesOf} state.faults new.faults (Err why) → old.faults ≤ state.faults
+  last_failed : (v w : Which) (earlier : List Asked) (state : TextsState) (why : TextsFault) → ReadsText v told (name_in v names) (Err why) → RoseWhere (IsUnread {T = BytesOf} (Err why)) state.faults new.faults → old.faults ≤ state.faults
       → ◌≡◌ {A = Result RoomyTables TextsFault} (Err why) (Err (Unread w)) → LastFailed (earlier ++ noted (name_in v names) state ∷ []) (name_in w names) old.faults new.faults
   last_failed v w earlier state why reads cause later is =
       let e : why ≡ Unread w = fault_is why (Unread w) is in
@@ -91,10 +93,10 @@ module _ (names : List ℕ × List ℕ) (old mid new : TextsState) (told : Optio
         reads_are = refl;
         named = ap (λ (x : Which). name_in x names) (which_is told (name_in v names) v w why reads e);
         later = later;
-        failed = cause.unread w (ap Err e);
+        failed = cause.failed (w, ap Err e);
       }
 
-  pub asks_first : (why : TextsFault) → IsAsked {T = BytesOf} names.0 old new (Err why) → ReadsText which.Models told names.0 (Err why) → HasTextsCause {T = BytesOf} old.faults new.faults (Err why) → Asks names old new (Err why)
+  pub asks_first : (why : TextsFault) → IsNoted (◌≡◌ {A = Result BytesOf TextsFault} (Err why) (Err Memory)) names.0 old new → ReadsText which.Models told names.0 (Err why) → RoseWhere (IsUnread {T = BytesOf} (Err why)) old.faults new.faults → Asks names old new (Err why)
   asks_first why (inl first) reads cause = record {
     reads = noted names.0 old ∷ [];
     grown = first;
@@ -115,8 +117,8 @@ module _ (names : List ℕ × List ℕ) (old mid new : TextsState) (told : Optio
   both_noted : mid.asked ≡ old.asked ++ noted names.0 old ∷ [] → new.asked ≡ mid.asked ++ noted names.1 mid ∷ [] → new.asked ≡ old.asked ++ (noted names.0 old ∷ noted names.1 mid ∷ [])
   both_noted first second = second ∙ ap (λ (l : List Asked). l ++ noted names.1 mid ∷ []) first ∙ append_assoc old.asked (noted names.0 old ∷ []) (noted names.1 mid ∷ [])
 
-  pub asks_second : (models : BytesOf) (why : TextsFault) → IsAsked {T = BytesOf} names.0 old mid (Ok models) → old.faults ≤ mid.faults → IsAsked {T = BytesOf} names.1 mid new (Err why)
-      → ReadsText which.People told names.1 (Err why) → HasTextsCause {T = BytesOf} mid.faults new.faults (Err why) → Asks names old new (Err why)
+  pub asks_second : (models : BytesOf) (why : TextsFault) → IsNoted (◌≡◌ {A = Result BytesOf TextsFault} (Ok models) (Err Memory)) names.0 old mid → old.faults ≤ mid.faults → IsNoted (◌≡◌ {A = Result BytesOf TextsFault} (Err why) (Err Memory)) names.1 mid new
+      → ReadsText which.People told names.1 (Err why) → RoseWhere (IsUnread {T = BytesOf} (Err why)) mid.faults new.faults → Asks names old new (Err why)
   asks_second models why first later (inl second) reads cause = record {
     reads = noted names.0 old ∷ noted names.1 mid ∷ [];
     grown = both_noted (was_noted models names.0 old mid first) second;
@@ -134,7 +136,7 @@ module _ (names : List ℕ × List ℕ) (old mid new : TextsState) (told : Optio
     unread = λ w is. absurd (not_unread why w none.0 is);
   }
 
-  pub asks_both : (models people : BytesOf) (result : Result RoomyTables TextsFault) → IsAsked {T = BytesOf} names.0 old mid (Ok models) → IsAsked {T = BytesOf} names.1 mid new (Ok people) → Judges models.items people.items result → Asks names old new result
+  pub asks_both : (models people : BytesOf) (result : Result RoomyTables TextsFault) → IsNoted (◌≡◌ {A = Result BytesOf TextsFault} (Ok models) (Err Memory)) names.0 old mid → IsNoted (◌≡◌ {A = Result BytesOf TextsFault} (Ok people) (Err Memory)) names.1 mid new → Judges models.items people.items result → Asks names old new result
   asks_both models people result first second j = record {
     reads = noted names.0 old ∷ noted names.1 mid ∷ [];
     grown = both_noted (was_noted models names.0 old mid first) (was_noted people names.1 mid new second);

@@ -1,9 +1,10 @@
 -- Which status comes of which end.
 use Rattle.std.proofs.Common.{◌≡◌, ◌≢◌, ◌⊎◌, ◌↔◌, ◌∙◌, inl, inr, ℕ, ◌≤◌, List, ◌∷◌, length, codes, Option, Some, None, Result, Ok, Err, IfNone, IfSome, option_map, map, String, Global, refl, sym, ap, subst, arith}
+use Rattle.ht_base.specs.declared.limits.TheConstants.{LONGEST_OFFICE_TEXT}
 use Rattle.ht_outside.specs.Causes.{Rose}
-use Rattle.ht_tree.specs.Tables.{RoomyTables}
-use Rattle.ht_program.specs.declared.ending.Ending.{Ending}
-use Rattle.ht_program.specs.declared.ending.Ending.TheVariants as ending
+use Rattle.ht_tree.specs.Tables.{RoomyTables, TablesOf}
+use Rattle.ht_serve.specs.declared.ending.Ending.{Ending}
+use Rattle.ht_serve.specs.declared.ending.Ending.TheVariants as ending
 use Rattle.ht_program.specs.declared.opening.TextsFault.{TextsFault}
 use Rattle.ht_program.specs.declared.opening.TextsFault.TheVariants.{Unread, TooLong, Models, People, Memory}
 use Rattle.ht_program.specs.declared.opening.Which.{Which}
@@ -15,9 +16,8 @@ use Rattle.ht_program.specs.Named.{pair_of}
 use Rattle.ht_models.specs.Refusals as models_wrong
 use Rattle.ht_people.specs.Refusals as people_wrong
 use Rattle.ht_toml.proofs.PublicLaws.{first_holds, none_holds}
-use Rattle.ht_program.specs.Opening.{AreWrong, Judges, Opens, OpensText, fault_status, text_limit}
-use Rattle.ht_program.specs.Running.{Streams, ending_status}
-use Rattle.ht_program.specs.Serving.{HasCauses}
+use Rattle.ht_program.specs.Opening.{AreWrong, Judges, Opens, OpensText, fault_status}
+use Rattle.ht_program.specs.Running.{Ran, Streams, ending_status}
 use Rattle.ht_program.specs.Words.{AreTexts, IsRun, value_of}
 
 -- ---- what the words say is one
@@ -55,22 +55,22 @@ no_names (Some names) P none kept = absurd (cc)
 
 -- ---- a connection that was served
 
-module _ (old new : Streams) where
-  pub answered : (e : Ending) (status : ℕ) → status ≡ ending_status e → HasCauses old new (Some e) → (Rose old.input.faults new.input.faults → ⊥) → (Rose old.output.faults new.output.faults → ⊥) → IsAnswered status
-  answered ending.Done status is causes read write = inl is
-  answered (ending.Wire code) status is causes read write = inr (inl is)
-  answered ending.Budget status is causes read write = inr (inr (inr (inr is)))
-  answered ending.ReadFault status is causes read write = absurd (read (causes.read refl))
-  answered ending.WriteFault status is causes read write = absurd (write (causes.write refl))
-  answered ending.Memory status is causes read write = inr (inr (inr (inl is)))
+module _ (moment : ℕ → ℕ) (most : ℕ) (t : TablesOf) (old new : Streams) where
+  pub answered : (e : Ending) (status : ℕ) → status ≡ ending_status e → Ran moment most t old new e → (Rose old.input.faults new.input.faults → ⊥) → (Rose old.output.faults new.output.faults → ⊥) → IsAnswered status
+  answered ending.Done status is ran read write = inl is
+  answered (ending.Wire code) status is ran read write = inr (inl is)
+  answered ending.Budget status is ran read write = inr (inr (inr (inr is)))
+  answered ending.ReadFault status is ran read write = absurd (read (ran.served).ends.3)
+  answered ending.WriteFault status is ran read write = absurd (write ((ran.served).ends.1).rose)
+  answered ending.Memory status is ran read write = inr (inr (inr (inl is)))
 
-  pub broke : (e : Ending) (status : ℕ) → status ≡ ending_status e → HasCauses old new (Some e) → status ≡ 7 → Rose old.input.faults new.input.faults ⊎ Rose old.output.faults new.output.faults
-  broke ending.Done status is causes seven = absurd (omega arith)
-  broke (ending.Wire code) status is causes seven = absurd (omega arith)
-  broke ending.Budget status is causes seven = absurd (omega arith)
-  broke ending.ReadFault status is causes seven = inl (causes.read refl)
-  broke ending.WriteFault status is causes seven = inr (causes.write refl)
-  broke ending.Memory status is causes seven = absurd (omega arith)
+  pub broke : (e : Ending) (status : ℕ) → status ≡ ending_status e → Ran moment most t old new e → status ≡ 7 → Rose old.input.faults new.input.faults ⊎ Rose old.output.faults new.output.faults
+  broke ending.Done status is ran seven = absurd (omega arith)
+  broke (ending.Wire code) status is ran seven = absurd (omega arith)
+  broke ending.Budget status is ran seven = absurd (omega arith)
+  broke ending.ReadFault status is ran seven = inl (ran.served).ends.3
+  broke ending.WriteFault status is ran seven = inr ((ran.served).ends.1).rose
+  broke ending.Memory status is ran seven = absurd (omega arith)
 
 -- ---- an office that was not opened
 
@@ -93,7 +93,7 @@ built_in_fault told Memory status opens is = ((λ e. omega arith), (λ e. omega 
 abbrev pub RefusedRight : Option (List ℕ → List ℕ) → List ℕ × List ℕ → ℕ → Type 0
 RefusedRight told names status = IfSome told (λ text. status ≢ 3 → status ≢ 8 → (status ≡ 4) ↔ AreWrong (text names.0) (text names.1))
 
-both_read : (m p : List ℕ) (t : RoomyTables) → OpensText m p (Ok t) → (length m ≤ text_limit) × (length p ≤ text_limit) × Judges m p (Ok t)
+both_read : (m p : List ℕ) (t : RoomyTables) → OpensText m p (Ok t) → (length m ≤ LONGEST_OFFICE_TEXT) × (length p ≤ LONGEST_OFFICE_TEXT) × Judges m p (Ok t)
 both_read m p t (inl missing) = absurd missing
 both_read m p t (inr (short, inl missing)) = absurd missing
 both_read m p t (inr (short, inr judged)) = (short, judged.0, judged.1)

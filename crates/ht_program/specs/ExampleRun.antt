@@ -1,6 +1,6 @@
 -- A worked run: two requests in, the bytes of two replies out. A wrong reading of a definition fails
 -- the check.
-use Rattle.std.specs.Prelude.{◌≡◌, refl, ℕ, List, [], ◌∷◌, ◌++◌, Option, Some, None, codes}
+use Rattle.std.specs.Prelude.{◌≡◌, refl, ℕ, List, [], ◌∷◌, ◌++◌, Option, Some, None, codes, true, false}
 use Rattle.std.specs.Fmt.{digits}
 use Rattle.std.specs.Str.{chars, is_utf8}
 use Rattle.serde_json.proofs.OnLiterals.{serde_json_on_literals}
@@ -14,20 +14,21 @@ use Rattle.ht_base.specs.declared.reply.Answer.TheVariants.{Done}
 use Rattle.ht_base.specs.declared.reply.Reply.{Reply}
 use Rattle.ht_base.specs.declared.state.State.TheVariants.{Ready}
 use Rattle.ht_machine.specs.Deciding.{Decides}
-use Rattle.ht_machine.specs.History.{IsHistory, IsStep}
+use Rattle.ht_machine.specs.History.{IsStep}
+use Rattle.ht_outside.specs.Clocks.{moment_of}
+use Rattle.ht_serve.specs.declared.ending.Ending.TheVariants as ending
+use Rattle.ht_serve.specs.Calls.{StepsMade}
+use Rattle.ht_serve.specs.Exchanges.{Exchange, AreExchanges, HasAway, after as clock_after, answered, calls, refused, replies}
 use Rattle.ht_tree.specs.Tables.{TablesOf}
 use Rattle.ht_wire.specs.ExampleRequests.{both_stand, first, first_bytes, second, second_bytes}
 use Rattle.ht_wire.specs.Heads.{IsLineByte}
 use Rattle.ht_wire.specs.Replies.{phrase_of, reply_head}
 use Rattle.ht_wire.proofs.PublicLaws.{request_or_end}
-use Rattle.ht_program.specs.declared.ending.Ending.TheVariants as ending
 use Rattle.ht_api.specs.declared.refusal.ApiRefusal.TheVariants.{Person}
-use Rattle.ht_program.specs.Exchanges.{Exchange, AreExchanges, answered, entries, refused, replies}
-use Rattle.ht_program.specs.Folding.{Folds, IsOutput}
+use Rattle.ht_program.specs.Folding.{Decided, Folds, IsOutput}
 use Rattle.ht_program.specs.Running.{Ran, Streams}
-use Rattle.ht_program.specs.Words.{moment_of}
 
--- ---- a legal history, and the exchanges
+-- ---- the exchanges, and the steps that were made
 
 abbrev create : Event
 create = Ask (record { 0 = 2000 }) (codes "p3") None (record { 0 = 0 }) (command.Create None [] None)
@@ -36,18 +37,29 @@ abbrev created : Reply
 created = record { taken = 0; answer = Done (record { 0 = 1 }) Ready None }
 
 -- the first request makes no event, since it says no person; the second is a create
-abbrev exchanges : TablesOf → List Exchange
-exchanges after =
-    record { request = first; moment = 1000; outcome = refused Person }
-    ∷ record { request = second; moment = 2000; outcome = answered (record { pass = 0; event = create; reply = created; after = after }) }
+abbrev exchanges : List Exchange
+exchanges =
+    record { request = first; moment = 1000; closes = false; outcome = refused Person }
+    ∷ record { request = second; moment = 2000; closes = true; outcome = answered (record { event = create; reply = created }) }
     ∷ []
 
-a_legal_history : (t u : TablesOf) → IsStep t create created u → IsHistory t (entries (exchanges u))
-a_legal_history t u step = (step, tt)
+the_steps : (t u : TablesOf) → IsStep t create created u → StepsMade IsStep t u (calls exchanges)
+the_steps t u step = record {
+  history = record { pass = 0; event = create; reply = created; after = u } ∷ [];
+  legal = (step, tt);
+  ends = refl;
+  own_are = refl;
+  calls_are = refl;
+}
 
-two_exchanges : (u : TablesOf) → AreExchanges (moment_of 1000 1000) 0 (exchanges u)
+two_exchanges : AreExchanges false 1048576 (Some (moment_of 1000 1000)) 0 exchanges
 unfolding chars is_utf8 digits serde_json_on_literals
-two_exchanges u = (refl, refl, (refl, (refl, refl), tt))
+two_exchanges = (refl, lit≤ tt, refl, refl, (refl, lit≤ tt, refl, refl, tt))
+
+none_away : HasAway exchanges → ⊥
+none_away (inl away) = away
+none_away (inr (inl away)) = away
+none_away (inr (inr away)) = away
 
 -- ---- the run
 
@@ -60,16 +72,16 @@ second_out = codes "HTTP/1.1 201 Created\r\ncontent-type: application/json\r\nco
 abbrev bytes_out : List ℕ
 bytes_out = first_out ++ second_out
 
-the_bytes_out : (u : TablesOf) → replies (exchanges u) ≡ bytes_out
+the_bytes_out : replies exchanges ≡ bytes_out
 unfolding reply_head phrase_of digits serde_json_on_literals
-the_bytes_out u = refl
+the_bytes_out = refl
 
 -- what the fold over both requests gives
-the_fold : (t u : TablesOf) (left : Option Record) → Decides t create left created u → Folds (moment_of 1000 1000) 0 t (first ∷ second ∷ []) bytes_out
+the_fold : (t u : TablesOf) (left : Option Record) → Decides t create left created u → Folds Decided (moment_of 1000 1000) t (first ∷ second ∷ []) bytes_out
 unfolding chars is_utf8 reply_head phrase_of digits serde_json_on_literals
-the_fold t u left decides = (first_out, t, second_out, (refl, refl), (second_out, u, [], (left, created, decides, refl), refl, refl), refl)
+the_fold t u left decides = (first_out, t, second_out, (refl, refl), (second_out, u, [], (created, (left, decides), refl), refl, refl), refl)
 
-the_output : (t u : TablesOf) (left : Option Record) → Decides t create left created u → IsOutput (moment_of 1000 1000) 1048576 t (first_bytes ++ second_bytes) bytes_out
+the_output : (t u : TablesOf) (left : Option Record) → Decides t create left created u → IsOutput Decided (moment_of 1000 1000) 1048576 t (first_bytes ++ second_bytes) bytes_out
 the_output t u left decides = record {
   asked = first ∷ second ∷ [];
   rest = [];
@@ -96,13 +108,17 @@ after = record {
 
 a_run : (t u : TablesOf) (left : Option Record) → Decides t create left created u → Ran (moment_of 1000 1000) 1048576 t before after ending.Done
 a_run t u left decides = record {
-  exchanges = exchanges u;
   after = u;
-  taken = first_bytes ++ second_bytes;
-  takes = record { left = refl; taken = refl };
-  rest = [];
-  serves = record { stand = both_stand; numbered = two_exchanges u; legal = a_legal_history t u (inl (left, decides)); ends = refl };
-  ends = (inl refl, lit≤ tt, sym (the_bytes_out u));
-  closed = λ _. inr ([], refl, (λ rest whole. request_or_end [] first whole.0 whole.1 (record { short = lit< tt; blank = All-nil IsLineByte })));
-  output = λ settled memory. (bytes_out, the_output t u left decides, refl);
+  clock = clock_after exchanges (Some (moment_of 1000 1000));
+  served = record {
+    exchanges = exchanges;
+    taken = first_bytes ++ second_bytes;
+    takes = record { left = refl; taken = refl };
+    rest = [];
+    serves = record { stand = both_stand; numbered = two_exchanges; made = the_steps t u (inl (left, decides)); away = none_away };
+    clock = refl;
+    ends = (inl (record { closes = refl; needed = inr ([], refl, (λ rest whole. request_or_end [] first whole.0 whole.1 (record { short = lit< tt; blank = All-nil IsLineByte }))) }), lit≤ tt, sym the_bytes_out);
+    later = record { input = lit≤ tt; output = lit≤ tt };
+  };
+  written = λ settled memory. (bytes_out, the_output t u left decides, refl);
 }

@@ -1,57 +1,11 @@
 -- Worked examples of the definitions. A wrong reading of one fails the check.
-use Rattle.std.specs.Prelude.{◌≡◌, refl, [], ◌∷◌, Some, None, codes, false, true}
+use Rattle.std.specs.Prelude.{◌≡◌, refl, [], ◌∷◌, Some, codes, false, true}
 use Rattle.std.specs.Fmt.{digits}
-use Rattle.serde_json.proofs.OnLiterals.{serde_json_on_literals}
-use Rattle.ht_base.specs.declared.event.Event.TheVariants.{Ask}
-use Rattle.ht_base.specs.declared.event.Command.TheVariants as command
-use Rattle.ht_base.specs.declared.reply.Answer.TheVariants.{Done, Refused}
-use Rattle.ht_base.specs.declared.reply.Limit.TheVariants.{Tasks}
-use Rattle.ht_base.specs.declared.reply.Refusal.TheVariants as refusal
-use Rattle.ht_base.specs.declared.state.State.TheVariants.{Ready, Reserved}
 use Rattle.ht_people.specs.declared.refusal.PeopleRefusal.TheVariants.{Cycle, Limit}
 use Rattle.ht_program.specs.declared.opening.TextsFault.TheVariants.{People, TooLong, Unread}
 use Rattle.ht_program.specs.declared.opening.Which.TheVariants as which
 use Rattle.ht_program.specs.Opening.{fault_line}
-use Rattle.ht_program.specs.Texts.{memory_text, refusal_text, refused_text, reply_status}
-use Rattle.ht_program.specs.Words.{are_options, moment_of, value_of}
-
-a_created_task : reply_status (Ask (record { 0 = 1000 }) (codes "p3") None (record { 0 = 0 }) (command.Create None [] None)) (Done (record { 0 = 1 }) Ready None) ≡ 201
-a_created_task = refl
-
-a_sub_task_made : reply_status (Ask (record { 0 = 1000 }) (codes "anna") None (record { 0 = 1 }) (command.InstantiateSubTask (codes "x"))) (Done (record { 0 = 2 }) Ready None) ≡ 201
-a_sub_task_made = refl
-
-a_refused_create : reply_status (Ask (record { 0 = 1000 }) (codes "p3") None (record { 0 = 0 }) (command.Create None [] None)) (Refused (refusal.Limit Tasks)) ≡ 507
-a_refused_create = refl
-
-a_claimed_task : reply_status (Ask (record { 0 = 1000 }) (codes "p3") None (record { 0 = 1 }) command.Claim) (Done (record { 0 = 1 }) Reserved (Some (codes "p3"))) ≡ 200
-a_claimed_task = refl
-
-no_memory : memory_text ≡ codes "{\"fault\":\"Memory\"}"
-unfolding refusal_text serde_json_on_literals
-no_memory = refl
-
-the_third_moment : moment_of 1000 1000 2 ≡ 3000
-the_third_moment = refl
-
-moments_end : moment_of 1 253402300799999 1 ≡ 253402300799999
-moments_end = refl
-
-no_head : refused_text 400 ≡ codes "{\"fault\":\"Head\"}"
-unfolding refusal_text serde_json_on_literals
-no_head = refl
-
-too_long : refused_text 431 ≡ codes "{\"fault\":\"Fields\"}"
-unfolding refusal_text serde_json_on_literals
-too_long = refl
-
-too_long_a_body : refused_text 413 ≡ codes "{\"fault\":\"Body\"}"
-unfolding refusal_text serde_json_on_literals
-too_long_a_body = refl
-
-a_coded_body : refused_text 501 ≡ codes "{\"fault\":\"Coding\"}"
-unfolding refusal_text serde_json_on_literals
-a_coded_body = refl
+use Rattle.ht_program.specs.Words.{are_options, value_of}
 
 -- ---- words
 

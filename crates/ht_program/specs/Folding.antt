@@ -6,9 +6,10 @@ use Rattle.ht_base.specs.declared.record.Record.{Record}
 use Rattle.ht_base.specs.declared.reply.Answer.TheVariants.{Refused}
 use Rattle.ht_base.specs.declared.reply.Reply.{Reply}
 use Rattle.ht_machine.specs.Deciding.{Decides}
+use Rattle.ht_outside.specs.Clocks.{moment_of}
 use Rattle.ht_tree.specs.Tables.{RoomyTables, TablesOf}
 use Rattle.ht_wire.specs.declared.request.Request.{Request}
-use Rattle.ht_wire.specs.Heads.{IsCorner, IsEnd}
+use Rattle.ht_wire.specs.Heads.{IsEnd}
 use Rattle.ht_wire.specs.Replies.{reply_bytes}
 use Rattle.ht_wire.specs.Requests.{AreRequests, IsRefused}
 use Rattle.ht_api.specs.declared.refusal.ApiRefusal.{ApiRefusal}
@@ -16,30 +17,39 @@ use Rattle.ht_api.specs.Events.{event_due}
 use Rattle.ht_api.specs.Refusals.{refusal_of}
 use Rattle.ht_api.specs.Replies.{answer_text}
 use Rattle.ht_api.specs.Statuses.{refusal_status}
-use Rattle.ht_program.specs.Inputs.{Close, GoOn, budget}
+use Rattle.ht_serve.specs.Closing.{Close, GoOn}
+use Rattle.ht_serve.specs.Texts.{refusal_bytes, reply_status}
+use Rattle.ht_program.specs.Inputs.{budget, lasts}
 use Rattle.ht_program.specs.Opening.{Opens}
-use Rattle.ht_program.specs.Texts.{refusal_bytes, reply_status}
-use Rattle.ht_program.specs.Words.{IsRun, moment_of}
+use Rattle.ht_program.specs.Words.{IsRun}
 
--- ---- one request
+-- what the task machine decides of an event, apart from want of memory
+abbrev pub Decided : TablesOf → Event → Reply → TablesOf → Type 0
+Decided old event reply new = (left : Option Record) × Decides old event left reply new
 
--- the bytes of its reply and the tables after it: the refusal of a request that makes no event, or
--- what the machine decides of its event
-abbrev pub RepliesTo : TablesOf → Request → Result Event ApiRefusal → List ℕ → TablesOf → Type 0
-RepliesTo t r (Err why) bytes after =
-    (bytes ≡ reply_bytes (refusal_status (refusal_of why)) (answer_text (Refused (refusal_of why))) r.last) × (after ≡ t)
-RepliesTo t r (Ok e) bytes after =
-    (left : Option Record) × (reply : Reply) × Decides t e left reply after
-    × (bytes ≡ reply_bytes (reply_status e reply.answer) (answer_text reply.answer) r.last)
+-- Of any machine, by what its steps are.
+module _ {S : Type 0} (Step : S → Event → Reply → S → Type 0) where
+  -- ---- one request
 
--- ---- requests one behind another, from number k on
+  -- the bytes of its reply and the state after it: the refusal of a request that makes no event, or
+  -- what a step makes of its event
+  abbrev pub RepliesTo : S → Request → Result Event ApiRefusal → List ℕ → S → Type 0
+  RepliesTo s r (Err why) bytes after =
+      (bytes ≡ reply_bytes (refusal_status (refusal_of why)) (answer_text (Refused (refusal_of why))) r.last) × (after ≡ s)
+  RepliesTo s r (Ok e) bytes after =
+      (reply : Reply) × Step s e reply after × (bytes ≡ reply_bytes (reply_status e reply.answer) (answer_text reply.answer) r.last)
 
--- each makes its event at the moment of its number, on the tables that the one before it left
-abbrev pub Folds : (ℕ → ℕ) → ℕ → TablesOf → List Request → List ℕ → Type 0
-Folds moment k t [] bytes = bytes ≡ []
-Folds moment k t (r ∷ rs) bytes =
-    (first : List ℕ) × (after : TablesOf) × (others : List ℕ)
-    × RepliesTo t r (event_due r (moment k)) first after × Folds moment (k + 1) after rs others × (bytes ≡ first ++ others)
+  -- ---- requests one behind another
+
+  -- each makes its event at its moment, of which `moment` has the kth for each k, in the state that the
+  -- one before it left
+  abbrev pub Folds : (ℕ → ℕ) → S → List Request → List ℕ → Type 0
+  Folds moment s [] bytes = bytes ≡ []
+  Folds moment s (r ∷ rs) bytes =
+      (first : List ℕ) × (after : S) × (others : List ℕ)
+      × RepliesTo s r (event_due r (moment 0)) first after
+      × Folds (λ k. moment (k + 1)) after rs others
+      × (bytes ≡ first ++ others)
 
 -- ---- the bytes read
 
@@ -47,28 +57,30 @@ Folds moment k t (r ∷ rs) bytes =
 -- are as many as may be. Nothing is written behind their replies.
 abbrev pub AreAll : ℕ → List Request → List ℕ → Type 0
 AreAll most asked rest =
-    ((length asked ≤ most) × (Close asked ⊎ (GoOn asked × IsEnd rest))) ⊎ (GoOn asked × (length asked ≡ most))
+    ((length asked ≤ most) × (Close (lasts asked) ⊎ (GoOn (lasts asked) × IsEnd rest))) ⊎ (GoOn (lasts asked) × (length asked ≡ most))
 
 -- or the rest is refused, and its refusal is written
 abbrev pub IsBehind : ℕ → List Request → List ℕ → List ℕ → Type 0
 IsBehind most asked rest tail =
     ((tail ≡ []) × AreAll most asked rest)
-    ⊎ (GoOn asked × (length asked < most) × ((code : ℕ) × IsRefused rest code × (tail ≡ refusal_bytes code)))
+    ⊎ (GoOn (lasts asked) × (length asked < most) × ((code : ℕ) × IsRefused rest code × (tail ≡ refusal_bytes code)))
 
--- what is written of these bytes, over these tables
-pub record IsOutput (moment : ℕ → ℕ) (most : ℕ) (t : TablesOf) (bytes out : List ℕ) : Type 0 where
+-- what is written of these bytes, by steps from this state on
+pub record IsOutput {S : Type 0} (Step : S → Event → Reply → S → Type 0) (moment : ℕ → ℕ) (most : ℕ) (s : S) (bytes out : List ℕ) : Type 0 where
   pub asked : List Request
   pub rest : List ℕ
   pub stand : AreRequests bytes asked rest
   pub replies : List ℕ
-  pub folds : Folds moment 0 t asked replies
+  pub folds : Folds Step moment s asked replies
   pub tail : List ℕ
   pub behind : IsBehind most asked rest tail
   pub all : out ≡ replies ++ tail
 
--- behind none of the requests that stand in front 431 and 400 are both right
-abbrev pub HasNoCorner : List ℕ → Type 0
-HasNoCorner bytes = (asked : List Request) (rest : List ℕ) → AreRequests bytes asked rest → IsCorner rest → ⊥
+-- what stands behind requests, none of which closes the connection, isn't refused both as a head that is
+-- too long, 431, and as none, 400
+abbrev pub IsRefusedOneWay : List ℕ → Type 0
+IsRefusedOneWay bytes =
+    (asked : List Request) (rest : List ℕ) → AreRequests bytes asked rest → GoOn (lasts asked) → IsRefused rest 431 → IsRefused rest 400 → ⊥
 
 -- ---- the words and the texts
 
@@ -80,4 +92,4 @@ pub record IsOutputOf (words : List (List ℕ)) (told : List ℕ → List ℕ) (
   pub run : IsRun words from step names
   pub tables : RoomyTables
   pub opens : Opens names (Some told) (Ok tables)
-  pub output : IsOutput (moment_of from step) budget tables.tables bytes out
+  pub output : IsOutput Decided (moment_of from step) budget tables.tables bytes out

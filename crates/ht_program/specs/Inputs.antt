@@ -1,24 +1,18 @@
 -- How the input of a run ends. The statuses 0, 1 and 9 are each exactly for one of these ways.
-use Rattle.std.specs.Prelude.{◌≡◌, ◌⊎◌, ◌↔◌, ℕ, ◌<◌, ◌≤◌, true, false, List, [], ◌∷◌, length, Option, Some, None, ⊤}
+use Rattle.std.specs.Prelude.{◌≡◌, ◌⊎◌, ◌↔◌, ℕ, ◌<◌, ◌≤◌, Bool, List, length, map, Option, Some, None, ⊤}
 use Rattle.ht_outside.specs.Tells.{Flow}
 use Rattle.ht_wire.specs.declared.request.Request.{Request}
 use Rattle.ht_wire.specs.Heads.{IsEnd}
 use Rattle.ht_wire.specs.Requests.{AreRequests, IsRefused}
+use Rattle.ht_serve.specs.Closing.{GoOn, Close}
 
 -- the most requests of one run
 abbrev pub budget : ℕ
 budget = 1048576
 
--- no request is the last of its connection
-abbrev pub GoOn : List Request → Type 0
-GoOn [] = Unit {0}
-GoOn (r ∷ rs) = (r.last ≡ false) × GoOn rs
-
--- there is a last request, and the list ends with it
-abbrev pub Close : List Request → Type 0
-Close [] = ⊥
-Close (r ∷ []) = r.last ≡ true
-Close (r ∷ q ∷ rs) = Close (q ∷ rs)
+-- which of these requests is the last of its connection
+abbrev pub lasts : List Request → List Bool
+lasts rs = map (λ r. r.last) rs
 
 -- the input is requests and their end, or requests of which one closes the connection
 pub record IsWhole (most : ℕ) (input : List ℕ) : Type 0 where
@@ -26,7 +20,7 @@ pub record IsWhole (most : ℕ) (input : List ℕ) : Type 0 where
   pub rest : List ℕ
   pub stand : AreRequests input asked rest
   pub few : length asked ≤ most
-  pub ends : Close asked ⊎ (GoOn asked × IsEnd rest)
+  pub ends : Close (lasts asked) ⊎ (GoOn (lasts asked) × IsEnd rest)
 
 -- behind some requests something is refused
 pub record IsBroken (most : ℕ) (input : List ℕ) : Type 0 where
@@ -34,7 +28,7 @@ pub record IsBroken (most : ℕ) (input : List ℕ) : Type 0 where
   pub rest : List ℕ
   pub stand : AreRequests input asked rest
   pub few : length asked < most
-  pub open_still : GoOn asked
+  pub open_still : GoOn (lasts asked)
   pub code : ℕ
   pub refused : IsRefused rest code
 
@@ -44,7 +38,7 @@ pub record IsTooMuch (most : ℕ) (input : List ℕ) : Type 0 where
   pub rest : List ℕ
   pub stand : AreRequests input asked rest
   pub all : length asked ≡ most
-  pub open_still : GoOn asked
+  pub open_still : GoOn (lasts asked)
   pub more : IsEnd rest → ⊥
 
 -- the status of a run of at most so many requests that had no fault and memory enough, over an input

@@ -1,14 +1,10 @@
-pub mod Answering
 pub mod BuiltIn
 pub mod Examples
 pub mod ExampleRun
-pub mod Exchanges
 pub mod Folding
 pub mod Inputs
 pub mod Named
 pub mod Office
 pub mod Opening
 pub mod Running
-pub mod Serving
-pub mod Texts
 pub mod Words

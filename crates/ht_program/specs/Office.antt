@@ -3,7 +3,7 @@ use Rattle.std.specs.Prelude.{◌≡◌, ◌⊎◌, ℕ, List, [], Option, Ok, E
 use Rattle.ht_outside.specs.Tells.{SourceState, SinkState}
 use Rattle.ht_outside.specs.Texts.{TextsState}
 use Rattle.ht_tree.specs.Tables.{RoomyTables}
-use Rattle.ht_program.specs.declared.ending.Ending.{Ending}
+use Rattle.ht_serve.specs.declared.ending.Ending.{Ending}
 use Rattle.ht_program.specs.declared.opening.TextsFault.{TextsFault}
 use Rattle.ht_program.specs.Opening.{AsksFor, Opens, fault_line, fault_status}
 use Rattle.ht_program.specs.Running.{Complains, Ran, Streams, ending_line, ending_status, streams}

@@ -1,6 +1,7 @@
 -- What the two texts of an office give: tables without tasks, or why there are none; and which texts
 -- are asked for.
 use Rattle.std.specs.Prelude.{◌≡◌, ◌⊎◌, ℕ, ◌<◌, ◌≤◌, List, [], ◌∷◌, ◌++◌, length, map, Option, Some, None, Result, Ok, Err, IsErrAnd, MatchResult, OnOk, ⊤, codes, decimal}
+use Rattle.ht_base.specs.declared.limits.TheConstants.{LONGEST_OFFICE_TEXT}
 use Rattle.ht_outside.specs.Causes.{Rose}
 use Rattle.ht_outside.specs.Texts.{TextsState}
 use Rattle.ht_outside.specs.declared.asked.Asked.{Asked}
@@ -23,23 +24,19 @@ use Rattle.ht_program.specs.declared.opening.Which.{Which}
 use Rattle.ht_program.specs.declared.opening.Which.TheVariants as which
 use Rattle.ht_program.specs.BuiltIn.{built_in_tables}
 
--- the most bytes of a text
-abbrev pub text_limit : ℕ
-text_limit = 262144
-
 -- ---- one text
 
 -- a text can't be read, is too long, or there is no memory for it
 abbrev pub IsMissing : Which → List ℕ → TextsFault → Type 0
 IsMissing w text (Unread v) = v ≡ w
-IsMissing w text (TooLong v) = (v ≡ w) × (text_limit < length text)
+IsMissing w text (TooLong v) = (v ≡ w) × (LONGEST_OFFICE_TEXT < length text)
 IsMissing w text (Models why) = ⊥
 IsMissing w text (People why) = ⊥
 IsMissing w text Memory = ⊤
 
 -- a text was read whole, or it is missing
 abbrev pub Gives : Which → List ℕ → Result BytesOf TextsFault → Type 0
-Gives w text result = MatchResult result (λ bytes. (bytes.items ≡ text) × (length text ≤ text_limit)) (IsMissing w text)
+Gives w text result = MatchResult result (λ bytes. (bytes.items ≡ text) × (length text ≤ LONGEST_OFFICE_TEXT)) (IsMissing w text)
 
 -- ---- both texts
 
@@ -57,7 +54,7 @@ Judges m p (Err Memory) = ⊤
 abbrev pub OpensText : List ℕ → List ℕ → Result RoomyTables TextsFault → Type 0
 OpensText m p result =
     IsErrAnd result (IsMissing which.Models m)
-    ⊎ ((length m ≤ text_limit) × (IsErrAnd result (IsMissing which.People p) ⊎ ((length p ≤ text_limit) × Judges m p result)))
+    ⊎ ((length m ≤ LONGEST_OFFICE_TEXT) × (IsErrAnd result (IsMissing which.People p) ⊎ ((length p ≤ LONGEST_OFFICE_TEXT) × Judges m p result)))
 
 abbrev pub OpensBuiltIn : Result RoomyTables TextsFault → Type 0
 OpensBuiltIn (Ok t) = t.tables ≡ built_in_tables
@@ -84,12 +81,6 @@ Opens (Some names) told result =
     (models : List ℕ) × (people : List ℕ) × IsTextOf told names.0 models × IsTextOf told names.1 people × OpensText models people result
 
 -- ---- which texts were asked for
-
--- one read was noted, unless there was no memory
-abbrev pub IsAsked : {T : Type 0} → List ℕ → TextsState → TextsState → Result T TextsFault → Type 0
-IsAsked name old new result =
-    (new.asked ≡ old.asked ++ record { name = name; before = old.faults } ∷ [])
-    ⊎ ((result ≡ Err Memory) × (new.asked ≡ old.asked))
 
 -- the last of these reads was of this name, and failed: the count of faults rose in it
 pub record LastFailed (reads : List Asked) (name : List ℕ) (before now : ℕ) : Type 0 where
@@ -122,7 +113,7 @@ AsksFor (Some names) old new result = Asks names old new result
 -- something is wrong with one of two texts
 abbrev pub AreWrong : List ℕ → List ℕ → Type 0
 AreWrong m p =
-    ((text_limit < length m) ⊎ (text_limit < length p))
+    ((LONGEST_OFFICE_TEXT < length m) ⊎ (LONGEST_OFFICE_TEXT < length p))
     ⊎ (((why : ModelsRefusal) × Holds (models_wrong.refusals m) why) ⊎ ((why : PeopleRefusal) × Holds (people_wrong.refusals p) why))
 
 -- ---- the fault of a refusal
@@ -135,10 +126,9 @@ abbrev pub people_fault : PeopleRefusal → TextsFault
 people_fault people.Memory = Memory
 people_fault why = People why
 
--- that a text couldn't be read has a cause, and the count never falls
-pub record HasTextsCause {T : Type 0} (before now : ℕ) (result : Result T TextsFault) : Type 0 where
-  pub later : before ≤ now
-  pub unread : (w : Which) → result ≡ Err (Unread w) → Rose before now
+-- the answer is that one of the texts couldn't be read
+abbrev pub IsUnread : {T : Type 0} → Result T TextsFault → Type 0
+IsUnread result = (w : Which) × (result ≡ Err (Unread w))
 
 -- ---- statuses and lines
 

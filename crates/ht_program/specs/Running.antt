@@ -1,20 +1,15 @@
--- What a run does to a connection, and how it ends.
-use Rattle.std.specs.Prelude.{◌≡◌, ◌≢◌, ◌⊎◌, ℕ, ◌<◌, ◌≤◌, true, List, [], ◌∷◌, ◌++◌, length, Option, Some, None, ⊤, codes, decimal}
-use Rattle.ht_base.specs.History.{end_of}
+-- What a run does to a connection, and how it is told.
+use Rattle.std.specs.Prelude.{◌≡◌, ◌≢◌, ◌⊎◌, ℕ, false, List, [], ◌∷◌, ◌++◌, Option, Some, codes, decimal}
 use Rattle.ht_outside.specs.Causes.{Rose}
-use Rattle.ht_outside.specs.Tells.{Flow, SourceState, SinkState, Takes, Grows, GrowsPart}
-use Rattle.ht_machine.specs.History.{IsHistory}
+use Rattle.ht_outside.specs.Tells.{SourceState, SinkState, Grows}
+use Rattle.ht_machine.specs.History.{IsStep}
+use Rattle.ht_serve.specs.declared.ending.Ending.{Ending}
+use Rattle.ht_serve.specs.declared.ending.Ending.TheVariants.{Done, Wire, Budget, ReadFault, WriteFault, Memory}
+use Rattle.ht_serve.specs.Calls.{StepsMade}
+use Rattle.ht_serve.specs.Exchanges.{Exchange, status_of}
+use Rattle.ht_serve.specs.Serving.{Served, sides}
 use Rattle.ht_tree.specs.Tables.{TablesOf}
-use Rattle.ht_wire.specs.Heads.{IsEnd}
-use Rattle.ht_wire.specs.Reading.{EndsAt, LastReadWhere, RefusedAt}
-use Rattle.ht_wire.specs.Requests.{AreRequests, IsUnfinished}
-use Rattle.ht_wire.specs.declared.request.Request.{Request}
-use Rattle.ht_program.specs.declared.ending.Ending.{Ending}
-use Rattle.ht_program.specs.declared.ending.Ending.TheVariants.{Done, Wire, Budget, ReadFault, WriteFault, Memory}
-use Rattle.ht_program.specs.Exchanges.{Exchange, AreExchanges, entries, replies, requests, status_of}
-use Rattle.ht_program.specs.Folding.{IsOutput}
-use Rattle.ht_program.specs.Inputs.{GoOn, Close}
-use Rattle.ht_program.specs.Texts.{refusal_bytes}
+use Rattle.ht_program.specs.Folding.{Decided, IsOutput}
 
 -- what the two ends of a connection tell
 pub record Streams : Type 0 where
@@ -23,50 +18,6 @@ pub record Streams : Type 0 where
 
 abbrev pub streams : SourceState → SinkState → Streams
 streams input output = record { input = input; output = output }
-
--- These exchanges were made, from number k on. Their requests stand in the bytes, in order, and rest
--- behind them; their entries are a legal history from t to u.
-pub record Serves (moment : ℕ → ℕ) (k : ℕ) (t u : TablesOf) (bytes rest : List ℕ) (xs : List Exchange) : Type 0 where
-  pub stand : AreRequests bytes (requests xs) rest
-  pub numbered : AreExchanges moment k xs
-  pub legal : IsHistory t (entries xs)
-  pub ends : end_of t (entries xs) ≡ u
-
--- nothing, or the refusal of what follows requests that go on and are fewer than the most
-abbrev pub IsTail : ℕ → ℕ → Option Flow → List ℕ → List Exchange → List ℕ → Type 0
-IsTail most n g rest xs tail =
-    (tail ≡ []) ⊎ (GoOn (requests xs) × (n < most) × ((code : ℕ) × RefusedAt g rest code × (tail ≡ refusal_bytes code)))
-
--- the bytes read, and those that the source has left, are not the end of the requests
-abbrev pub IsMoreAt : Option Flow → List ℕ → Type 0
-IsMoreAt None bytes = ⊤
-IsMoreAt (Some flow) bytes = IsEnd (bytes ++ flow.left) → ⊥
-
--- Where a connection ends behind n exchanges, of which xs are the last, and what was written of
--- these. The most requests that a run answers are `most`, and rest is what was read behind them.
-abbrev pub EndsAs : ℕ → ℕ → Ending → Streams → Streams → List ℕ → List Exchange → Type 0
-EndsAs most n Done old new rest xs =
-    (Close (requests xs) ⊎ (GoOn (requests xs) × EndsAt new.input.flow rest))
-    × (n ≤ most)
-    × Grows old.output.written new.output.written (replies xs)
-EndsAs most n (Wire code) old new rest xs =
-    GoOn (requests xs)
-    × (n < most)
-    × RefusedAt new.input.flow rest code
-    × Grows old.output.written new.output.written (replies xs ++ refusal_bytes code)
-EndsAs most n Budget old new rest xs =
-    GoOn (requests xs) × (n ≡ most) × IsMoreAt new.input.flow rest × Grows old.output.written new.output.written (replies xs)
-EndsAs most n ReadFault old new rest xs =
-    GoOn (requests xs) × (n ≤ most) × IsUnfinished rest × Grows old.output.written new.output.written (replies xs)
-EndsAs most n WriteFault old new rest xs =
-    (n ≤ most)
-    × ((tail : List ℕ) × IsTail most n new.input.flow rest xs tail × GrowsPart old.output.written new.output.written (replies xs ++ tail))
-EndsAs most n Memory old new rest xs =
-    GoOn (requests xs) × (n ≤ most) × Grows old.output.written new.output.written (replies xs)
-
--- not all of these requests stand whole in the bytes
-abbrev pub AreNotWhole : List Request → List ℕ → Type 0
-AreNotWhole asked bytes = (rest : List ℕ) → AreRequests bytes asked rest → ⊥
 
 -- a run ended without a fault, and without want of memory
 abbrev pub IsSettled : Ending → Type 0
@@ -82,20 +33,15 @@ abbrev pub HaveMemory : List Exchange → Type 0
 HaveMemory [] = Unit {0}
 HaveMemory (x ∷ xs) = (status_of x.outcome ≢ 500) × HaveMemory xs
 
--- A connection was served from these tables to its ending. Where the last request closes it, no read
--- was made behind that request.
+-- A connection was served to its ending, at these moments, by the task machine over these tables. No
+-- request was turned away.
 pub record Ran (moment : ℕ → ℕ) (most : ℕ) (t : TablesOf) (old new : Streams) (ending : Ending) : Type 0 where
-  pub exchanges : List Exchange
   pub after : TablesOf
-  pub taken : List ℕ
-  pub takes : Takes old.input.flow new.input.flow taken
-  pub rest : List ℕ
-  pub serves : Serves moment 0 t after taken rest exchanges
-  pub ends : EndsAs most (length exchanges) ending old new rest exchanges
-  pub closed : Close (requests exchanges) → LastReadWhere (AreNotWhole (requests exchanges)) old.input.flow new.input.flow []
+  pub clock : Option (ℕ → ℕ)
+  pub served : Served (StepsMade IsStep t after) ⊥ false most 0 (sides old.input old.output (Some moment)) (sides new.input new.output clock) [] ending
   -- without a fault, and with memory for each reply, what was written is a function of the bytes read
-  pub output : IsSettled ending → HaveMemory exchanges
-      → (out : List ℕ) × IsOutput moment most t taken out × Grows old.output.written new.output.written out
+  pub written : IsSettled ending → HaveMemory served.exchanges
+      → (out : List ℕ) × IsOutput Decided moment most t served.taken out × Grows old.output.written new.output.written out
 
 -- the status of an ending
 abbrev pub ending_status : Ending → ℕ

@@ -1,5 +1,5 @@
 -- The words of the command line: the command run, and then its options.
-use Rattle.std.specs.Prelude.{◌≡◌, ℕ, ◌+◌, ◌*◌, ◌≤◌, ◌==◌, min, Bool, true, false, not, ◌&&◌, List, [], ◌∷◌, Option, Some, None, is_none, bytes_eq, codes, decimal, if◌then◌else◌, ⊤}
+use Rattle.std.specs.Prelude.{◌≡◌, ℕ, ◌≤◌, ◌==◌, Bool, true, false, not, ◌&&◌, List, [], ◌∷◌, Option, Some, None, is_none, bytes_eq, codes, decimal, if◌then◌else◌, ⊤}
 use Rattle.std.specs.List.{list_any}
 use Rattle.ht_base.specs.Moment.{last_moment}
 
@@ -55,7 +55,3 @@ pub record IsRun (words : List (List ℕ)) (from step : ℕ) (texts : Option (Li
   pub step_given : value_of (codes "--step") options ≡ Some step_word
   pub step_is : IsNumber step_word step
   pub texts_are : AreTexts (value_of (codes "--models") options) (value_of (codes "--people") options) texts
-
--- the moment of request number k, counted from 0
-abbrev pub moment_of : ℕ → ℕ → ℕ → ℕ
-moment_of from step k = min (from + k * step) last_moment

@@ -1,16 +1,15 @@
-//! The whole program `office` over its words, texts and streams: the words of the command line, the loop
-//! over one connection, and the top call.
+//! The whole program `office` over its words, texts and streams: the words of the command line, the task
+//! machine in memory with its connection, and the top call.
 #![tactic(auto)]
 
 mod connection;
-mod ending;
 mod fault_lines;
 mod laws;
+mod machine;
 mod numbers;
 mod office_tables;
 mod opening;
 mod status;
-mod texts;
 mod top_call;
 mod words;
 

@@ -1,20 +1,19 @@
-ghost use Rattle.std.specs.Prelude.{◌≡◌, IfNone, option_map};
+ghost use Rattle.std.specs.Prelude.{◌≡◌, Err, IfNone, option_map};
+ghost use Rattle.ht_outside.specs.Causes.{RoseWhere};
+ghost use Rattle.ht_outside.specs.Texts.{IsNoted};
 ghost use Rattle.ht_program.specs.Named.{pair_of};
 ghost use Rattle.ht_program.specs.Opening as spec;
-ghost use Rattle.ht_program.specs.Opening.{AsksFor, HasTextsCause, IsAsked, Judges, Opens, ReadsText};
+ghost use Rattle.ht_program.specs.Opening.{AsksFor, IsUnread, Judges, Opens, ReadsText};
 
 use crate::office_tables::built_in_tables;
 use crate::words::Named;
-use ht_base::{Bytes, Memory};
+use ht_base::{Bytes, LONGEST_OFFICE_TEXT, Memory};
 use ht_models::{Models, ModelsRefusal};
 use ht_outside::{TextFault, Texts};
 use ht_people::{Directory, PeopleRefusal};
 use ht_tree::Tables;
 use std::alloc::Global;
 use thiserror::Error;
-
-/// The most bytes of a text.
-const TEXT_LIMIT: u32 = 262_144;
 
 /// One of the two texts of an office.
 #[derive(Clone, Copy, Debug)]
@@ -60,7 +59,7 @@ pub(crate) fn open<X: Texts>(
     ensures opens { Opens (option_map pair_of named.entry) (X.texts_state texts.old).texts result }
     ensures asks { AsksFor (option_map pair_of named.entry) (X.texts_state texts.old) (X.texts_state texts.new) result }
     ensures built_in { IfNone named.entry (texts.new ≡ texts.old) }
-    ensures cause { HasTextsCause (X.texts_state texts.old).faults (X.texts_state texts.new).faults result }
+    ensures cause { RoseWhere (IsUnread result) (X.texts_state texts.old).faults (X.texts_state texts.new).faults }
 {
     let Some(named) = named else {
         return Ok(built_in_tables(alloc)?);
@@ -79,10 +78,10 @@ fn text_of<X: Texts>(
 ) -> Result<Bytes, TextsFault>
     ensures text { ReadsText which (X.texts_state texts.old).texts name.now result }
     ensures kept { (X.texts_state texts.new).texts ≡ (X.texts_state texts.old).texts }
-    ensures asked { IsAsked name.now (X.texts_state texts.old) (X.texts_state texts.new) result }
-    ensures cause { HasTextsCause (X.texts_state texts.old).faults (X.texts_state texts.new).faults result }
+    ensures asked { IsNoted (result ≡ Err TextsFault.Memory) name.now (X.texts_state texts.old) (X.texts_state texts.new) }
+    ensures cause { RoseWhere (IsUnread result) (X.texts_state texts.old).faults (X.texts_state texts.new).faults }
 {
-    match texts.read(alloc, name, TEXT_LIMIT) {
+    match texts.read(alloc, name, LONGEST_OFFICE_TEXT) {
         Ok(bytes) => Ok(bytes),
         Err(TextFault::Failed) => Err(TextsFault::Unread(which)),
         Err(TextFault::TooLong) => Err(TextsFault::TooLong(which)),

@@ -2,8 +2,8 @@ ghost use Rattle.std.specs.Prelude.{◌≡◌, ◌≢◌, ◌+◌, ◌≤◌, []
 ghost use Rattle.std.specs.Process.{exit_status};
 ghost use Rattle.ht_program.specs.Running.{ending_line, ending_status};
 
-use crate::ending::Ending;
 use arrayvec::ArrayVec;
+use ht_serve::Ending;
 use std::process::ExitCode;
 
 /// The exit status of the program: 0 done, 1 a request that can't be read, 2 wrong words, 3 a text

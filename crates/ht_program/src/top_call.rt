@@ -1,20 +1,21 @@
 ghost use Rattle.std.specs.Prelude.{◌≡◌, ◌≢◌, ◌⊎◌, ◌↔◌, ◌++◌, ℕ, [], List, None, Option, Some, IfSome, codes, map, option_map, string_bytes, unwrap_or};
 ghost use Rattle.ht_outside.specs.Causes.{Rose};
+ghost use Rattle.ht_outside.specs.Clocks.{moment_of};
 ghost use Rattle.ht_program.specs.Inputs.{IsAnswered, IsStatusOf, budget};
 ghost use Rattle.ht_program.specs.Named.{pair_of};
 ghost use Rattle.ht_program.specs.Opening as opening;
 ghost use Rattle.ht_program.specs.Office.{RunsOffice, outside};
 ghost use Rattle.ht_program.specs.Opening.{AreWrong};
 ghost use Rattle.ht_program.specs.Running.{Complains, usage_line};
-ghost use Rattle.ht_program.specs.Words.{IsRun, moment_of};
+ghost use Rattle.ht_program.specs.Words.{IsRun};
 
 use crate::connection::serve;
-use crate::ending::Ending;
 use crate::fault_lines::{fault_line, fault_status};
 use crate::opening::{TextsFault, Which, open};
 use crate::status::{Status, USAGE_LINE, line_of, status_of};
 use crate::words::{Named, run_of};
 use ht_outside::{Failed, Sink, Source, Texts};
+use ht_serve::Ending;
 use std::alloc::Global;
 
 /// The whole program over its words, its texts, its input, its output and its complaints.

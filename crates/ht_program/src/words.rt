@@ -2,11 +2,12 @@ ghost use Rattle.std.specs.Prelude.{◌≡◌, ◌≤◌, ℕ, List, Option, Som
 ghost use Rattle.std.specs.List.{list_any};
 ghost use Rattle.ht_base.specs.Moment.{last_moment};
 ghost use Rattle.ht_program.specs.Words as spec;
-ghost use Rattle.ht_program.specs.Words.{AreTexts, IsNumber, IsRun, moment_of};
+ghost use Rattle.ht_program.specs.Words.{AreTexts, IsNumber, IsRun};
 ghost use Rattle.ht_program.specs.Named.{pair_of};
 
 use crate::numbers::decimal_of;
 use ht_base::{LAST, Moment};
+use ht_outside::StepClock;
 
 const OPTIONS: [&[u8]; 4] = [b"--from", b"--step", b"--models", b"--people"];
 
@@ -20,13 +21,15 @@ pub struct Run {
 }
 
 impl Run {
-    /// The moment of a request.
-    pub(crate) fn moment(&self, number: u64) -> Moment
-        ensures value { result.0 ≡ moment_of self.now.from self.now.step number }
-        ensures small { result.0 ≤ last_moment }
+    /// The clock that gives these moments.
+    pub(crate) fn clock(&self) -> StepClock
+        ensures next { result.next.0 ≡ self.now.from }
+        ensures step { result.step ≡ self.now.step }
     {
-        let later = number.saturating_mul(self.step);
-        Moment(self.from).later_by(later)
+        StepClock {
+            next: Moment(self.from),
+            step: self.step,
+        }
     }
 }
 

@@ -88,9 +88,10 @@ pub fn list<T: Shape>(alloc: Global, table: &Table, key: &str) -> Result<Vec<T>,
     }
 }
 
-/// What the word at a key means, which must be one of these.
+/// What the word at a key means, which must be one of these. No memory is taken for it.
 pub fn word<T: Copy>(table: &Table, key: &str, words: &[(&str, T)]) -> Result<T, Misfit>
     ensures ok { IfOk result (λ value. spec.required (word_of (map (λ w. (w.0.now, w.1)) words.now)) key.now (table_view table.now) ≡ Some value) }
+    ensures shape { IfErr result (λ e. e ≡ Misfit.Shape) }
     ensures misfit { IfErr result (λ e. spec.required (word_of (map (λ w. (w.0.now, w.1)) words.now)) key.now (table_view table.now) ≡ None) }
 {
     let Some(value) = value_at(table, key) else {
@@ -102,13 +103,14 @@ pub fn word<T: Copy>(table: &Table, key: &str, words: &[(&str, T)]) -> Result<T,
     }
 }
 
-/// What the word at a key means, if the key is there.
+/// What the word at a key means, if the key is there. No memory is taken for it.
 pub fn word_if_any<T: Copy>(
     table: &Table,
     key: &str,
     words: &[(&str, T)],
 ) -> Result<Option<T>, Misfit>
     ensures ok { IfOk result (λ value. spec.optional (word_of (map (λ w. (w.0.now, w.1)) words.now)) key.now (table_view table.now) ≡ Some value) }
+    ensures shape { IfErr result (λ e. e ≡ Misfit.Shape) }
     ensures misfit { IfErr result (λ e. spec.optional (word_of (map (λ w. (w.0.now, w.1)) words.now)) key.now (table_view table.now) ≡ None) }
 {
     let Some(value) = value_at(table, key) else {
@@ -120,7 +122,7 @@ pub fn word_if_any<T: Copy>(
     }
 }
 
-/// What the word at a key means, or this one where the key is missing.
+/// What the word at a key means, or this one where the key is missing. No memory is taken for it.
 pub fn word_or<T: Copy>(
     table: &Table,
     key: &str,
@@ -128,6 +130,7 @@ pub fn word_or<T: Copy>(
     words: &[(&str, T)],
 ) -> Result<T, Misfit>
     ensures ok { IfOk result (λ value. spec.otherwise missing (word_of (map (λ w. (w.0.now, w.1)) words.now)) key.now (table_view table.now) ≡ Some value) }
+    ensures shape { IfErr result (λ e. e ≡ Misfit.Shape) }
     ensures misfit { IfErr result (λ e. spec.otherwise missing (word_of (map (λ w. (w.0.now, w.1)) words.now)) key.now (table_view table.now) ≡ None) }
 {
     let Some(value) = value_at(table, key) else {

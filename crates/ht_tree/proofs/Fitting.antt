@@ -3,6 +3,7 @@ use Rattle.std.proofs.Common.{◌==◌, if◌then◌else◌, ◌≡◌, ℕ, ◌
 use Rattle.std.specs.List.{range_with_len}
 use Rattle.std.specs.Prelude.{pos, negsuc, slice_get}
 use Rattle.std.specs.Option.{option_map_or, option_or}
+use Rattle.ht_base.specs.declared.limits.TheConstants.{LOWEST_PRIORITY}
 use Rattle.ht_base.specs.declared.moment.Moment.{Moment}
 use Rattle.ht_base.specs.declared.state.State.TheVariants.{Created}
 use Rattle.ht_base.specs.declared.task_id.TaskId.{TaskId}
@@ -87,7 +88,7 @@ held_new : (persons : ℕ) (o : Option ModelOf) (input : Values) → IsInput per
 held_new persons None input given = tt
 held_new persons (Some m) input given = record { input = given; output = record { declared = refl; known = refl; texts_within = refl; moments_within = refl }; taken = tt; taken_ascend = tt }
 
-level_low : (o : Outcome) → level_of o ≤ 10
+level_low : (o : Outcome) → level_of o ≤ LOWEST_PRIORITY
 level_low (a_text x) = omega arith
 level_low (a_number (pos n)) = omega arith
 level_low (a_number (negsuc n)) = omega arith

@@ -6,6 +6,7 @@ use Rattle.std.specs.Option.{option_and_then}
 use Rattle.std.proofs.lemmas.List.{append-nil, length-map}
 use Rattle.std.proofs.lemmas.Bool.{and_parts}
 use Rattle.std.proofs.lemmas.Bool.Decides.{nat_tests}
+use Rattle.ht_base.specs.declared.limits.TheConstants.{LONGEST_TEXT}
 use Rattle.ht_base.specs.declared.kind.Kind.{Kind}
 use Rattle.ht_base.specs.declared.kind.Kind.TheVariants as kind
 use Rattle.ht_base.specs.declared.moment.Moment.{Moment}
@@ -56,7 +57,7 @@ behind_other side other (q ∷ front) rest parts apart all = λ name p is. let l
 record IsFine (d : DirectoryOf) (k : Kind) (name : List ℕ) (v : Value) : Type 0 where
   of_kind : may_be (Some k) v ≡ true
   known : is_known (length d.persons) (name, v) ≡ true
-  short : is_short 512 (name, v) ≡ true
+  short : is_short LONGEST_TEXT (name, v) ≡ true
   timely : is_timely (name, v) ≡ true
 
 person_within : (d : DirectoryOf) (text : List ℕ) (p : ℕ) → find_user text d ≡ Some p → nat_lt p (length d.persons) ≡ true
@@ -98,10 +99,10 @@ fine_instant d name (Some m) v within is =
     let P : Value → Type 0 = λ x. IsFine d kind.Instant name x in
     subst P same (record { of_kind = refl; known = refl; short = refl; timely = within m refl })
 
-fine_text : (d : DirectoryOf) (name text : List ℕ) (v : Value) → events.is_short 512 (name, scalar.Text text) ≡ true → values.Text text ≡ v → IsFine d kind.Text name v
+fine_text : (d : DirectoryOf) (name text : List ℕ) (v : Value) → events.is_short LONGEST_TEXT (name, scalar.Text text) ≡ true → values.Text text ≡ v → IsFine d kind.Text name v
 fine_text d name text v short same = let P : Value → Type 0 = λ x. IsFine d kind.Text name x in subst P same (record { of_kind = refl; known = refl; short = short; timely = refl })
 
-given_fine : (d : DirectoryOf) (k : Kind) (name : List ℕ) (s : Scalar) (v : Value) → events.is_short 512 (name, s) ≡ true → value_of d k s ≡ Some v → IsFine d k name v
+given_fine : (d : DirectoryOf) (k : Kind) (name : List ℕ) (s : Scalar) (v : Value) → events.is_short LONGEST_TEXT (name, s) ≡ true → value_of d k s ≡ Some v → IsFine d k name v
 given_fine d kind.Text name (scalar.Text text) v short is = fine_text d name text v short cc
 given_fine d kind.Text name (scalar.Int n) v short is = cc
 given_fine d kind.Text name (scalar.Truth b) v short is = cc
@@ -127,7 +128,7 @@ given_fine d kind.Instant name s v short is = fine_instant d name (moment_given 
 record AreFine (d : DirectoryOf) (kinds : Declared) (side : Side) (vs : List (List ℕ × Value)) : Type 0 where
   declared : list_all (is_declared kinds side) vs ≡ true
   known : list_all (is_known (length d.persons)) vs ≡ true
-  short : list_all (is_short 512) vs ≡ true
+  short : list_all (is_short LONGEST_TEXT) vs ≡ true
   timely : list_all is_timely vs ≡ true
 
 one_more : (d : DirectoryOf) (kinds : Declared) (side : Side) (k : Kind) (name : List ℕ) (v : Value) (vs : List (List ℕ × Value)) → declared_kind kinds side name ≡ Some k → IsFine d k name v → AreFine d kinds side vs → AreFine d kinds side ((name, v) ∷ vs)
@@ -139,17 +140,17 @@ one_more d kinds side k name v vs kind fine all =
       timely = rw fine.timely all.timely;
     }
 
-all_fine : (d : DirectoryOf) (kinds : Declared) (side : Side) (parts : List Part) (given : List (List ℕ × Scalar)) → DeclaresOf kinds side parts → list_all (events.is_short 512) given ≡ true → AreFine d kinds side (values_given d parts given)
+all_fine : (d : DirectoryOf) (kinds : Declared) (side : Side) (parts : List Part) (given : List (List ℕ × Scalar)) → DeclaresOf kinds side parts → list_all (events.is_short LONGEST_TEXT) given ≡ true → AreFine d kinds side (values_given d parts given)
 all_fine d kinds side parts [] of short = record { declared = refl; known = refl; short = refl; timely = refl }
 all_fine d kinds side parts (g ∷ given) of short =
-    let both = and_parts (events.is_short 512 g) (list_all (events.is_short 512) given) short in
+    let both = and_parts (events.is_short LONGEST_TEXT g) (list_all (events.is_short LONGEST_TEXT) given) short in
     at (part_named g.0 parts) refl both.0 (all_fine d kinds side parts given of both.1)
   where
-    by_value : (p : Part) (o : Option Value) → part_named g.0 parts ≡ Some p → value_of d p.kind g.1 ≡ o → events.is_short 512 g ≡ true → AreFine d kinds side (values_given d parts given) → AreFine d kinds side (values_given d parts (g ∷ given))
+    by_value : (p : Part) (o : Option Value) → part_named g.0 parts ≡ Some p → value_of d p.kind g.1 ≡ o → events.is_short LONGEST_TEXT g ≡ true → AreFine d kinds side (values_given d parts given) → AreFine d kinds side (values_given d parts (g ∷ given))
     by_value p None named is low all = rw (named, is) all
     by_value p (Some v) named is low all = rw (named, is) (one_more d kinds side p.kind g.0 v (values_given d parts given) (of g.0 p named) (given_fine d p.kind g.0 g.1 v low is) all)
 
-    at : (o : Option Part) → part_named g.0 parts ≡ o → events.is_short 512 g ≡ true → AreFine d kinds side (values_given d parts given) → AreFine d kinds side (values_given d parts (g ∷ given))
+    at : (o : Option Part) → part_named g.0 parts ≡ o → events.is_short LONGEST_TEXT g ≡ true → AreFine d kinds side (values_given d parts given) → AreFine d kinds side (values_given d parts (g ∷ given))
     at None named low all = rw named all
     at (Some p) named low all = by_value p (value_of d p.kind g.1) named refl low all
 
@@ -190,6 +191,6 @@ pub updated_held : (kinds : Declared) (persons : ℕ) (side : Side) (vs given : 
 updated_held kinds persons side vs given old new = record {
   declared = all_updated (is_declared kinds side) vs given old.declared new.declared;
   known = all_updated (is_known persons) vs given old.known new.known;
-  texts_within = all_updated (is_short 512) vs given old.texts_within new.texts_within;
+  texts_within = all_updated (is_short LONGEST_TEXT) vs given old.texts_within new.texts_within;
   moments_within = all_updated is_timely vs given old.moments_within new.moments_within;
 }

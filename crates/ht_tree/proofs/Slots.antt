@@ -56,7 +56,6 @@ searched_slot person device slots (Err i) up within position = record { found = 
 
 -- they stay so where there are more tasks
 named_by_more : (tasks more : ℕ) (o : Op) (task : TaskId) → tasks ≤ more → IsNamedBy tasks o task → IsNamedBy more o task
-named_by_more tasks more op.Create task up is = is
 named_by_more tasks more op.Get task up is = is
 named_by_more tasks more o task up is = (is.0, let high = is.1 in omega arith)
 

@@ -1,4 +1,5 @@
 -- That tables are sound.
+use Rattle.ht_base.specs.declared.limits.TheConstants.{MOST_TASKS}
 use Rattle.ht_models.specs.TreeSizes.{size_at}
 use Rattle.std.proofs.Common.{inl, inr, subst, ◌+◌, ◌++◌, ◌==◌, if◌then◌else◌, Bool, true, false, length-append, ◌≡◌, ℕ, ◌≤◌, zero, suc, List, [], ◌∷◌, length, Option, Some, None, IfSome, option_map, Bor, refl, ap, sym, ◌∙◌, arith}
 use Rattle.std.specs.Prelude.{slice_get}
@@ -14,7 +15,7 @@ use Rattle.ht_tree.specs.declared.notice.Notice.{Notice}
 use Rattle.ht_tree.specs.declared.row.Row.{Row}
 use Rattle.ht_tree.specs.Plans.{IsNext, Replaces}
 use Rattle.ht_tree.specs.Rows.{put_in, row_at}
-use Rattle.ht_tree.specs.Sizes.{most_tasks, size_under, top_size, total_size}
+use Rattle.ht_tree.specs.Sizes.{size_under, top_size, total_size}
 use Rattle.ht_base.specs.State.{is_final}
 use Rattle.ht_tree.specs.Families.{AreFamilies, IsNewSub, parent_at, to_come_of}
 use Rattle.ht_tree.specs.Soundness.{IsSound, IsSoundNotice, IsSoundRow, has_escalation}
@@ -78,7 +79,7 @@ all_pushed P (n ∷ notices) notice all one = (all.0, all_pushed P notices notic
 
 -- ---- a sound row behind the others
 
-pushed_sound : (t : TablesOf) (row : Row) → IsSound t → row.task.0 ≡ length t.rows + 1 → IsSoundRow t row → AreFamilies t.models (t.rows ++ row ∷ []) → total_size t.models (t.rows ++ row ∷ []) ≤ most_tasks → IsSound (record t { rows = t.rows ++ row ∷ [] })
+pushed_sound : (t : TablesOf) (row : Row) → IsSound t → row.task.0 ≡ length t.rows + 1 → IsSoundRow t row → AreFamilies t.models (t.rows ++ row ∷ []) → total_size t.models (t.rows ++ row ∷ []) ≤ MOST_TASKS → IsSound (record t { rows = t.rows ++ row ∷ [] })
 pushed_sound t row sound next fine families room = record {
   numbered = λ task r at. elim (behind_is t.rows row r task at) [
     | inl h ↦ sound.numbered task r h
@@ -97,7 +98,7 @@ pushed_sound t row sound next fine families room = record {
 }
 
 -- of a top task
-pub push_sound : (t : TablesOf) (row : Row) → IsSound t → row.task.0 ≡ length t.rows + 1 → row.parent ≡ None → IsSoundRow t row → to_come_of t.models (t.rows ++ row ∷ []) row + 1 ≤ top_size t.models row → total_size t.models t.rows + top_size t.models row ≤ most_tasks → IsSound (record t { rows = t.rows ++ row ∷ [] })
+pub push_sound : (t : TablesOf) (row : Row) → IsSound t → row.task.0 ≡ length t.rows + 1 → row.parent ≡ None → IsSoundRow t row → to_come_of t.models (t.rows ++ row ∷ []) row + 1 ≤ top_size t.models row → total_size t.models t.rows + top_size t.models row ≤ MOST_TASKS → IsSound (record t { rows = t.rows ++ row ∷ [] })
 push_sound t row sound next top fine small room =
     let total = total_push t.models t.rows row in
     pushed_sound t row sound next fine (families_push_top t.models t.rows row sound.families top small) (omega arith)

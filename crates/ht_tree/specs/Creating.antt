@@ -1,4 +1,5 @@
 -- A new task (WS-HumanTask 1.1, 4.10): its roles by its model's assignments, and nothing done yet.
+use Rattle.ht_base.specs.declared.limits.TheConstants.{LOWEST_PRIORITY, MIDDLE_PRIORITY, MOST_TASKS}
 use Rattle.ht_models.specs.TreeSizes.{size_at}
 use Rattle.std.specs.Prelude.{ℕ, ◌+◌, min, nat_lt, pos, negsuc, Bool, false, not, List, [], length, map, Option, Some, None, IfSome}
 use Rattle.std.specs.Option.{option_and_then, option_map_or}
@@ -17,7 +18,7 @@ use Rattle.ht_tree.specs.declared.row.Row.{Row}
 use Rattle.ht_tree.specs.Assigning.{Sight, potential_owners, resolved, sight}
 use Rattle.ht_tree.specs.Families.{sub_tasks}
 use Rattle.ht_tree.specs.Soundness.{AreHeld}
-use Rattle.ht_tree.specs.Sizes.{most_tasks, total_size}
+use Rattle.ht_tree.specs.Sizes.{total_size}
 use Rattle.ht_tree.specs.Tables.{TablesOf, administrators_of, directory, stakeholders_of, task_row}
 
 -- the parent's row, of a sub task
@@ -29,15 +30,11 @@ abbrev pub role_or : DirectoryOf → Sight → Option Assignment → List ℕ �
 role_or d s None inherited = inherited
 role_or d s (Some a) inherited = resolved d s a
 
--- the priority between 0, the highest, and 10, where the model gives none and as its expression sees it
-abbrev pub middle_priority : ℕ
-middle_priority = 5
-
--- the number that an expression gives, moved between 0 and 10
+-- the number that an expression gives, moved between 0 and the lowest priority
 abbrev pub level_of : Outcome → ℕ
-level_of (a_number (pos n)) = min n 10
+level_of (a_number (pos n)) = min n LOWEST_PRIORITY
 level_of (a_number (negsuc n)) = 0
-level_of _ = middle_priority
+level_of _ = MIDDLE_PRIORITY
 
 -- the row of a new task before any of its roles is set, as assignments see it
 abbrev pub bare_row : TaskId → ℕ → Option (TaskId × ℕ) → ℕ → Values → Option Moment → Moment → Row
@@ -55,7 +52,7 @@ bare_row task model parent initiator input waits at = record {
   stakeholders = [];
   by_group = false;
   started = false;
-  priority = middle_priority;
+  priority = MIDDLE_PRIORITY;
   input = input;
   output = [];
   created = at;
@@ -105,4 +102,4 @@ IsInput persons model input = IfSome model (λ m. AreHeld (parts_of m.input m.ou
 
 -- with the tree of a new task of this model there would be too many
 abbrev pub is_full : TablesOf → ℕ → Bool
-is_full t model = nat_lt most_tasks (total_size t.models t.rows + size_at t.models model)
+is_full t model = nat_lt MOST_TASKS (total_size t.models t.rows + size_at t.models model)

@@ -6,9 +6,6 @@ use Rattle.ht_base.specs.declared.task_id.TaskId.{TaskId}
 use Rattle.ht_models.specs.Model.{ModelOf}
 use Rattle.ht_tree.specs.declared.row.Row.{Row}
 
-abbrev pub most_tasks : ℕ
-most_tasks = 50000
-
 -- a sub task is counted with its top task
 abbrev pub size_under : List ModelOf → Row → Option (TaskId × ℕ) → ℕ
 size_under models row None = option_map_or (λ m. m.size) (model_in models row) 0

@@ -1,12 +1,12 @@
 -- The last numbered command of each device of a person, with the reply that is kept for it.
-use Rattle.std.specs.Prelude.{◌≡◌, ◌<◌, ◌≤◌, ℕ, List, length, slice_get, slice_set, Option, None, IfSome, IsSome}
+use Rattle.std.specs.Prelude.{◌≡◌, ◌<◌, ◌≤◌, ℕ, List, length, slice_get, slice_set, Option, None, IfSome, IsSome, IsTrue}
 use Rattle.std.specs.List.{insert}
 use Rattle.std.specs.declared.cmp.Ordering.{Ordering}
 use Rattle.std.specs.Ordering.{nat_cmp, ordering_then}
 use Rattle.ht_base.specs.declared.operation.Op.{Op}
 use Rattle.ht_base.specs.declared.operation.Op.TheVariants as op
 use Rattle.ht_base.specs.declared.task_id.TaskId.{TaskId}
-use Rattle.ht_base.specs.Events.{IsRetry}
+use Rattle.ht_base.specs.Events.{IsRetry, suits}
 use Rattle.ht_base.specs.Ordered.{found_by, placed_by}
 use Rattle.ht_people.specs.Directory.{DirectoryOf, find}
 use Rattle.ht_tree.specs.declared.slot.Kept.{Kept}
@@ -34,11 +34,10 @@ slots_with slots slot = placed_by (slot_order slot.person slot.device) slot slot
 abbrev pub IsOneOf : ℕ → TaskId → Type 0
 IsOneOf tasks task = (1 ≤ task.0) × (task.0 ≤ tasks)
 
--- the operation is one that changes a task: one that is there, and for a create none
+-- the operation is one that changes a task: of as many one that it may name
 abbrev pub IsNamedBy : ℕ → Op → TaskId → Type 0
-IsNamedBy tasks op.Create task = task.0 ≡ 0
 IsNamedBy tasks op.Get task = ⊥
-IsNamedBy tasks _ task = IsOneOf tasks task
+IsNamedBy tasks o task = IsTrue (suits task.0 o) × (task.0 ≤ tasks)
 
 -- the reply is about a task that is there, and names no owner but a person
 abbrev pub IsSoundReply : DirectoryOf → ℕ → Kept → Type 0

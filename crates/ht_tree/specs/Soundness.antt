@@ -3,6 +3,7 @@
 use Rattle.std.specs.Prelude.{◌≡◌, ℕ, ◌+◌, ◌<◌, ◌≤◌, bytes_eq, nat_lt, Bool, true, false, ◌&&◌, ◌||◌, List, [], ◌∷◌, length, Option, Some, is_some, IsTrue, IfSome}
 use Rattle.std.specs.Option.{option_map_or}
 use Rattle.std.specs.List.{All, AllByRecursion, list_all, list_any}
+use Rattle.ht_base.specs.declared.limits.TheConstants.{LONGEST_TEXT, LOWEST_PRIORITY, MOST_COMMENTS, MOST_TASKS}
 use Rattle.ht_base.specs.declared.moment.Moment.{Moment}
 use Rattle.ht_base.specs.declared.state.State.{State}
 use Rattle.ht_base.specs.declared.state.State.TheVariants.{Created, InProgress, SuspendedInProgress, Completed, Failed, Error, Exited, Obsolete}
@@ -27,7 +28,7 @@ use Rattle.ht_tree.specs.declared.notice.Notice.{Notice}
 use Rattle.ht_tree.specs.declared.row.Row.{Row}
 use Rattle.ht_tree.specs.Families.{AreFamilies}
 use Rattle.ht_tree.specs.Rows.{model_in, row_at}
-use Rattle.ht_tree.specs.Sizes.{most_tasks, total_size}
+use Rattle.ht_tree.specs.Sizes.{total_size}
 use Rattle.ht_tree.specs.Slots.{IsSoundSlot, slot_cmp}
 use Rattle.ht_tree.specs.Tables.{TablesOf}
 
@@ -105,11 +106,11 @@ pub record IsTimed (state : State) (made : Moment) (start end : Option Moment) :
 -- ---- how it is noted
 
 pub record IsNoted (persons level : ℕ) (comments : List Comment) : Type 0 where
-  pub priority_within : level ≤ 10
-  pub few : length comments ≤ 32
+  pub priority_within : level ≤ LOWEST_PRIORITY
+  pub few : length comments ≤ MOST_COMMENTS
   pub known : All (λ c. c.person < persons) comments
   pub moments_within : All (λ c. c.moment.0 ≤ last_moment) comments
-  pub texts_within : All (λ c. (1 ≤ length c.text) × (length c.text ≤ 512)) comments
+  pub texts_within : All (λ c. (1 ≤ length c.text) × (length c.text ≤ LONGEST_TEXT)) comments
 
 -- ---- what it holds of what its model declares
 
@@ -135,7 +136,7 @@ is_timely _ = true
 pub record AreHeld (kinds : Declared) (persons : ℕ) (side : Side) (parts : Values) : Type 0 where
   pub declared : list_all (is_declared kinds side) parts ≡ true
   pub known : list_all (is_known persons) parts ≡ true
-  pub texts_within : list_all (is_short 512) parts ≡ true
+  pub texts_within : list_all (is_short LONGEST_TEXT) parts ≡ true
   pub moments_within : list_all is_timely parts ≡ true
 
 pub record IsHeldBy (persons : ℕ) (m : ModelOf) (given set : Values) (passed : List ℕ) : Type 0 where
@@ -203,7 +204,7 @@ pub record IsSound (t : TablesOf) : Type 0 where
   pub slots_sound : AllByRecursion (IsSoundSlot t.people (length t.rows)) t.slots
   pub last_within : t.last ≤ last_moment
   -- the trees of the top tasks have at most as many tasks as there may be
-  pub tasks_within : total_size t.models t.rows ≤ most_tasks
+  pub tasks_within : total_size t.models t.rows ≤ MOST_TASKS
 
 -- where the first tables are sound, so are the second: said of whole calls, since what a call passes
 -- through on its way needn't be sound

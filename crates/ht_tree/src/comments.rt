@@ -10,7 +10,7 @@ use std::sync::Arc;
 pub struct Comment {
     pub moment: Moment,
     pub person: Person,
-    /// 1 to 512 bytes.
+    /// 1 to `LONGEST_TEXT` bytes.
     pub text: Txt,
 }
 

@@ -10,7 +10,7 @@ ghost use Rattle.ht_models.specs.Model.{ModelOf};
 ghost use Rattle.ht_models.specs.Shown.{model_of};
 ghost use Rattle.ht_tree.specs.Assigning.{potential_owners, resolved, sight};
 ghost use Rattle.ht_tree.specs.Creating as spec;
-ghost use Rattle.ht_tree.specs.Creating.{IsInput, is_full, level_of, middle_priority, role_or};
+ghost use Rattle.ht_tree.specs.Creating.{IsInput, is_full, level_of, role_or};
 ghost use Rattle.ht_tree.specs.Families.{MayCome};
 ghost use Rattle.ht_tree.specs.Plans.{Goes, IsPlanOf, planned};
 ghost use Rattle.ht_tree.specs.Soundness.{KeepsSound};
@@ -18,25 +18,22 @@ ghost use Rattle.ht_tree.specs.Tables.{model_at, with_row};
 
 use crate::assigning::{found, without};
 use crate::{Comments, Plan, Row, Tables, Taken};
-use ht_base::{Memory, Moment, Person, Persons, State, TaskId, Values};
+use ht_base::{
+    LOWEST_PRIORITY, MIDDLE_PRIORITY, MOST_TASKS, Memory, Moment, Person, Persons, State, TaskId,
+    Values,
+};
 use ht_expr::{Assign, Env, Subs};
 use ht_models::Model;
 use ht_people::Directory;
 use std::alloc::Global;
 use thiserror::Error;
 
-/// The most tasks that there may be, each tree counted whole from its creation on.
-const MOST_TASKS: u128 = 50_000;
-
-/// The priority of a task whose model gives none.
-pub(crate) const MIDDLE_PRIORITY: u8 = 5;
-
 /// Why no task is created.
 #[derive(Clone, Copy, Debug, PartialEq, Eq, Error)]
 pub enum CreateRefusal {
     #[error("out of memory")]
     Memory,
-    /// With the whole tree of the new task there would be more than 50,000.
+    /// With the whole tree of the new task there would be more than there may be.
     #[error("too many tasks")]
     TaskLimit,
 }
@@ -151,7 +148,7 @@ fn new_row(
 
 // What the expression of a new task's priority sees.
 fn first_env(alloc: Global, input: Values, initiator: Person) -> Env
-    ensures { result ≡ record { input = input; output = []; priority = pos middle_priority; initiator = initiator; subs = [] } }
+    ensures { result ≡ record { input = input; output = []; priority = pos MIDDLE_PRIORITY; initiator = initiator; subs = [] } }
 {
     Env {
         input,
@@ -195,8 +192,8 @@ fn level(number: i64) -> u8
 {
     if number < 0 {
         0
-    } else if number > 10 {
-        10
+    } else if number > i64::from(LOWEST_PRIORITY) {
+        LOWEST_PRIORITY
     } else {
         number as u8
     }

@@ -1,5 +1,6 @@
-ghost use Rattle.std.specs.Prelude.{◌≡◌, ◌<◌, ◌≤◌, [], IfSome, length, map, option_map, slice_get};
+ghost use Rattle.std.specs.Prelude.{◌≡◌, ◌*◌, ◌<◌, ◌≤◌, [], IfSome, length, map, option_map, slice_get};
 ghost use Rattle.std.specs.Option.{option_map_or};
+ghost use Rattle.ht_base.specs.declared.limits.TheConstants.{MOST_DEADLINES};
 ghost use Rattle.ht_models.specs.Shown as shown;
 ghost use Rattle.ht_tree.specs.Plans.{IsPlanOf, planned};
 ghost use Rattle.ht_due.specs.Dues as dues;
@@ -47,7 +48,7 @@ fn least_due(models: &Models, row: &Row) -> Option<Due>
 }
 
 fn least_deadline(row: &Row, deadlines: &[Deadline]) -> Option<Due>
-    requires { length deadlines.now ≤ 4 }
+    requires { length deadlines.now ≤ 2 * MOST_DEADLINES }
     ensures { result ≡ dues.least_of (spec.deadline_dues row.now 0 (map shown.deadline_of deadlines.now)) }
 {
     let mut least = None;

@@ -1,9 +1,8 @@
 ghost use Rattle.std.specs.Prelude.{◌≡◌, IfOk};
 ghost use Rattle.ht_tree.specs.Places.{emptied};
 
-use crate::creating::MIDDLE_PRIORITY;
 use crate::{Comments, Taken};
-use ht_base::{Memory, Moment, Name, Person, Persons, State, TaskId, Values};
+use ht_base::{MIDDLE_PRIORITY, Memory, Moment, Name, Person, Persons, State, TaskId, Values};
 use std::alloc::Global;
 
 /// All that is known of a task (WS-HumanTask 1.1, 4.10): persons by their places in the directory,
@@ -26,7 +25,7 @@ pub struct Row {
     /// Whether the potential owners were assigned by a group, or as everybody.
     pub by_group: bool,
     pub started: bool,
-    /// 0 to 10, of which 0 is the highest.
+    /// 0, the highest, to `LOWEST_PRIORITY`.
     pub priority: u8,
     pub input: Values,
     pub output: Values,

@@ -19,7 +19,7 @@ pub enum Kept {
 #[derive(Clone, Copy, Debug, PartialEq, Eq)]
 pub struct Slot {
     pub person: Person,
-    /// 0 to 15.
+    /// 0 to `LAST_DEVICE`.
     pub device: u8,
     /// At least 1.
     pub number: u32,

@@ -4,6 +4,7 @@ use Rattle.std.proofs.lemmas.List.{take_all, take-append-drop, length-take}
 use Rattle.httparse.specs.Grammar.{HasNoRequest, NeverHasRequest, MayBecomeRequest}
 use Rattle.httparse.specs.Spans.{RequestExceeds, RequestOverflows}
 use Rattle.ht_outside.specs.Tells.{Flow, IsAtEnd}
+use Rattle.ht_wire.specs.declared.limits.TheConstants.{LONGEST_HEAD, MOST_FIELDS}
 use Rattle.ht_wire.specs.declared.buffer.FillFault.{FillFault}
 use Rattle.ht_wire.specs.declared.buffer.FillFault.TheVariants as fault
 use Rattle.ht_wire.specs.declared.reading.Next.{Next}
@@ -13,31 +14,31 @@ use Rattle.ht_wire.specs.Buffering.{ReadsOn, ReadsWhereNeeded, failure}
 use Rattle.ht_wire.specs.Heads.{IsBegun, IsEnd, IsTooLong}
 use Rattle.ht_wire.specs.Reading.{Reads, Finds, IsRefusedOn, RefusedAt}
 use Rattle.ht_wire.specs.Requests.{IsRefused, IsUnfinished}
-use Rattle.ht_wire.specs.Window.{window, room, front}
+use Rattle.ht_wire.specs.Window.{front}
 use Rattle.ht_wire.proofs.Outcomes.{never_on, exceeds_on, overflows_on, front_of, front_full, more_on}
 use Rattle.ht_wire.proofs.Steps.{none_gained, took_more, took_still}
 use Rattle.ht_wire.proofs.Uniqueness.{exact_of}
 
 -- ---- the front
 
-pub front_short : (bytes : List ℕ) → length (front bytes) < window → front bytes ≡ bytes
+pub front_short : (bytes : List ℕ) → length (front bytes) < LONGEST_HEAD → front bytes ≡ bytes
 front_short bytes short =
-    let size : length (front bytes) ≡ min window (length bytes) = length-take window bytes in
-    take_all window bytes (omega (arith, size, short))
+    let size : length (front bytes) ≡ min LONGEST_HEAD (length bytes) = length-take LONGEST_HEAD bytes in
+    take_all LONGEST_HEAD bytes (omega (arith, size, short))
 
-pub front_most : (bytes : List ℕ) → length (front bytes) ≤ window
-front_most bytes = let size : length (front bytes) ≡ min window (length bytes) = length-take window bytes in omega (arith, size)
+pub front_most : (bytes : List ℕ) → length (front bytes) ≤ LONGEST_HEAD
+front_most bytes = let size : length (front bytes) ≡ min LONGEST_HEAD (length bytes) = length-take LONGEST_HEAD bytes in omega (arith, size)
 
 -- what lies in the front lies in the bytes
 pub within_all : (n : ℕ) (bytes : List ℕ) → n ≤ length (front bytes) → n ≤ length bytes
-within_all n bytes within = let size : length (front bytes) ≡ min window (length bytes) = length-take window bytes in omega (arith, size, within)
+within_all n bytes within = let size : length (front bytes) ≡ min LONGEST_HEAD (length bytes) = length-take LONGEST_HEAD bytes in omega (arith, size, within)
 
-pub short_of : (bytes : List ℕ) → length (front bytes) < window → length bytes < window
+pub short_of : (bytes : List ℕ) → length (front bytes) < LONGEST_HEAD → length bytes < LONGEST_HEAD
 short_of bytes short = let same = ap (λ (l : List ℕ). length l) (front_short bytes short) in omega (arith, same, short)
 
 -- the bytes are their front and what stands behind it
-pub whole_on : (bytes more : List ℕ) → bytes ++ more ≡ front bytes ++ (drop window bytes ++ more)
-whole_on bytes more = ap (λ l. l ++ more) (sym (take-append-drop window bytes)) ∙ append_assoc (front bytes) (drop window bytes) more
+pub whole_on : (bytes more : List ℕ) → bytes ++ more ≡ front bytes ++ (drop LONGEST_HEAD bytes ++ more)
+whole_on bytes more = ap (λ l. l ++ more) (sym (take-append-drop LONGEST_HEAD bytes)) ∙ append_assoc (front bytes) (drop LONGEST_HEAD bytes) more
 
 abbrev pub IsPartial : List ℕ → Type 0
 IsPartial bytes = (IsEnd bytes → ⊥) × IsBegun bytes
@@ -76,19 +77,19 @@ found_end f g h old mid new a last b blank =
     let same : new ≡ mid = none_gained g h mid new b in
     found f h old new next.End (took_more IsUnfinished f g h old mid new 0 a (none_blank mid blank) last b) (refl, (b.ended refl, rw same (end_all mid blank)))
 
-long_on : (buf left : List ℕ) → length buf ≤ window → (RequestExceeds room buf × RequestOverflows room buf) ⊎ ((window ≤ length buf) × HasNoRequest buf × MayBecomeRequest buf) → IsTooLong (buf ++ left)
+long_on : (buf left : List ℕ) → length buf ≤ LONGEST_HEAD → (RequestExceeds MOST_FIELDS buf × RequestOverflows MOST_FIELDS buf) ⊎ ((LONGEST_HEAD ≤ length buf) × HasNoRequest buf × MayBecomeRequest buf) → IsTooLong (buf ++ left)
 long_on buf left within (inl both) = inl (rw (front_of buf left within) (exceeds_on buf _ both.0), rw (front_of buf left within) (overflows_on buf _ both.1))
 long_on buf left within (inr full) =
     inr (let more = length-append buf left in let filled = full.0 in omega (arith, more, filled), rw (front_full buf left within full.0) full.1, rw (front_full buf left within full.0) full.2)
 
 abbrev SeesLong : List ℕ → Type 0
-SeesLong buf = (RequestExceeds room buf × RequestOverflows room buf) ⊎ ((window ≤ length buf) × HasNoRequest buf × MayBecomeRequest buf)
+SeesLong buf = (RequestExceeds MOST_FIELDS buf × RequestOverflows MOST_FIELDS buf) ⊎ ((LONGEST_HEAD ≤ length buf) × HasNoRequest buf × MayBecomeRequest buf)
 
 -- whatever follows
 long_on_any : (new more : List ℕ) → (IsEnd (front new) → ⊥) → SeesLong (front new) → IsRefused (new ++ more) 431
 long_on_any new more not_end seen = record {
-  more = rw (whole_on new more) (more_on (front new) (drop window new ++ more) not_end);
-  why = inl (refl, rw (whole_on new more) (long_on (front new) (drop window new ++ more) (front_most new) seen));
+  more = rw (whole_on new more) (more_on (front new) (drop LONGEST_HEAD new ++ more) not_end);
+  why = inl (refl, rw (whole_on new more) (long_on (front new) (drop LONGEST_HEAD new ++ more) (front_most new) seen));
 }
 
 -- what is refused whatever follows is refused as it is, and with what is left
@@ -102,13 +103,13 @@ long_at g new not_end seen = refused_on_any g new 431 (λ more. long_on_any new 
 pub found_long : (f g : Option Flow) (old new : List ℕ) → ReadsOn IsUnfinished f g old new → (IsEnd (front new) → ⊥) × SeesLong (front new) → Reads f g old new (next.Refused 431)
 found_long f g old new a seen = found f g old new (next.Refused 431) a (refl, long_at g new seen.0 seen.1)
 
-never_in : (buf left : List ℕ) → length buf ≤ window → NeverHasRequest buf → NeverHasRequest (front (buf ++ left))
+never_in : (buf left : List ℕ) → length buf ≤ LONGEST_HEAD → NeverHasRequest buf → NeverHasRequest (front (buf ++ left))
 never_in buf left within never = rw (front_of buf left within) (never_on buf _ never)
 
 never_on_any : (new more : List ℕ) → (IsEnd (front new) → ⊥) → NeverHasRequest (front new) → IsRefused (new ++ more) 400
 never_on_any new more not_end never = record {
-  more = rw (whole_on new more) (more_on (front new) (drop window new ++ more) not_end);
-  why = inr (inl (refl, inl (rw (whole_on new more) (never_in (front new) (drop window new ++ more) (front_most new) never))));
+  more = rw (whole_on new more) (more_on (front new) (drop LONGEST_HEAD new ++ more) not_end);
+  why = inr (inl (refl, inl (rw (whole_on new more) (never_in (front new) (drop LONGEST_HEAD new ++ more) (front_most new) never))));
 }
 
 never_at : (g : Option Flow) (new : List ℕ) → (IsEnd (front new) → ⊥) → NeverHasRequest (front new) → RefusedAt g new 400
@@ -117,11 +118,11 @@ never_at g new not_end never = refused_on_any g new 400 (λ more. never_on_any n
 pub found_never : (f g : Option Flow) (old new : List ℕ) → ReadsOn IsUnfinished f g old new → (IsEnd (front new) → ⊥) × NeverHasRequest (front new) → Reads f g old new (next.Refused 400)
 found_never f g old new a never = found f g old new (next.Refused 400) a (refl, never_at g new never.0 never.1)
 
-cut_at : (h : Option Flow) (bytes : List ℕ) → IsAtEnd h → (IsEnd bytes → ⊥) → length bytes < window → HasNoRequest bytes → RefusedAt h bytes 400
+cut_at : (h : Option Flow) (bytes : List ℕ) → IsAtEnd h → (IsEnd bytes → ⊥) → length bytes < LONGEST_HEAD → HasNoRequest bytes → RefusedAt h bytes 400
 cut_at h bytes at_end more short none = (now, all_there h at_end)
   where
     now : IsRefused bytes 400
-    now = record { more = more; why = inr (inl (refl, inr (short, rw (take_all window bytes (omega (arith, short))) none))) }
+    now = record { more = more; why = inr (inl (refl, inr (short, rw (take_all LONGEST_HEAD bytes (omega (arith, short))) none))) }
 
     all_there : (h : Option Flow) → IsAtEnd h → IsRefusedOn h bytes 400
     all_there None end = tt

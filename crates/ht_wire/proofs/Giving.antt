@@ -7,6 +7,7 @@ use Rattle.httparse.specs.Grammar.{RequestHead, ReadsRequest}
 use Rattle.httparse.specs.Spans.{IsRequestAt, span_bytes}
 use Rattle.ht_outside.specs.Tells.{Flow, Takes, IsAtEnd}
 use Rattle.ht_outside.proofs.PublicLaws.{Takes-trans}
+use Rattle.ht_wire.specs.declared.limits.TheConstants.{LONGEST_HEAD}
 use Rattle.ht_wire.specs.declared.looking.Sight.TheVariants.{Head}
 use Rattle.ht_wire.specs.declared.reading.Next.{Next}
 use Rattle.ht_wire.specs.declared.reading.Next.TheVariants as next
@@ -18,7 +19,7 @@ use Rattle.ht_wire.specs.Heads.{IsHead, fields_of}
 use Rattle.ht_wire.specs.Looking.{Sees}
 use Rattle.ht_wire.specs.Reading.{Finds, IsRefusedOn, Reads, RefusedAt}
 use Rattle.ht_wire.specs.Requests.{Carries, IsCutShort, IsRefused, IsUnfinished}
-use Rattle.ht_wire.specs.Window.{window, front}
+use Rattle.ht_wire.specs.Window.{front}
 use Rattle.ht_wire.proofs.Finding.{front_most}
 use Rattle.ht_wire.proofs.Outcomes.{reads_on, more_on}
 use Rattle.ht_wire.proofs.Steps.{needed_then, weaker}
@@ -49,18 +50,18 @@ module _ (mid : List ℕ) (headers : List HeaderSpan) (spans : RequestSpans) (se
   inside_all : (more : List ℕ) → spans.len ≤ length (mid ++ more)
   inside_all more =
       let fits = inside in
-      let cut = ap (λ (l : List ℕ). length l) (take-append-drop window mid) in
-      let parts = length-append (front mid) (drop window mid) in
+      let cut = ap (λ (l : List ℕ). length l) (take-append-drop LONGEST_HEAD mid) in
+      let parts = length-append (front mid) (drop LONGEST_HEAD mid) in
       let all = length-append mid more in
       omega (arith, fits, cut, parts, all)
 
   -- the head stands whole in the bytes as they go on
   reads_whole : (more : List ℕ) → ReadsRequest (mid ++ more) h (drop spans.len (mid ++ more))
   reads_whole more =
-      let on : ReadsRequest (front mid ++ (drop window mid ++ more)) h (drop spans.len (front mid) ++ (drop window mid ++ more)) = reads_on (front mid) (drop window mid ++ more) h (drop spans.len (front mid)) seen.2.1.reads in
-      let whole : front mid ++ (drop window mid ++ more) ≡ mid ++ more = sym (append_assoc (front mid) (drop window mid) more) ∙ ap (λ (l : List ℕ). l ++ more) (take-append-drop window mid) in
-      let rest : drop spans.len (front mid) ++ (drop window mid ++ more) ≡ drop spans.len (mid ++ more) = sym (drop-append-le spans.len (front mid) (drop window mid ++ more) inside) ∙ ap (drop spans.len) whole in
-      subst (λ (l : List ℕ). ReadsRequest l h (drop spans.len (mid ++ more))) whole (subst (λ (l : List ℕ). ReadsRequest (front mid ++ (drop window mid ++ more)) h l) rest on)
+      let on : ReadsRequest (front mid ++ (drop LONGEST_HEAD mid ++ more)) h (drop spans.len (front mid) ++ (drop LONGEST_HEAD mid ++ more)) = reads_on (front mid) (drop LONGEST_HEAD mid ++ more) h (drop spans.len (front mid)) seen.2.1.reads in
+      let whole : front mid ++ (drop LONGEST_HEAD mid ++ more) ≡ mid ++ more = sym (append_assoc (front mid) (drop LONGEST_HEAD mid) more) ∙ ap (λ (l : List ℕ). l ++ more) (take-append-drop LONGEST_HEAD mid) in
+      let rest : drop spans.len (front mid) ++ (drop LONGEST_HEAD mid ++ more) ≡ drop spans.len (mid ++ more) = sym (drop-append-le spans.len (front mid) (drop LONGEST_HEAD mid ++ more) inside) ∙ ap (drop spans.len) whole in
+      subst (λ (l : List ℕ). ReadsRequest l h (drop spans.len (mid ++ more))) whole (subst (λ (l : List ℕ). ReadsRequest (front mid ++ (drop LONGEST_HEAD mid ++ more)) h l) rest on)
 
   stands : (more : List ℕ) → IsHead (mid ++ more) h (drop spans.len (mid ++ more))
   stands more = record { reads = reads_whole more; short = (let e = seen.2.1.len in let fits = inside in let most = front_most mid in omega (arith, e, fits, most)); few = seen.2.2 }

@@ -11,7 +11,8 @@ use Rattle.std.proofs.lemmas.Bool.Decides.{nat_tests}
 use Rattle.std.proofs.lemmas.Fmt.{IsAscii-from_digits}
 use Rattle.std.proofs.lemmas.Str.{IsUtf8-from_ascii}
 use Rattle.std.proofs.lemmas.Str.Parse.{IsDigitsTest, IsNumeralModel, numerals_by_value, digits_value_short, parse_gives}
-use Rattle.ht_wire.specs.Bodies.{announced, is_length, length_said, limited, most_body}
+use Rattle.ht_wire.specs.declared.limits.TheConstants.{LONGEST_BODY}
+use Rattle.ht_wire.specs.Bodies.{announced, is_length, length_said, limited}
 use Rattle.ht_wire.specs.Fields.{values_of, is_nothing}
 use Rattle.ht_wire.specs.Heads.{fields_of}
 use Rattle.ht_wire.specs.Requests.{IsCutShort, IsReason, IsRefusalCode}
@@ -20,7 +21,7 @@ use Rattle.ht_wire.specs.Requests.{IsCutShort, IsReason, IsRefusalCode}
 
 limited_known : (n : Option ℕ) (code : ℕ) → limited n ≡ Err code → IsRefusalCode code
 limited_known None code e = inr (inl (cc))
-limited_known (Some n) code e = by_test (nat_le n most_body) e
+limited_known (Some n) code e = by_test (nat_le n LONGEST_BODY) e
   where
     by_test : (b : Bool) → (if b then Ok n else Err 413) ≡ Err code → IsRefusalCode code
     by_test true e = absurd (cc)

@@ -7,9 +7,10 @@ use Rattle.httparse.specs.Grammar.{RequestHead, ReadsRequest, NeverHasRequest}
 use Rattle.httparse.specs.Grammar as httparse
 use Rattle.httparse.specs.Spans.{RequestExceeds, RequestOverflows}
 use Rattle.http_header.specs.Token as header
+use Rattle.ht_wire.specs.declared.limits.TheConstants.{LONGEST_HEAD, MOST_FIELDS}
 use Rattle.ht_wire.specs.Heads.{IsEnd, IsLineByte}
 use Rattle.ht_wire.specs.Requests.{IsRequest}
-use Rattle.ht_wire.specs.Window.{window, room, front}
+use Rattle.ht_wire.specs.Window.{front}
 use Rattle.ht_wire.specs.declared.request.Request.{Request}
 
 pub reads_on : (buf more : List ℕ) (h : RequestHead) (rest : List ℕ) → ReadsRequest buf h rest → ReadsRequest (buf ++ more) h (rest ++ more)
@@ -18,20 +19,20 @@ reads_on buf more h rest reads = (reads.0, ap (λ b. b ++ more) reads.1 ∙ appe
 pub never_on : (buf more : List ℕ) → NeverHasRequest buf → NeverHasRequest (buf ++ more)
 never_on buf more never later = rw append_assoc (never (more ++ later))
 
-pub exceeds_on : (buf more : List ℕ) → RequestExceeds room buf → RequestExceeds room (buf ++ more)
+pub exceeds_on : (buf more : List ℕ) → RequestExceeds MOST_FIELDS buf → RequestExceeds MOST_FIELDS (buf ++ more)
 exceeds_on buf more e = (e.0, e.1 ++ more, ap (λ b. b ++ more) e.2 ∙ append_assoc e.0 e.1 more, e.3, e.4, e.5)
 
-pub overflows_on : (buf more : List ℕ) → RequestOverflows room buf → RequestOverflows room (buf ++ more)
+pub overflows_on : (buf more : List ℕ) → RequestOverflows MOST_FIELDS buf → RequestOverflows MOST_FIELDS (buf ++ more)
 overflows_on buf more over later = rw append_assoc (over (more ++ later))
 
-pub front_of : (buf left : List ℕ) → length buf ≤ window → front (buf ++ left) ≡ buf ++ take (window - length buf) left
+pub front_of : (buf left : List ℕ) → length buf ≤ LONGEST_HEAD → front (buf ++ left) ≡ buf ++ take (LONGEST_HEAD - length buf) left
 front_of buf left within =
-    let cut : window ≡ length buf + (window - length buf) = omega (arith, within) in
-    ap (λ k. take k (buf ++ left)) cut ∙ take-append-add buf left (window - length buf)
+    let cut : LONGEST_HEAD ≡ length buf + (LONGEST_HEAD - length buf) = omega (arith, within) in
+    ap (λ k. take k (buf ++ left)) cut ∙ take-append-add buf left (LONGEST_HEAD - length buf)
 
-pub front_full : (buf left : List ℕ) → length buf ≤ window → window ≤ length buf → front (buf ++ left) ≡ buf
+pub front_full : (buf left : List ℕ) → length buf ≤ LONGEST_HEAD → LONGEST_HEAD ≤ length buf → front (buf ++ left) ≡ buf
 front_full buf left within full =
-    let cut : window ≡ length buf + 0 = omega (arith, within, full) in
+    let cut : LONGEST_HEAD ≡ length buf + 0 = omega (arith, within, full) in
     ap (λ k. take k (buf ++ left)) cut ∙ take-append-add buf left 0 ∙ append-nil buf
 
 -- a token of httparse is one of http

@@ -7,6 +7,7 @@ use Rattle.std.proofs.Math.Seq.{drop-append_seam, take-append_seam}
 use Rattle.httparse.specs.Grammar.{RequestHead, print_request, ReadsRequest, NeverHasRequest, MayBecomeRequest}
 use Rattle.httparse.proofs.GrammarLemmas.{request_unique, print_request-append}
 use Rattle.ht_outside.specs.Tells.{Flow, Takes}
+use Rattle.ht_wire.specs.declared.limits.TheConstants.{LONGEST_HEAD, MOST_FIELDS}
 use Rattle.ht_wire.specs.declared.reading.Next.{Next}
 use Rattle.ht_wire.specs.declared.reading.Next.TheVariants as next
 use Rattle.ht_wire.specs.declared.request.Request.{Request}
@@ -15,14 +16,14 @@ use Rattle.ht_wire.specs.Fields.{is_last, person_of}
 use Rattle.ht_wire.specs.Heads.{IsEnd, IsHead, IsTooLong, IsNoHead, IsCorner, IsLineByte, fields_of}
 use Rattle.ht_wire.specs.Reading.{Finds, IsEither, IsTrueTo, IsExact}
 use Rattle.ht_wire.specs.Requests.{IsRequest, IsRefused, IsReason, IsSame, IsBadBody, IsCutShort, IsUnfinished}
-use Rattle.ht_wire.specs.Window.{window, room, front}
+use Rattle.ht_wire.specs.Window.{front}
 use Rattle.ht_wire.proofs.Outcomes.{front_of, request_on}
 
 -- ---- heads
 
 -- a head stands whole in the front of the stream
 in_front : (s : List ℕ) (h : RequestHead) (rest : List ℕ) → IsHead s h rest → (more : List ℕ) × ReadsRequest (front s) h more
-in_front s h rest head = (take (window - length (print_request h)) rest, (head.reads.0, ap (λ l. front l) head.reads.1 ∙ front_of (print_request h) rest head.short))
+in_front s h rest head = (take (LONGEST_HEAD - length (print_request h)) rest, (head.reads.0, ap (λ l. front l) head.reads.1 ∙ front_of (print_request h) rest head.short))
 
 with_none : (bytes : List ℕ) (h : RequestHead) (rest : List ℕ) → ReadsRequest bytes h rest → ReadsRequest (bytes ++ []) h rest
 with_none bytes h rest reads = rw append-nil reads
@@ -42,14 +43,14 @@ pub head_or_end : (s : List ℕ) (h : RequestHead) (rest : List ℕ) → IsHead 
 head_or_end s h rest head end = space_inside _ _ _ (subst (λ (l : List ℕ). All IsLineByte l) (head.reads.1 ∙ print_request-append h rest) end.blank)
 
 pub head_or_long : (s : List ℕ) (h : RequestHead) (rest : List ℕ) → IsHead s h rest → IsTooLong s → ⊥
-head_or_long s h rest head (inl both) = let reads = in_front s h rest head in let over : room < length h.fields = both.1 [] h reads.0 (with_none (front s) h reads.0 reads.1) in let few = head.few in omega arith
+head_or_long s h rest head (inl both) = let reads = in_front s h rest head in let over : MOST_FIELDS < length h.fields = both.1 [] h reads.0 (with_none (front s) h reads.0 reads.1) in let few = head.few in omega arith
 head_or_long s h rest head (inr full) = let reads = in_front s h rest head in full.1 h reads.0 reads.1
 
 pub head_or_none : (s : List ℕ) (h : RequestHead) (rest : List ℕ) → IsHead s h rest → IsNoHead s → ⊥
 head_or_none s h rest head (inl never) = let reads = in_front s h rest head in never [] h reads.0 (with_none (front s) h reads.0 reads.1)
 head_or_none s h rest head (inr ended) = let reads = in_front s h rest head in ended.1 h reads.0 reads.1
 
-never_or_may : (s : List ℕ) → window ≤ length s → NeverHasRequest (front s) → MayBecomeRequest (front s) → IsCorner s
+never_or_may : (s : List ℕ) → LONGEST_HEAD ≤ length s → NeverHasRequest (front s) → MayBecomeRequest (front s) → IsCorner s
 never_or_may s long never (inl may) = absurd (never may.0 may.1 [] may.2)
 never_or_may s long never (inr ends) = inl (long, ends)
 

@@ -3,11 +3,8 @@ use Rattle.std.specs.Prelude.{ℕ, Bool, ◌&&◌, ◌==◌, not, nat_le, bytes_
 use Rattle.std.specs.Char.{is_ascii_digit}
 use Rattle.std.specs.List.{list_all}
 use Rattle.std.specs.Str.Parse.{digits_value}
+use Rattle.ht_wire.specs.declared.limits.TheConstants.{LONGEST_BODY}
 use Rattle.ht_wire.specs.Fields.{values_of, is_nothing}
-
--- the most bytes that a body has
-abbrev pub most_body : ℕ
-most_body = 1048576
 
 -- 1 to 10 digits, and nothing else
 abbrev pub is_length : List ℕ → Bool
@@ -24,7 +21,7 @@ length_said (v ∷ values) = if list_all (bytes_eq v) values then length_in v el
 -- a length that a body may have, or the code of the refusal
 abbrev pub limited : Option ℕ → Result ℕ ℕ
 limited None = Err 400
-limited (Some n) = if nat_le n most_body then Ok n else Err 413
+limited (Some n) = if nat_le n LONGEST_BODY then Ok n else Err 413
 
 -- the length of the body that the fields of a head announce, or the code of the refusal
 abbrev pub announced : List (List ℕ × List ℕ) → Result ℕ ℕ

@@ -1,9 +1,6 @@
 -- What one read puts into a buffer.
-use Rattle.std.specs.Prelude.{◌≡◌, ◌⊎◌, ℕ, ◌≤◌, List, [], ◌++◌, length, slice_range, Option, Result, Err, MatchResult}
-use Rattle.ht_outside.specs.Causes.{Rose}
+use Rattle.std.specs.Prelude.{◌≡◌, ◌⊎◌, ℕ, ◌≤◌, List, [], ◌++◌, length, slice_range, Option, Result, MatchResult}
 use Rattle.ht_outside.specs.Tells.{Flow, Takes, IsAtEnd, IsLastRead}
-use Rattle.ht_wire.specs.declared.buffer.FillFault.{FillFault}
-use Rattle.ht_wire.specs.declared.buffer.FillFault.TheVariants.{Failed}
 
 -- these bytes were taken from the source and stand behind the others
 pub record Gains (f g : Option Flow) (old new : List ℕ) (count : ℕ) : Type 0 where
@@ -24,11 +21,6 @@ Fills f g old new result = MatchResult result (Gains f g old new) (λ _. Stays f
 -- a read was made, or none
 abbrev pub IsReadOrNone : Option Flow → Option Flow → Type 0
 IsReadOrNone f g = (g ≡ f) ⊎ IsLastRead f g
-
--- the source's count of faults doesn't fall, and it rose where the source failed
-pub record HasFillCause (before now : ℕ) (result : Result ℕ FillFault) : Type 0 where
-  pub later : before ≤ now
-  pub failed : result ≡ Err Failed → Rose before now
 
 -- the bytes from start to end stay the same, in as much room or more
 pub record MakesRoom (old : List ℕ) (start end : ℕ) (new : List ℕ) (from to : ℕ) : Type 0 where

@@ -1,7 +1,6 @@
 -- What one call of `next_request` reads: from the bytes that were buffered and those that it took
 -- from the source, to the bytes that are buffered after it. It reads on only while more are needed.
-use Rattle.std.specs.Prelude.{◌≡◌, ◌⊎◌, ℕ, ◌≤◌, List, ◌++◌, Option, Some, None, ⊤}
-use Rattle.ht_outside.specs.Causes.{Rose}
+use Rattle.std.specs.Prelude.{◌≡◌, ◌⊎◌, ℕ, List, ◌++◌, Option, Some, None, ⊤}
 use Rattle.ht_outside.specs.Tells.{Flow, Takes, IsAtEnd}
 use Rattle.ht_wire.specs.declared.reading.Next.{Next}
 use Rattle.ht_wire.specs.declared.reading.Next.TheVariants.{Request, End, Refused, ReadFault, Memory}
@@ -83,8 +82,3 @@ pub record Reads (f g : Option Flow) (old new : List ℕ) (next : Next) : Type 0
   pub finds : Finds (old ++ taken) g new next
   pub exact : IsExact f old next
   pub needed : LastReadWhere IsUnfinished f g old
-
--- the source's count of faults doesn't fall, and it rose where the answer is a fault of it
-pub record HasReadCause (before now : ℕ) (next : Next) : Type 0 where
-  pub later : before ≤ now
-  pub failed : next ≡ ReadFault → Rose before now

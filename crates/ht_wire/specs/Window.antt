@@ -1,14 +1,7 @@
--- The limits of a request's head.
+-- What is looked at of a stream for a request's head.
 use Rattle.std.specs.Prelude.{ℕ, List, take}
-
--- the most bytes that a head has
-abbrev pub window : ℕ
-window = 16384
-
--- the most fields that a head has
-abbrev pub room : ℕ
-room = 64
+use Rattle.ht_wire.specs.declared.limits.TheConstants.{LONGEST_HEAD}
 
 -- the bytes that are looked at
 abbrev pub front : List ℕ → List ℕ
-front stream = take window stream
+front stream = take LONGEST_HEAD stream

@@ -9,12 +9,10 @@ ghost use Rattle.ht_wire.specs.Fields.{values_of};
 ghost use Rattle.ht_wire.specs.Walking.{IsBare};
 
 use crate::fields::{is_missing, same_text};
+use crate::limits::LONGEST_BODY;
 use crate::reading::{BAD_REQUEST, CONTENT_TOO_LARGE, NOT_IMPLEMENTED};
 use httparse::spans::HeaderSpan;
 use std::str;
-
-/// The most bytes that a body has.
-const MOST: u64 = 1_048_576;
 
 // The most digits of a length.
 const DIGITS: usize = 10;
@@ -26,7 +24,7 @@ pub(crate) fn body_length(bytes: &[u8], headers: &[HeaderSpan], bare: bool) -> R
     requires within { All (IsHeaderWithin (length bytes.now)) headers.now }
     requires bare { IsTrue bare → IsBare (map (header_bytes bytes.now) headers.now) }
     ensures length { result ≡ announced (map (header_bytes bytes.now) headers.now) }
-    ensures most { IfOk result (λ n. n ≤ 1048576) }
+    ensures most { IfOk result (λ n. n ≤ LONGEST_BODY) }
 {
     if bare {
         return Ok(0);
@@ -36,7 +34,7 @@ pub(crate) fn body_length(bytes: &[u8], headers: &[HeaderSpan], bare: bool) -> R
     }
     match length_said(bytes, headers, b"content-length") {
         Some(length) => {
-            if length <= MOST {
+            if length <= LONGEST_BODY {
                 Ok(length as usize)
             } else {
                 Err(CONTENT_TOO_LARGE)

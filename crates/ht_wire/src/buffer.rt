@@ -1,21 +1,18 @@
-ghost use Rattle.std.specs.Prelude.{◌≡◌, ◌-◌, ◌<◌, ◌≤◌, [], length, take, drop, IfOk, OnOk};
-ghost use Rattle.ht_outside.specs.Causes.{HasCause};
+ghost use Rattle.std.specs.Prelude.{◌≡◌, ◌-◌, ◌<◌, ◌≤◌, [], length, take, drop, Err, IfOk, OnOk};
+ghost use Rattle.ht_outside.specs.Causes.{HasCause, RoseWhere};
 ghost use Rattle.ht_outside.specs.Tells.{IsLastRead, ReadTakes};
 ghost use Rattle.ht_wire.specs.declared.buffer.FillFault.TheVariants as fault;
-ghost use Rattle.ht_wire.specs.Buffer.{Fills, HasFillCause, IsReadOrNone, MakesRoom};
+ghost use Rattle.ht_wire.specs.Buffer.{Fills, IsReadOrNone, MakesRoom};
 ghost use Rattle.ht_wire.specs.Window.{front};
 
-use crate::looking::ROOM;
+use crate::limits::{LONGEST_HEAD, MOST_FIELDS};
 use ht_base::Memory;
-use ht_outside::{Failed, Source};
+use ht_outside::{Failed, Link};
 use httparse::spans::{EMPTY_HEADER_SPAN, HeaderSpan};
 use std::alloc::Global;
 use std::marker::Model;
 
-/// The most bytes that a request's head has, and the room of a buffer until a longer body comes.
-pub(crate) const WINDOW: usize = 16_384;
-
-/// The bytes that were read from a source and not given out yet. It has room for 16,384, and grows
+/// The bytes that were read from a source and not given out yet. It has room for the longest head, and grows
 /// while a longer body is read. A contract sees them as a list.
 #[derive(Drop)]
 pub struct Buffer {
@@ -23,7 +20,7 @@ pub struct Buffer {
     start: usize,
     end: usize,
     // It is cleared once, and not for each head.
-    room: Option<Box<[HeaderSpan; ROOM]>>,
+    room: Option<Box<[HeaderSpan; MOST_FIELDS]>>,
 }
 
 impl Model for Buffer {
@@ -43,7 +40,7 @@ impl Buffer {
     pub fn new(alloc: Global) -> Result<Buffer, Memory>
         ensures { IfOk result (λ b. b ≡ []) }
     {
-        let bytes = vec![in alloc; 0; WINDOW]?;
+        let bytes = vec![in alloc; 0; LONGEST_HEAD]?;
         Ok(Buffer {
             bytes,
             start: 0,
@@ -53,7 +50,10 @@ impl Buffer {
     }
 
     /// Takes out the room for the fields of a head, and makes it where there is none.
-    pub(crate) fn take_room(&mut self, alloc: Global) -> Result<Box<[HeaderSpan; ROOM]>, Memory>
+    pub(crate) fn take_room(
+        &mut self,
+        alloc: Global,
+    ) -> Result<Box<[HeaderSpan; MOST_FIELDS]>, Memory>
         ensures { self.new ≡ self.old }
     {
         match self.room.take() {
@@ -63,7 +63,7 @@ impl Buffer {
     }
 
     /// Puts the room for the fields of a head back.
-    pub(crate) fn put_room(&mut self, room: Box<[HeaderSpan; ROOM]>)
+    pub(crate) fn put_room(&mut self, room: Box<[HeaderSpan; MOST_FIELDS]>)
         ensures { self.new ≡ self.old }
     {
         self.room = Some(room);
@@ -79,11 +79,11 @@ impl Buffer {
     /// The first of them, as many as a head has at most.
     pub(crate) fn front(&self) -> &[u8]
         ensures value { result.now ≡ front self.now }
-        ensures short { length result.now ≤ 16384 }
+        ensures short { length result.now ≤ LONGEST_HEAD }
     {
         let pending = self.pending();
-        if pending.len() > WINDOW {
-            return &pending[..WINDOW];
+        if pending.len() > LONGEST_HEAD {
+            return &pending[..LONGEST_HEAD];
         }
         pending
     }
@@ -102,27 +102,24 @@ impl Buffer {
 
     /// Reads once, as many bytes as there is room for. Where there is none, it makes some, for `most`
     /// bytes at most. 0 is the end.
-    pub(crate) fn fill<S: Source>(
-        &mut self,
-        source: &mut S,
-        most: usize,
-    ) -> Result<usize, FillFault>
+    pub(crate) fn fill<L: Link>(&mut self, link: &mut L, most: usize) -> Result<usize, FillFault>
         requires { length self.old < most }
-        ensures bytes { Fills (S.source_state source.old).flow (S.source_state source.new).flow self.old self.new result }
-        ensures last { IsReadOrNone (S.source_state source.old).flow (S.source_state source.new).flow }
-        ensures beside { S.beside_source source.new ≡ S.beside_source source.old }
-        ensures cause { HasFillCause (S.source_state source.old).faults (S.source_state source.new).faults result }
+        ensures bytes { Fills (L.Source.source_state link.old).flow (L.Source.source_state link.new).flow self.old self.new result }
+        ensures last { IsReadOrNone (L.Source.source_state link.old).flow (L.Source.source_state link.new).flow }
+        ensures beside { L.Sink.sink_state link.new ≡ L.Sink.sink_state link.old }
+        ensures same { L.same link.old link.new }
+        ensures cause { RoseWhere (result ≡ Err fault.Failed) (L.Source.source_state link.old).faults (L.Source.source_state link.new).faults }
     {
         make_room(&mut self.bytes, &mut self.start, &mut self.end, most)?;
-        let count = read_behind(source, &mut self.bytes, self.end)?;
+        let count = read_behind(link, &mut self.bytes, self.end)?;
         self.end += count;
         Ok(count)
     }
 }
 
 #[inline(never)]
-fn new_room(alloc: Global) -> Result<Box<[HeaderSpan; ROOM]>, Memory> {
-    Ok(Box::new(alloc, [EMPTY_HEADER_SPAN; ROOM])?)
+fn new_room(alloc: Global) -> Result<Box<[HeaderSpan; MOST_FIELDS]>, Memory> {
+    Ok(Box::new(alloc, [EMPTY_HEADER_SPAN; MOST_FIELDS])?)
 }
 
 /// Why a read puts nothing into a buffer.
@@ -178,14 +175,15 @@ fn make_room(
 }
 
 // Reads to the bytes behind `at`.
-fn read_behind<S: Source>(source: &mut S, bytes: &mut Vec<u8>, at: usize) -> Result<usize, Failed>
+fn read_behind<L: Link>(link: &mut L, bytes: &mut Vec<u8>, at: usize) -> Result<usize, Failed>
     requires { at ≤ length bytes.old.items }
-    ensures bytes { ReadTakes (S.source_state source.old).flow (S.source_state source.new).flow result (drop at bytes.new.items) }
-    ensures last { IsLastRead (S.source_state source.old).flow (S.source_state source.new).flow }
+    ensures bytes { ReadTakes (L.Source.source_state link.old).flow (L.Source.source_state link.new).flow result (drop at bytes.new.items) }
+    ensures last { IsLastRead (L.Source.source_state link.old).flow (L.Source.source_state link.new).flow }
     ensures before { take at bytes.new.items ≡ take at bytes.old.items }
     ensures size { length bytes.new.items ≡ length bytes.old.items }
-    ensures beside { S.beside_source source.new ≡ S.beside_source source.old }
-    ensures cause { HasCause (S.source_state source.old).faults (S.source_state source.new).faults result }
+    ensures beside { L.Sink.sink_state link.new ≡ L.Sink.sink_state link.old }
+    ensures same { L.same link.old link.new }
+    ensures cause { HasCause (L.Source.source_state link.old).faults (L.Source.source_state link.new).faults result }
 {
-    source.read(&mut bytes[at..])
+    link.read(&mut bytes[at..])
 }

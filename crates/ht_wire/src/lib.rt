@@ -4,6 +4,7 @@
 mod bodies;
 mod buffer;
 mod fields;
+mod limits;
 mod looking;
 mod reading;
 mod replying;

@@ -2,12 +2,9 @@ ghost use Rattle.std.specs.Prelude.{◌≡◌, ◌≤◌, ◌↔◌, IsTrue, len
 ghost use Rattle.ht_wire.specs.Heads.{IsEnd};
 ghost use Rattle.ht_wire.specs.Looking.{Sees};
 
-use crate::buffer::WINDOW;
+use crate::limits::{LONGEST_HEAD, MOST_FIELDS};
 use httparse::spans::{HeaderSpan, RequestSpans, parse_request};
 use httparse::{Error, Status};
-
-/// The most fields that a head has.
-pub(crate) const ROOM: usize = 64;
 
 /// What stands at the front of the bytes that are there so far.
 #[derive(Clone, Copy)]
@@ -23,8 +20,8 @@ pub(crate) enum Sight {
     Partial,
 }
 
-pub(crate) fn look(bytes: &[u8], headers: &mut [HeaderSpan; ROOM]) -> Sight
-    requires { length bytes.now ≤ 16384 }
+pub(crate) fn look(bytes: &[u8], headers: &mut [HeaderSpan; MOST_FIELDS]) -> Sight
+    requires { length bytes.now ≤ LONGEST_HEAD }
     ensures { Sees bytes.now headers.new result }
 {
     if is_end(bytes) {
@@ -33,7 +30,7 @@ pub(crate) fn look(bytes: &[u8], headers: &mut [HeaderSpan; ROOM]) -> Sight
     match parse_request(bytes, headers) {
         Ok(Status::Complete(head)) => Sight::Head(head),
         Ok(Status::Partial) => {
-            if bytes.len() == WINDOW {
+            if bytes.len() == LONGEST_HEAD {
                 return Sight::TooLong;
             }
             Sight::Partial
@@ -46,5 +43,5 @@ pub(crate) fn look(bytes: &[u8], headers: &mut [HeaderSpan; ROOM]) -> Sight
 fn is_end(bytes: &[u8]) -> bool
     ensures { IsTrue result ↔ IsEnd bytes.now }
 {
-    bytes.len() < WINDOW && bytes.iter().all(|b| *b == b'\r' || *b == b'\n')
+    bytes.len() < LONGEST_HEAD && bytes.iter().all(|b| *b == b'\r' || *b == b'\n')
 }

@@ -1,27 +1,29 @@
 ghost use Rattle.std.specs.Prelude.{◌≡◌, ◌≤◌, IfOk, MatchOption, MatchResult, length, drop, option_map};
 ghost use Rattle.http_header.specs.Token.{IsToken};
 ghost use Rattle.httparse.specs.Spans.{IsRequestWithin, span_bytes};
+ghost use Rattle.ht_outside.specs.Causes.{RoseWhere};
 ghost use Rattle.ht_wire.specs.Buffering.{FindsHead, FindsBody, ReadsWhereNeeded, failure};
 ghost use Rattle.ht_wire.specs.Fields as spec;
 ghost use Rattle.ht_wire.specs.GivingOut.{GivesOut, fields_at};
-ghost use Rattle.ht_wire.specs.Reading.{Reads, HasReadCause};
+ghost use Rattle.ht_wire.specs.Reading.{Reads};
 ghost use Rattle.ht_wire.specs.Requests.{IsCutShort, IsUnfinished};
 ghost use Rattle.ht_wire.specs.Window.{front};
 
 use crate::bodies::body_length;
-use crate::buffer::{FillFault, WINDOW};
+use crate::buffer::FillFault;
 use crate::fields::said_in;
-use crate::looking::{ROOM, Sight, look};
+use crate::limits::{LONGEST_HEAD, MOST_FIELDS};
+use crate::looking::{Sight, look};
 use crate::{Buffer, Request};
 use ht_base::{Bytes, Memory, Name};
-use ht_outside::Source;
+use ht_outside::Link;
 use http::Method;
 use http::method::MethodError;
 use httparse::spans::{HeaderSpan, RequestSpans};
 use std::alloc::Global;
 
 // Each look but the last is followed by a read of at least one byte.
-const LOOKS: usize = WINDOW + 1;
+const LOOKS: usize = LONGEST_HEAD + 1;
 
 // The status codes of the refusals (RFC 9110, 15.5.1, 15.5.14 and 15.6.2; RFC 6585, 5).
 pub(crate) const BAD_REQUEST: u16 = 400;
@@ -50,60 +52,63 @@ pub enum Next {
 /// at most 1,048,576: more are refused with 413, a length that is none or a body that ends early
 /// with 400, and a transfer coding with 501. It reads only where more
 /// bytes are needed.
-pub fn next_request<S: Source>(alloc: Global, source: &mut S, buffer: &mut Buffer) -> Next
-    ensures reads { Reads (S.source_state source.old).flow (S.source_state source.new).flow buffer.old buffer.new result }
-    ensures buffered { (IsUnfinished buffer.old → ⊥) → source.new ≡ source.old }
-    ensures beside { S.beside_source source.new ≡ S.beside_source source.old }
-    ensures cause { HasReadCause (S.source_state source.old).faults (S.source_state source.new).faults result }
+pub fn next_request<L: Link>(alloc: Global, link: &mut L, buffer: &mut Buffer) -> Next
+    ensures reads { Reads (L.Source.source_state link.old).flow (L.Source.source_state link.new).flow buffer.old buffer.new result }
+    ensures buffered { (IsUnfinished buffer.old → ⊥) → link.new ≡ link.old }
+    ensures beside { L.Sink.sink_state link.new ≡ L.Sink.sink_state link.old }
+    ensures same { L.same link.old link.new }
+    ensures cause { RoseWhere (result ≡ Next.ReadFault) (L.Source.source_state link.old).faults (L.Source.source_state link.new).faults }
 {
     let Ok(mut room) = buffer.take_room(alloc) else {
         return Next::Memory;
     };
-    let next = next_within(alloc, source, buffer, &mut room);
+    let next = next_within(alloc, link, buffer, &mut room);
     buffer.put_room(room);
     next
 }
 
 // The same, in this room for the fields of a head.
-fn next_within<S: Source>(
+fn next_within<L: Link>(
     alloc: Global,
-    source: &mut S,
+    link: &mut L,
     buffer: &mut Buffer,
-    headers: &mut [HeaderSpan; ROOM],
+    headers: &mut [HeaderSpan; MOST_FIELDS],
 ) -> Next
-    ensures reads { Reads (S.source_state source.old).flow (S.source_state source.new).flow buffer.old buffer.new result }
-    ensures buffered { (IsUnfinished buffer.old → ⊥) → source.new ≡ source.old }
-    ensures beside { S.beside_source source.new ≡ S.beside_source source.old }
-    ensures cause { HasReadCause (S.source_state source.old).faults (S.source_state source.new).faults result }
+    ensures reads { Reads (L.Source.source_state link.old).flow (L.Source.source_state link.new).flow buffer.old buffer.new result }
+    ensures buffered { (IsUnfinished buffer.old → ⊥) → link.new ≡ link.old }
+    ensures beside { L.Sink.sink_state link.new ≡ L.Sink.sink_state link.old }
+    ensures same { L.same link.old link.new }
+    ensures cause { RoseWhere (result ≡ Next.ReadFault) (L.Source.source_state link.old).faults (L.Source.source_state link.new).faults }
 {
-    match next_head(source, buffer, headers) {
-        Ok(head) => give_out(alloc, source, buffer, headers, &head),
+    match next_head(link, buffer, headers) {
+        Ok(head) => give_out(alloc, link, buffer, headers, &head),
         Err(next) => next,
     }
 }
 
 // Reads until a whole head stands in front, or says what stands there instead.
-fn next_head<S: Source>(
-    source: &mut S,
+fn next_head<L: Link>(
+    link: &mut L,
     buffer: &mut Buffer,
-    headers: &mut [HeaderSpan; ROOM],
+    headers: &mut [HeaderSpan; MOST_FIELDS],
 ) -> Result<RequestSpans, Next>
-    ensures finds { FindsHead (S.source_state source.old).flow (S.source_state source.new).flow buffer.old buffer.new headers.new result }
-    ensures buffered { ReadsWhereNeeded source.old source.new buffer.old buffer.new }
-    ensures beside { S.beside_source source.new ≡ S.beside_source source.old }
-    ensures cause { MatchResult result (λ _. (S.source_state source.old).faults ≤ (S.source_state source.new).faults) (HasReadCause (S.source_state source.old).faults (S.source_state source.new).faults) }
+    ensures finds { FindsHead (L.Source.source_state link.old).flow (L.Source.source_state link.new).flow buffer.old buffer.new headers.new result }
+    ensures buffered { ReadsWhereNeeded link.old link.new buffer.old buffer.new }
+    ensures beside { L.Sink.sink_state link.new ≡ L.Sink.sink_state link.old }
+    ensures same { L.same link.old link.new }
+    ensures cause { MatchResult result (λ _. (L.Source.source_state link.old).faults ≤ (L.Source.source_state link.new).faults) (λ next. RoseWhere (next ≡ Next.ReadFault) (L.Source.source_state link.old).faults (L.Source.source_state link.new).faults) }
 {
     for _ in 0..LOOKS {
         match look(buffer.front(), headers) {
             Sight::Head(head) => return Ok(head),
             Sight::TooLong => return Err(Next::Refused(FIELDS_TOO_LARGE)),
             Sight::NoHead => return Err(Next::Refused(BAD_REQUEST)),
-            Sight::Blank => match buffer.fill(source, WINDOW) {
+            Sight::Blank => match buffer.fill(link, LONGEST_HEAD) {
                 Ok(0) => return Err(Next::End),
                 Ok(_) => {}
                 Err(fault) => return Err(failed(fault)),
             },
-            Sight::Partial => match buffer.fill(source, WINDOW) {
+            Sight::Partial => match buffer.fill(link, LONGEST_HEAD) {
                 Ok(0) => return Err(Next::Refused(BAD_REQUEST)),
                 Ok(_) => {}
                 Err(fault) => return Err(failed(fault)),
@@ -114,14 +119,15 @@ fn next_head<S: Source>(
 }
 
 // Reads until so many bytes are there, or says why they aren't.
-fn read_to<S: Source>(source: &mut S, buffer: &mut Buffer, end: usize) -> Option<Next>
-    ensures finds { FindsBody end (S.source_state source.old).flow (S.source_state source.new).flow buffer.old buffer.new result }
-    ensures still { end ≤ length buffer.old → source.new ≡ source.old }
-    ensures beside { S.beside_source source.new ≡ S.beside_source source.old }
-    ensures cause { MatchOption result ((S.source_state source.old).faults ≤ (S.source_state source.new).faults) (HasReadCause (S.source_state source.old).faults (S.source_state source.new).faults) }
+fn read_to<L: Link>(link: &mut L, buffer: &mut Buffer, end: usize) -> Option<Next>
+    ensures finds { FindsBody end (L.Source.source_state link.old).flow (L.Source.source_state link.new).flow buffer.old buffer.new result }
+    ensures still { end ≤ length buffer.old → link.new ≡ link.old }
+    ensures beside { L.Sink.sink_state link.new ≡ L.Sink.sink_state link.old }
+    ensures same { L.same link.old link.new }
+    ensures cause { MatchOption result ((L.Source.source_state link.old).faults ≤ (L.Source.source_state link.new).faults) (λ next. RoseWhere (next ≡ Next.ReadFault) (L.Source.source_state link.old).faults (L.Source.source_state link.new).faults) }
 {
     while buffer.pending().len() < end {
-        match buffer.fill(source, end.max(WINDOW)) {
+        match buffer.fill(link, end.max(LONGEST_HEAD)) {
             Ok(0) => return Some(Next::Refused(BAD_REQUEST)),
             Ok(_) => {}
             Err(fault) => return Some(failed(fault)),
@@ -140,19 +146,20 @@ fn failed(fault: FillFault) -> Next
 }
 
 // The head that stands in front in the buffer, and the body behind it, as a request.
-fn give_out<S: Source>(
+fn give_out<L: Link>(
     alloc: Global,
-    source: &mut S,
+    link: &mut L,
     buffer: &mut Buffer,
     headers: &[HeaderSpan],
     head: &RequestSpans,
 ) -> Next
     requires within { IsRequestWithin (front buffer.old) headers.now head.now }
     requires token { IsToken (span_bytes (front buffer.old) head.now.method) }
-    ensures gives { GivesOut (S.source_state source.old).flow (S.source_state source.new).flow buffer.old headers.now head.now buffer.new result }
-    ensures still { (IsCutShort (fields_at (front buffer.old) headers.now head.now) (drop head.now.len buffer.old) → ⊥) → source.new ≡ source.old }
-    ensures beside { S.beside_source source.new ≡ S.beside_source source.old }
-    ensures cause { HasReadCause (S.source_state source.old).faults (S.source_state source.new).faults result }
+    ensures gives { GivesOut (L.Source.source_state link.old).flow (L.Source.source_state link.new).flow buffer.old headers.now head.now buffer.new result }
+    ensures still { (IsCutShort (fields_at (front buffer.old) headers.now head.now) (drop head.now.len buffer.old) → ⊥) → link.new ≡ link.old }
+    ensures beside { L.Sink.sink_state link.new ≡ L.Sink.sink_state link.old }
+    ensures same { L.same link.old link.new }
+    ensures cause { RoseWhere (result ≡ Next.ReadFault) (L.Source.source_state link.old).faults (L.Source.source_state link.new).faults }
 {
     let front = buffer.front();
     let fields = &headers[..head.headers];
@@ -181,7 +188,7 @@ fn give_out<S: Source>(
         });
     }
     let end = head.len + length;
-    if let Some(next) = read_to(source, buffer, end) {
+    if let Some(next) = read_to(link, buffer, end) {
         return next;
     }
     match Bytes::of(alloc, &buffer.pending()[head.len..end]) {

@@ -4,7 +4,7 @@ ghost use Rattle.ht_outside.specs.Tells.{WriteGrows};
 ghost use Rattle.ht_wire.specs.Replies.{IsReplyStatus, phrase_of, closing, reply_head, reply_bytes};
 
 use arrayvec::ArrayVec;
-use ht_outside::{Failed, Sink};
+use ht_outside::{Failed, Link};
 use http::StatusCode;
 
 // A reply whose head and body fit goes out by one write.
@@ -12,34 +12,36 @@ type Piece = ArrayVec<u8, 1024>;
 
 /// Writes a reply with a JSON body. The reply to the `last` request says that the connection
 /// closes. It takes no memory.
-pub fn write_reply<K: Sink>(
-    sink: &mut K,
+pub fn write_reply<L: Link>(
+    link: &mut L,
     status: u16,
     body: &[u8],
     last: bool,
 ) -> Result<(), Failed>
     requires { IsReplyStatus status }
-    ensures written { WriteGrows (K.sink_state sink.old).written (K.sink_state sink.new).written result (reply_bytes status body.now last) }
-    ensures beside { K.beside_sink sink.new ≡ K.beside_sink sink.old }
-    ensures cause { HasCause (K.sink_state sink.old).faults (K.sink_state sink.new).faults result }
+    ensures written { WriteGrows (L.Sink.sink_state link.old).written (L.Sink.sink_state link.new).written result (reply_bytes status body.now last) }
+    ensures beside { L.Source.source_state link.new ≡ L.Source.source_state link.old }
+    ensures same { L.same link.old link.new }
+    ensures cause { HasCause (L.Sink.sink_state link.old).faults (L.Sink.sink_state link.new).faults result }
 {
     let mut piece = Piece::new();
     put_head(status, body.len(), last, &mut piece);
     if piece.remaining_capacity() < body.len() {
-        return write_both(sink, &piece, body);
+        return write_both(link, &piece, body);
     }
     put(&mut piece, body);
-    sink.write(&piece)
+    link.write(&piece)
 }
 
 // By two writes.
-fn write_both<K: Sink>(sink: &mut K, first: &[u8], second: &[u8]) -> Result<(), Failed>
-    ensures written { WriteGrows (K.sink_state sink.old).written (K.sink_state sink.new).written result (first.now ++ second.now) }
-    ensures beside { K.beside_sink sink.new ≡ K.beside_sink sink.old }
-    ensures cause { HasCause (K.sink_state sink.old).faults (K.sink_state sink.new).faults result }
+fn write_both<L: Link>(link: &mut L, first: &[u8], second: &[u8]) -> Result<(), Failed>
+    ensures written { WriteGrows (L.Sink.sink_state link.old).written (L.Sink.sink_state link.new).written result (first.now ++ second.now) }
+    ensures beside { L.Source.source_state link.new ≡ L.Source.source_state link.old }
+    ensures same { L.same link.old link.new }
+    ensures cause { HasCause (L.Sink.sink_state link.old).faults (L.Sink.sink_state link.new).faults result }
 {
-    sink.write(first)?;
-    sink.write(second)
+    link.write(first)?;
+    link.write(second)
 }
 
 // The status line and the fields.

@@ -3,7 +3,7 @@ ghost use Rattle.ht_outside.specs.Causes.{HasCause};
 ghost use Rattle.ht_outside.specs.Tells.{ReadTakes};
 
 use ht_base::Bytes;
-use ht_outside::{Failed, MemorySink, MemorySource, Pair, Source};
+use ht_outside::{Failed, Link, MemorySink, MemorySource, Pair, Source};
 use ht_wire::{Buffer, Next, Request, next_request, write_reply};
 use std::alloc::Global;
 use std::process::Abort;
@@ -42,8 +42,12 @@ fn read_whole(alloc: Global, bytes: &[u8]) -> Result<String, Fail> {
 
 // The same, read byte by byte.
 fn read_dripping(alloc: Global, bytes: &[u8]) -> Result<String, Fail> {
-    let source = MemorySource::make(alloc, Bytes::of(alloc, bytes)?, Vec::new(alloc))?;
-    read_from(alloc, &mut Drip { source })
+    let Pair {
+        input: source,
+        output,
+    } = link(alloc, bytes)?;
+    let input = Drip { source };
+    read_from(alloc, &mut Pair { input, output })
 }
 
 // The same, in both ways.
@@ -58,24 +62,24 @@ fn read(alloc: Global, bytes: &[u8]) -> Result<String, Fail> {
 
 // The persons of the requests (`-` where there is none), `last` behind a last one, `:` and the body
 // behind one that has one, and then the end.
-fn read_from<S: Source>(alloc: Global, source: &mut S) -> Result<String, Fail> {
+fn read_from<L: Link>(alloc: Global, link: &mut L) -> Result<String, Fail> {
     let mut buffer = Buffer::new(alloc)?;
     let mut text = String::new(alloc);
     for _ in 0..100 {
-        if !read_next(alloc, source, &mut buffer, &mut text)? {
+        if !read_next(alloc, link, &mut buffer, &mut text)? {
             break;
         }
     }
     Ok(text)
 }
 
-fn read_next<S: Source>(
+fn read_next<L: Link>(
     alloc: Global,
-    source: &mut S,
+    link: &mut L,
     buffer: &mut Buffer,
     text: &mut String,
 ) -> Result<bool, Fail> {
-    let next = next_request(alloc, source, buffer);
+    let next = next_request(alloc, link, buffer);
     put_next(&next, text)
 }
 

@@ -1,8 +1,9 @@
 use Rattle.std.proofs.Common.{◌∙◌, sym, subst}
 use Rattle.std.specs.Prelude.{string_bytes}
 use Rattle.std.specs.Str.{IsCharBoundary, IsUtf8}
+use Rattle.ht_base.specs.declared.limits.TheConstants.{LONGEST_TEXT}
 use Rattle.ht_aggregate.specs.Given.{texts}
-use Rattle.ht_aggregate.specs.Joining.{IsCut, joined, most_bytes}
+use Rattle.ht_aggregate.specs.Joining.{IsCut, joined}
 use Rattle.ht_aggregate.proofs.Cuts.{cut_of}
 use Rattle.ht_aggregate.proofs.joining.joined.Goals as goal
 
@@ -16,8 +17,8 @@ returns c =
     let bytes = string_bytes c.in_ok-text.text in
     let end = c.floor_char_boundary-end.result in
     let whole = joined c.args.delimiter.now (texts c.args.values.now) in
-    subst (IsCut most_bytes whole) (sym (c.from.ensures ∙ c.truncate.ensures.bytes))
-    (cut_of most_bytes whole bytes end
+    subst (IsCut LONGEST_TEXT whole) (sym (c.from.ensures ∙ c.truncate.ensures.bytes))
+    (cut_of LONGEST_TEXT whole bytes end
     (subst IsUtf8 c.as_str.ensures.value c.as_str.utf8)
     c.in_ok-text.ensures
     c.floor_char_boundary-end.ensures.bound

@@ -3,6 +3,7 @@ use Rattle.std.specs.List.{All}
 use Rattle.std.proofs.lemmas.List.{take_all}
 use Rattle.std.proofs.lemmas.List.Elements.{All-more}
 use Rattle.ht_base.specs.Events.{is_short}
+use Rattle.ht_base.specs.declared.limits.TheConstants.{LONGEST_TEXT}
 use Rattle.ht_base.specs.declared.scalar.Scalar.{Scalar}
 use Rattle.ht_codec.specs.Fields.{name, scalar}
 use Rattle.ht_codec.proofs.Distinct.{PartFits, are_short, short_at}
@@ -14,7 +15,7 @@ pub write_scalar-requires : goal.write_scalar-requires
 write_scalar-requires c =
     let xs = c.as_slice-parts.result.now in
     let short = short_at xs c.loop-name.name-index c.loop-name-item.result c.loop-name-test.true (are_short c.args.value.now xs c.as_slice-parts.ensures.value c.requires) in
-    subst (λ (v : List ℕ × Scalar). is_short 512 ([], v.1) ≡ true) (sym c.loop-name-item.is) short
+    subst (λ (v : List ℕ × Scalar). is_short LONGEST_TEXT ([], v.1) ≡ true) (sym c.loop-name-item.is) short
 
 pub loop-name-preserved : goal.loop-name-preserved
 loop-name-preserved c =

@@ -1,5 +1,6 @@
 use Rattle.std.proofs.Common.{◌≡◌, ◌+◌, ◌<◌, ◌≤◌, ℕ, drop, Err, Some, Option, IfSome, ◌∙◌, sym, subst, arith}
 use Rattle.std.proofs.lemmas.Result.{err_from_is_err_and}
+use Rattle.ht_journal.specs.declared.limits.TheConstants.{LONGEST_BODY}
 use Rattle.ht_journal.specs.Files.{bodies_from, contents}
 use Rattle.ht_journal.specs.Opening.{StandsAt, IsScanned}
 use Rattle.ht_journal.specs.Pieces.{IsPiece}
@@ -28,7 +29,7 @@ frames-preserved g c =
     let o = g.D.Disk.gives c.args.disk.now in
     let i = c.frames.invariant in
     let n = c.in-Some.n in
-    let whole = subst (λ (found : Option ℕ). IfSome found (λ n. (n ≤ 1048576) × (c.frames.gate + 5 + n < c.args.end))) c.in-Some.is c.in_ok-n.ensures.whole in
+    let whole = subst (λ (found : Option ℕ). IfSome found (λ n. (n ≤ LONGEST_BODY) × (c.frames.gate + 5 + n < c.args.end))) c.in-Some.is c.in_ok-n.ensures.whole in
     let stands = subst (λ (found : Option ℕ). IfSome (g.D.Disk.gives c.frames.disk) (λ f. StandsAt c.frames.gate f found)) c.in-Some.is c.in_ok-n.ensures.stands in
     let told = told_same o (g.D.Disk.gives c.frames.disk) (λ f. StandsAt c.frames.gate f (Some n)) i.quiet.file stands in
     record {

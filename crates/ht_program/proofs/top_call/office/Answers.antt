@@ -1,4 +1,4 @@
-use Rattle.std.proofs.Common.{◌≡◌, ℕ, List, Option, Some, None, Ok, Err, String, Global, map, option_map, ap, sym, subst, refl}
+use Rattle.std.proofs.Common.{◌≡◌, ℕ, List, Option, Some, None, Ok, Err, String, Global, map, option_map, ap, sym, subst, refl, inr}
 use Rattle.ht_program.specs.Named.{pair_of}
 use Rattle.ht_program.specs.Opening.{Opens}
 use Rattle.ht_program.specs.Words.{IsRun}
@@ -26,13 +26,13 @@ returns-in-Ok-clause-built_in g c = λ from step is.
     (c.status_of.ensures.served.1, c.status_of.ensures.served.2, no_names c.in-Some.words.texts _ (same_names _ _ c.in-Some.words _ _ _ c.deref.ensures.value c.in-Some.ensures.some is) c.open.ensures.built_in)
 
 pub returns-in-Ok-clause-exact : goal.returns-in-Ok-clause-exact
-returns-in-Ok-clause-exact g c = λ two three four seven eight. status_of_input _ _ _ _ _ _ _ _ _ c.serve-ending.ensures.ran c.status_of.ensures.value seven eight
+returns-in-Ok-clause-exact g c = λ two three four seven eight. status_of_input _ _ _ _ _ _ _ _ _ c.serve-ending.ensures c.status_of.ensures.value seven eight
 
 pub returns-in-Ok-clause-complete : goal.returns-in-Ok-clause-complete
-returns-in-Ok-clause-complete g c = λ from step names is texts reads writes. answered _ _ c.serve-ending.result c.status_of.result.0 c.status_of.ensures.value c.serve-ending.ensures.causes reads writes
+returns-in-Ok-clause-complete g c = λ from step names is texts reads writes. answered _ _ _ _ _ c.serve-ending.result c.status_of.result.0 c.status_of.ensures.value c.serve-ending.ensures reads writes
 
 pub returns-in-Ok-clause-pipe : goal.returns-in-Ok-clause-pipe
-returns-in-Ok-clause-pipe g c = λ seven. broke _ _ c.serve-ending.result c.status_of.result.0 c.status_of.ensures.value c.serve-ending.ensures.causes seven
+returns-in-Ok-clause-pipe g c = λ seven. broke _ _ _ _ _ c.serve-ending.result c.status_of.result.0 c.status_of.ensures.value c.serve-ending.ensures seven
 
 -- ---- the office was not opened
 
@@ -41,6 +41,24 @@ returns-in-Err-clause-usage g c =
     let said = c.in-Some.words in
     let P : List (String Global) → Type 0 = λ ws. IsRun (map bytes_of ws) said.run.from said.run.step (option_map pair_of said.texts) in
     ((λ two. absurd (c.fault_status.ensures.opening two)), (λ none. absurd (none said.run.from said.run.step (option_map pair_of said.texts) (subst P c.deref.ensures.value c.in-Some.ensures.some))))
+
+pub returns-in-Err-clause-run : goal.returns-in-Err-clause-run
+returns-in-Err-clause-run g c = λ not_two.
+    let said = c.in-Some.words in
+    let P : List (String Global) → Type 0 = λ ws. IsRun (map bytes_of ws) said.run.from said.run.step (option_map pair_of said.texts) in (
+      said.run.from,
+      said.run.step,
+      option_map pair_of said.texts,
+      subst P c.deref.ensures.value c.in-Some.ensures.some,
+      inr (record {
+        why = c.in-Err.fault;
+        opens = c.in-Err.ensures.opens;
+        asks = c.in-Err.ensures.asks;
+        status_is = c.fault_status.ensures.value;
+        untouched = refl;
+        complains = c.complain_of.ensures;
+      }),
+    )
 
 pub returns-in-Err-clause-wrong : goal.returns-in-Err-clause-wrong
 returns-in-Err-clause-wrong g c = λ from step names is.
@@ -58,7 +76,7 @@ returns-in-Err-clause-built_in g c = λ from step is.
 
 pub returns-in-Err-clause-complete : goal.returns-in-Err-clause-complete
 returns-in-Err-clause-complete g c = λ from step names is texts reads writes.
-    fault_answered _ _ c.in-Err.fault c.fault_status.result.0 c.fault_status.ensures.value (λ w e. c.in-Err.ensures.cause.unread w (ap Err e)) texts
+    fault_answered _ _ c.in-Err.fault c.fault_status.result.0 c.fault_status.ensures.value (λ w e. c.in-Err.ensures.cause.failed (w, ap Err e)) texts
 
 -- ---- wrong words
 

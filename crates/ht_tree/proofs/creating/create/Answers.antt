@@ -1,6 +1,7 @@
 use Rattle.std.proofs.Common.{true, is_some, ◌∷◌, [], ◌++◌, length, ◌≡◌, ℕ, ◌+◌, ◌≤◌, List, Option, Some, None, ap, sym, ◌∙◌, subst, arith}
 use Rattle.std.specs.Option.{option_map_or}
 use Rattle.std.specs.Prelude.{slice_get}
+use Rattle.ht_base.specs.declared.limits.TheConstants.{MOST_TASKS}
 use Rattle.ht_models.specs.Model.{ModelOf}
 use Rattle.ht_models.specs.Shown.{model_of}
 use Rattle.ht_tree.specs.declared.row.Row.{Row}
@@ -8,7 +9,7 @@ use Rattle.ht_tree.specs.Creating.{new_row}
 use Rattle.ht_tree.specs.Plans.{Goes, planned}
 use Rattle.ht_models.specs.TreeSizes.{AreSized, size_at}
 use Rattle.ht_tree.specs.Families.{MayCome}
-use Rattle.ht_tree.specs.Sizes.{most_tasks, total_size}
+use Rattle.ht_tree.specs.Sizes.{total_size}
 use Rattle.ht_tree.specs.Soundness.{Fits, IsSound, IsSoundRow}
 use Rattle.ht_tree.specs.Tables.{TablesOf, model_at, with_row}
 use Rattle.ht_tree.proofs.Filing.{next_file}
@@ -64,7 +65,7 @@ returns-clause-sound c = λ may early soon sound.
     let model : row.model ≡ c.args.model = ap (λ (r : Row). r.model) is in
     let number : row.task.0 ≡ length u.rows + 1 = ap (λ (r : Row). r.task.0) is in
     let size : size_at t.models row.model ≡ m.size = ap (λ (k : ℕ). size_at t.models k) model ∙ ap (λ (o : Option ModelOf). option_map_or (λ (x : ModelOf). x.size) o 0) known in
-    let room : c.args.parent ≡ None → total_size t.models u.rows + size_at t.models row.model ≤ most_tasks = λ none.
+    let room : c.args.parent ≡ None → total_size t.models u.rows + size_at t.models row.model ≤ MOST_TASKS = λ none.
     elim c.else-is_none.branch [
       | else-is_none-via-then-is_none+else-size-gt-MOST_TASKS w ↦
           let value = w.size.ensures.value in

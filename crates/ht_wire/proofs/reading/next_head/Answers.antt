@@ -44,19 +44,21 @@ pub loop-preserved : goal.loop-preserved
 loop-preserved g c =
     elim c.match-look.branch [
       | in-Blank+in-Ok w ↦ record {
-        took = rw (w.source-is, w.buffer-is) (took_more _ _ _ _ _ _ _ _ c.loop.invariant.took (none_blank _ (rw c.front.ensures.value at w.in-Blank.ensures)) w.in-Ok.ensures.last w.in-Ok.ensures.bytes);
+        took = rw (w.link-is, w.buffer-is) (took_more _ _ _ _ _ _ _ _ c.loop.invariant.took (none_blank _ (rw c.front.ensures.value at w.in-Blank.ensures)) w.in-Ok.ensures.last w.in-Ok.ensures.bytes);
         buffered = inr (needed_before _ _ _ _ c.loop.invariant.buffered (none_blank _ (rw c.front.ensures.value at w.in-Blank.ensures)));
         grown = rw w.buffer-is (grew _ _ _ _ _ _ w.in-Ok.ensures.bytes w.in-Ok.field-0-test.1 c.loop.invariant.grown);
         few = (let short = short_of _ (rw c.front.ensures.value at w.in-Blank.ensures).short in let grown = c.loop.invariant.grown in omega (arith, short, grown));
-        later = rw w.source-is (let one = c.loop.invariant.later in let two = w.in-Ok.ensures.cause.later in omega (arith, one, two));
-        beside = rw w.source-is (w.in-Ok.ensures.beside ∙ c.loop.invariant.beside);
+        later = rw w.link-is (let one = c.loop.invariant.later in let two = w.in-Ok.ensures.cause.later in omega (arith, one, two));
+        beside = rw w.link-is (w.in-Ok.ensures.beside ∙ c.loop.invariant.beside);
+        same = rw w.link-is (g.L.Link.same_on _ _ _ c.loop.invariant.same w.in-Ok.ensures.same);
       }
       | in-Partial+in-Ok-fill w ↦ record {
-        took = rw (w.source-is, w.buffer-is) (took_more _ _ _ _ _ _ _ _ c.loop.invariant.took (none_partial _ (rw c.front.ensures.value at w.in-Partial.ensures)) w.in-Ok-fill.ensures.last w.in-Ok-fill.ensures.bytes);
+        took = rw (w.link-is, w.buffer-is) (took_more _ _ _ _ _ _ _ _ c.loop.invariant.took (none_partial _ (rw c.front.ensures.value at w.in-Partial.ensures)) w.in-Ok-fill.ensures.last w.in-Ok-fill.ensures.bytes);
         buffered = inr (needed_before _ _ _ _ c.loop.invariant.buffered (none_partial _ (rw c.front.ensures.value at w.in-Partial.ensures)));
         grown = rw w.buffer-is (grew _ _ _ _ _ _ w.in-Ok-fill.ensures.bytes w.in-Ok-fill.field-0-test.1 c.loop.invariant.grown);
         few = (let short = short_of _ ((rw c.front.ensures.value at w.in-Partial.ensures).1).short in let grown = c.loop.invariant.grown in omega (arith, short, grown));
-        later = rw w.source-is (let one = c.loop.invariant.later in let two = w.in-Ok-fill.ensures.cause.later in omega (arith, one, two));
-        beside = rw w.source-is (w.in-Ok-fill.ensures.beside ∙ c.loop.invariant.beside);
+        later = rw w.link-is (let one = c.loop.invariant.later in let two = w.in-Ok-fill.ensures.cause.later in omega (arith, one, two));
+        beside = rw w.link-is (w.in-Ok-fill.ensures.beside ∙ c.loop.invariant.beside);
+        same = rw w.link-is (g.L.Link.same_on _ _ _ c.loop.invariant.same w.in-Ok-fill.ensures.same);
       }
     ]

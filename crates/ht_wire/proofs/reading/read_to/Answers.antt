@@ -13,4 +13,5 @@ loop-buffer-preserved g c =
       longer = (let before = was.longer in omega (arith, before, more));
       later = (let one = was.later in let two = c.in-Ok.ensures.cause.later in omega (arith, one, two));
       beside = c.in-Ok.ensures.beside ∙ was.beside;
+      same = g.L.Link.same_on _ _ _ was.same c.in-Ok.ensures.same;
     }

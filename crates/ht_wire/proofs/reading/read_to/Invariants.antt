@@ -4,11 +4,12 @@ use Rattle.ht_wire.proofs.reading.read_to.Given as goal
 
 abbrev pub invariant-loop-buffer : goal.invariant-loop-buffer
 invariant-loop-buffer g l = record {
-  took : ReadsOn (λ bytes. length bytes < l.end) (g.S.Source.source_state l.fn.source).flow (g.S.Source.source_state l.source).flow l.fn.buffer l.buffer;
-  still : l.end ≤ length l.fn.buffer → l.source ≡ l.fn.source;
+  took : ReadsOn (λ bytes. length bytes < l.end) (g.L.Source.source_state l.fn.link).flow (g.L.Source.source_state l.link).flow l.fn.buffer l.buffer;
+  still : l.end ≤ length l.fn.buffer → l.link ≡ l.fn.link;
   longer : length l.fn.buffer ≤ length l.buffer;
-  later : (g.S.Source.source_state l.fn.source).faults ≤ (g.S.Source.source_state l.source).faults;
-  beside : g.S.Source.beside_source l.source ≡ g.S.Source.beside_source l.fn.source;
+  later : (g.L.Source.source_state l.fn.link).faults ≤ (g.L.Source.source_state l.link).faults;
+  beside : g.L.Sink.sink_state l.link ≡ g.L.Sink.sink_state l.fn.link;
+  same : g.L.Link.same l.fn.link l.link;
 }
 
 abbrev pub decreases-loop-buffer : goal.decreases-loop-buffer

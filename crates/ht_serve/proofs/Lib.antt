@@ -1,0 +1,4 @@
+mod Continuing
+mod Exchanging
+pub mod PublicLaws
+mod Standing
