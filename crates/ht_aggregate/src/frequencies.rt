@@ -91,7 +91,8 @@ fn only_one(values: &[Value], count: usize) -> Option<&str>
 
 // Whether a text is found that isn't this one.
 fn is_other(found: Option<&str>, text: &str) -> bool
-    ensures { result ≡ option_map_or (λ t. not (bytes_eq t text.now)) (option_map (λ t. t.now) found.entry) false }
+    ensures { result ≡ option_map_or (λ t. not (bytes_eq t text.now))
+        (option_map (λ t. t.now) found.entry) false }
 {
     match found {
         Some(other) => other != text,

@@ -21,7 +21,8 @@ pub(crate) fn joined(alloc: Global, delimiter: &str, values: &[Value]) -> Result
 // The texts with the delimiter between each two; no more of them than one that goes beyond the most
 // bytes.
 fn beginning(alloc: Global, delimiter: &str, values: &[Value]) -> Result<String, Memory>
-    ensures { IfOk result (λ t. BeginsFar LONGEST_TEXT (spec.joined delimiter.now (texts values.now)) (string_bytes t)) }
+    ensures { IfOk result (λ t.
+        BeginsFar LONGEST_TEXT (spec.joined delimiter.now (texts values.now)) (string_bytes t)) }
 {
     let mut joined = String::new(alloc);
     let mut between = "";

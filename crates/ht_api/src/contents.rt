@@ -181,7 +181,8 @@ fn put_comment(comment: &ShownComment, writer: &mut Writer) -> Result<(), Memory
 }
 
 fn put_roles(all: &[Role], set: &Roles, writer: &mut Writer) -> Result<(), Memory>
-    ensures { Puts result writer.old writer.new (tokens_of (array (texts (map role_name (filter (contains_role set.now) all.now))))) }
+    ensures { Puts result writer.old writer.new
+        (tokens_of (array (texts (map role_name (filter (contains_role set.now) all.now))))) }
 {
     writer.begin_array()?;
     for role in all {
@@ -194,7 +195,8 @@ fn put_roles(all: &[Role], set: &Roles, writer: &mut Writer) -> Result<(), Memor
 }
 
 fn put_states(all: &[State], set: &StateSet, writer: &mut Writer) -> Result<(), Memory>
-    ensures { Puts result writer.old writer.new (tokens_of (array (texts (map state_name (filter (contains_state set.now) all.now))))) }
+    ensures { Puts result writer.old writer.new
+        (tokens_of (array (texts (map state_name (filter (contains_state set.now) all.now))))) }
 {
     writer.begin_array()?;
     for state in all {

@@ -53,7 +53,8 @@ fn ask(
     task: TaskId,
     asked: Asked,
 ) -> Result<Event, ApiRefusal>
-    ensures { Gives (asks at task (command_in asked request.now.body.items) request.now.person) result }
+    ensures { Gives (asks at task (command_in asked request.now.body.items) request.now.person)
+        result }
 {
     let (retry, command) = command_in(alloc, asked, request.body.as_slice())?;
     match request.person {

@@ -59,7 +59,8 @@ fn put_fault(name: &str, writer: &mut Writer) -> Result<(), Memory>
 fn put_named_fault(name: &str, key: &str, what: &Name, writer: &mut Writer) -> Result<(), Memory>
     requires name { length name.now ≤ 16 }
     requires key { length key.now ≤ 16 }
-    ensures puts { Puts result writer.old writer.new (tokens_of (named_fault name.now key.now what.now)) }
+    ensures puts { Puts result writer.old writer.new
+        (tokens_of (named_fault name.now key.now what.now)) }
     ensures room { 1024 ≤ writer.old.spare → IsOk result }
 {
     // A name is short.
@@ -72,7 +73,8 @@ fn put_named_fault(name: &str, key: &str, what: &Name, writer: &mut Writer) -> R
 
 fn put_limit_fault(limit: &str, writer: &mut Writer) -> Result<(), Memory>
     requires { length limit.now ≤ 16 }
-    ensures puts { Puts result writer.old writer.new (tokens_of (named_fault (codes "Limit") (codes "limit") limit.now)) }
+    ensures puts { Puts result writer.old writer.new
+        (tokens_of (named_fault (codes "Limit") (codes "limit") limit.now)) }
     ensures room { 1024 ≤ writer.old.spare → IsOk result }
 {
     put_short(
@@ -87,7 +89,8 @@ fn put_limit_fault(limit: &str, writer: &mut Writer) -> Result<(), Memory>
 fn put_counted_fault(name: &str, key: &str, number: u32, writer: &mut Writer) -> Result<(), Memory>
     requires name { length name.now ≤ 16 }
     requires key { length key.now ≤ 16 }
-    ensures puts { Puts result writer.old writer.new (tokens_of (counted_fault name.now key.now number)) }
+    ensures puts { Puts result writer.old writer.new
+        (tokens_of (counted_fault name.now key.now number)) }
     ensures room { 1024 ≤ writer.old.spare → IsOk result }
 {
     put_short(
@@ -100,7 +103,8 @@ fn put_counted_fault(name: &str, key: &str, number: u32, writer: &mut Writer) ->
 }
 
 fn put_role_fault(needs: &Roles, writer: &mut Writer) -> Result<(), Memory>
-    ensures puts { Puts result writer.old writer.new (tokens_of (refusal_data (refusal.Role needs.now))) }
+    ensures puts { Puts result writer.old writer.new
+        (tokens_of (refusal_data (refusal.Role needs.now))) }
     ensures room { 1024 ≤ writer.old.spare → IsOk result }
 {
     put_short(
@@ -113,7 +117,8 @@ fn put_role_fault(needs: &Roles, writer: &mut Writer) -> Result<(), Memory>
 }
 
 fn put_state_fault(allowed: &StateSet, state: State, writer: &mut Writer) -> Result<(), Memory>
-    ensures puts { Puts result writer.old writer.new (tokens_of (refusal_data (refusal.State allowed.now state))) }
+    ensures puts { Puts result writer.old writer.new
+        (tokens_of (refusal_data (refusal.State allowed.now state))) }
     ensures room { 1024 ≤ writer.old.spare → IsOk result }
 {
     put_short(

@@ -78,7 +78,8 @@ impl Fields {
 
     // Puts the value of a key into its field, and tells whether it fits.
     fn put(&mut self, alloc: Global, key: Key, value: &Value) -> Result<bool, Memory>
-        ensures { IfOk result (λ fits. with_key key (view value.now) self.old ≡ (if fits then Some self.new else None)) }
+        ensures { IfOk result (λ fits.
+            with_key key (view value.now) self.old ≡ (if fits then Some self.new else None)) }
     {
         match key {
             Key::Device => put!(self.device, device_in(value)),

@@ -21,7 +21,8 @@ pub fn text_of(alloc: Global, reply: &Reply, into: &mut Bytes) -> Result<u16, Me
     ensures known { IfOk result IsReplyStatus }
     ensures text { OnOk result (into.new.items ≡ answer_text reply.now.answer) }
     ensures none { OnErr result (into.new.items ≡ []) }
-    ensures room { 1024 ≤ into.old.spare + length into.old.items → OnErr result (IsSheet reply.now.answer) }
+    ensures room { 1024 ≤ into.old.spare + length into.old.items
+        → OnErr result (IsSheet reply.now.answer) }
 {
     into.clear();
     write(alloc, &reply.answer, into)?;
@@ -62,7 +63,8 @@ fn put_done(
     owner: &Option<Name>,
     writer: &mut Writer,
 ) -> Result<(), Memory>
-    ensures puts { Puts result writer.old writer.new (tokens_of (answer_data (Done task state owner.now))) }
+    ensures puts { Puts result writer.old writer.new
+        (tokens_of (answer_data (Done task state owner.now))) }
     ensures room { 1024 ≤ writer.old.spare → IsOk result }
 {
     told_short(owner);

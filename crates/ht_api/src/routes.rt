@@ -118,7 +118,8 @@ fn method_of(place: Place) -> Method
 
 fn place_at(path: Path, params: &Params<'_, '_>) -> Option<Place>
     requires { IsAscii params.now.path.now }
-    ensures { result ≡ place_at path (values_of (walk params.now.pattern.now params.now.text.now params.now.path.now params.now.names.now 0 0)) }
+    ensures { result ≡ place_at path (values_of (walk params.now.pattern.now params.now.text.now
+        params.now.path.now params.now.names.now 0 0)) }
 {
     match path {
         Path::Tasks => Some(Place::Tasks),
@@ -137,7 +138,9 @@ fn place_at(path: Path, params: &Params<'_, '_>) -> Option<Place>
 // The part of the path that a parameter took.
 fn part<'v>(params: &Params<'_, 'v>, at: usize) -> Option<&'v str>
     requires { IsAscii params.now.path.now }
-    ensures { option_map (λ p. p.now) result ≡ nth_of at (values_of (walk params.now.pattern.now params.now.text.now params.now.path.now params.now.names.now 0 0)) }
+    ensures { option_map (λ p. p.now) result
+        ≡ nth_of at (values_of (walk params.now.pattern.now params.now.text.now params.now.path.now
+        params.now.names.now 0 0)) }
 {
     let mut left = at;
     for (_, value) in params.iter() {

@@ -67,7 +67,8 @@ impl Bytes {
         ensures ok { OnOk result (self.new.items ≡ self.old.items ++ bytes.now) }
         ensures err { OnErr result (self.new.items ≡ self.old.items) }
         ensures room { length bytes.now ≤ self.old.spare → IsOk result }
-        ensures kept { self.old.spare + length self.old.items ≤ self.new.spare + length self.new.items }
+        ensures kept { self.old.spare + length self.old.items
+            ≤ self.new.spare + length self.new.items }
     {
         self.items.extend_from_slice(bytes)?;
         Ok(())

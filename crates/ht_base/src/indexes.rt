@@ -60,7 +60,8 @@ impl<T: Drop> From<AllocFailed<T>> for IndexFault {
 pub fn index<K: Key>(alloc: Global, keys: &[K]) -> Result<BTreeMap<K, usize>, IndexFault>
     ensures ok { IfOk result (λ places. IsIndexBy K.cmp places keys.now) }
     ensures distinct { OnOk result ((place : ℕ) → IsRepeated keys.now place → ⊥) }
-    ensures repeated { IfErr result (λ fault. (place : ℕ) → fault ≡ IndexFault.Repeated place → IsLeast (IsRepeated keys.now) place) }
+    ensures repeated { IfErr result (λ fault.
+        (place : ℕ) → fault ≡ IndexFault.Repeated place → IsLeast (IsRepeated keys.now) place) }
 {
     let mut places = BTreeMap::new(alloc);
     for (place, key) in keys.iter().enumerate() {
@@ -75,7 +76,8 @@ pub fn index<K: Key>(alloc: Global, keys: &[K]) -> Result<BTreeMap<K, usize>, In
 pub fn name_places(alloc: Global, names: &[Name]) -> Result<BTreeMap<Name, usize>, IndexFault>
     ensures ok { IfOk result (λ places. IsIndex places names.now) }
     ensures distinct { OnOk result ((place : ℕ) → IsRepeated names.now place → ⊥) }
-    ensures repeated { IfErr result (λ fault. (place : ℕ) → fault ≡ IndexFault.Repeated place → IsLeast (IsRepeated names.now) place) }
+    ensures repeated { IfErr result (λ fault.
+        (place : ℕ) → fault ≡ IndexFault.Repeated place → IsLeast (IsRepeated names.now) place) }
 {
     index(alloc, names)
 }

@@ -8,7 +8,8 @@ use crate::MOST_DIGITS;
 
 /// The number that one to six decimal digits spell; `None` where the bytes are anything else.
 pub fn number(bytes: &[u8]) -> Option<u32>
-    ensures { MatchOption result (IsNumber bytes.now → ⊥) (λ n. IsNumber bytes.now × (n ≡ digits_value 10 bytes.now)) }
+    ensures { MatchOption result (IsNumber bytes.now → ⊥)
+        (λ n. IsNumber bytes.now × (n ≡ digits_value 10 bytes.now)) }
 {
     if bytes.is_empty() || bytes.len() > MOST_DIGITS || !are_digits(bytes) {
         return None;

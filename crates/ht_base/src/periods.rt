@@ -33,8 +33,11 @@ pub fn period(text: &str) -> Option<u64>
 
 // Of what stands behind the days: a time behind `T`, or nothing.
 fn marked_time(bytes: &[u8]) -> Option<u64>
-    ensures reads { (t : Option TimeText) → IfSome t IsTime → bytes.now ≡ marked_text t → result ≡ Some (marked_time_millis t) }
-    ensures exact { IfSome result (λ ms. (t : Option TimeText) × IfSome t IsTime × (bytes.now ≡ marked_text t) × (ms ≡ marked_time_millis t)) }
+    ensures reads { (t : Option TimeText) → IfSome t IsTime → bytes.now ≡ marked_text t
+        → result ≡ Some (marked_time_millis t) }
+    ensures exact { IfSome result (λ ms.
+        (t : Option TimeText) × IfSome t IsTime × (bytes.now ≡ marked_text t)
+        × (ms ≡ marked_time_millis t)) }
     ensures most { IfSome result (λ ms. ms ≤ 3660996339000) }
 {
     if bytes.is_empty() {
@@ -45,8 +48,10 @@ fn marked_time(bytes: &[u8]) -> Option<u64>
 
 // Of hours, minutes and seconds.
 fn time(bytes: &[u8]) -> Option<u64>
-    ensures reads { (t : TimeText) → IsTime t → bytes.now ≡ time_text t → result ≡ Some (time_millis t) }
-    ensures exact { IfSome result (λ ms. (t : TimeText) × IsTime t × (bytes.now ≡ time_text t) × (ms ≡ time_millis t)) }
+    ensures reads { (t : TimeText) → IsTime t → bytes.now ≡ time_text t
+        → result ≡ Some (time_millis t) }
+    ensures exact { IfSome result
+        (λ ms. (t : TimeText) × IsTime t × (bytes.now ≡ time_text t) × (ms ≡ time_millis t)) }
     ensures most { IfSome result (λ ms. ms ≤ 3660996339000) }
 {
     let (hours, behind_hours) = amount(bytes, b'H');
@@ -80,7 +85,8 @@ fn place_of(bytes: &[u8], letter: u8) -> Option<usize>
 
 // What stands behind the letter that the bytes begin with.
 fn behind(bytes: &[u8], letter: u8) -> Option<&[u8]>
-    ensures { MatchOption result ((rest : List ℕ) → bytes.now ≡ letter ∷ rest → ⊥) (λ rest. bytes.now ≡ letter ∷ rest.now) }
+    ensures { MatchOption result ((rest : List ℕ) → bytes.now ≡ letter ∷ rest → ⊥)
+        (λ rest. bytes.now ≡ letter ∷ rest.now) }
 {
     if bytes.is_empty() || bytes[0] != letter {
         return None;

@@ -23,33 +23,39 @@ pub fn each_valid_record_has_one_spelling()
 pub fn each_spelling_is_of_a_valid_record()
     ensures valid { (r : RecordOf) (bytes : List ℕ) → Spells r bytes → IsRecord r }
     ensures typed { (r : RecordOf) (bytes : List ℕ) → Spells r bytes → RecordHolds r }
-    ensures asked { (at : Moment) (caller : List ℕ) (retry : Option Retry) (task : TaskId) (command : Command)
-        → IsValid (Ask at caller retry task command) → IsRecord (an_asking at caller retry task command) }
+    ensures asked { (at : Moment) (caller : List ℕ) (retry : Option Retry) (task : TaskId)
+        (command : Command) → IsValid (Ask at caller retry task command)
+        → IsRecord (an_asking at caller retry task command) }
 {}
 
 /// A spelling is one record's, and no spelling begins another.
 pub fn no_spelling_begins_another()
-    ensures { (r s : RecordOf) (a b more : List ℕ) → Spells r a → Spells s b → b ≡ a ++ more → (r ≡ s) × (more ≡ []) }
+    ensures { (r s : RecordOf) (a b more : List ℕ) → Spells r a → Spells s b → b ≡ a ++ more
+        → (r ≡ s) × (more ≡ []) }
 {}
 
 /// Bytes either spell a record or are refused, for one reason.
 pub fn bytes_have_one_answer()
-    ensures some { (bytes : List ℕ) → IsBytes bytes → ((r : RecordOf) × Spells r bytes) ⊎ ((why : CodecRefusal) × Refuses bytes why) }
-    ensures not_both { (bytes : List ℕ) (r : RecordOf) (why : CodecRefusal) → Spells r bytes → Refuses bytes why → ⊥ }
-    ensures one { (bytes : List ℕ) (why other : CodecRefusal) → Refuses bytes why → Refuses bytes other → why ≡ other }
+    ensures some { (bytes : List ℕ) → IsBytes bytes
+        → ((r : RecordOf) × Spells r bytes) ⊎ ((why : CodecRefusal) × Refuses bytes why) }
+    ensures not_both { (bytes : List ℕ) (r : RecordOf) (why : CodecRefusal) → Spells r bytes
+        → Refuses bytes why → ⊥ }
+    ensures one { (bytes : List ℕ) (why other : CodecRefusal) → Refuses bytes why
+        → Refuses bytes other → why ≡ other }
     ensures not_memory { (bytes : List ℕ) → Refuses bytes Memory → ⊥ }
 {}
 
 /// A spelling that is cut is short, and one with bytes behind it is refused at its end.
 pub fn spellings_end_where_they_end()
-    ensures cut { (r : RecordOf) (bytes front : List ℕ) (next : ℕ) (more : List ℕ) → IsBytes front → Spells r bytes
-        → bytes ≡ front ++ next ∷ more → Refuses front (Short (length front)) }
+    ensures cut { (r : RecordOf) (bytes front : List ℕ) (next : ℕ) (more : List ℕ) → IsBytes front
+        → Spells r bytes → bytes ≡ front ++ next ∷ more → Refuses front (Short (length front)) }
     ensures trailing { (r : RecordOf) (bytes : List ℕ) (next : ℕ) (more : List ℕ) → Spells r bytes
         → Refuses (bytes ++ next ∷ more) (Trailing (length bytes)) }
 {}
 
 /// A spelling has 1 to 524,297 bytes, and the first is at most 2.
 pub fn spellings_are_short()
-    ensures length { (r : RecordOf) (bytes : List ℕ) → Spells r bytes → (1 ≤ length bytes) × (length bytes ≤ 524297) }
+    ensures length { (r : RecordOf) (bytes : List ℕ) → Spells r bytes
+        → (1 ≤ length bytes) × (length bytes ≤ 524297) }
     ensures first { (r : RecordOf) (bytes : List ℕ) → Spells r bytes → slice_index bytes 0 ≤ 2 }
 {}

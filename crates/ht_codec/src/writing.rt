@@ -64,7 +64,9 @@ fn write_record(out: &mut Bytes, kept: &Record) -> Result<(), Memory>
 fn write_command(out: &mut Bytes, command: &Command) -> Result<(), Memory>
     requires { IsCommand command.now }
     ensures fits { OnOk result ((command_line command.now).Fits) }
-    ensures bytes { OnOk result (out.new.items ≡ out.old.items ++ (op_byte (command_line command.now).head ∷ (command_line command.now).text)) }
+    ensures bytes { OnOk result (out.new.items
+        ≡ out.old.items
+        ++ (op_byte (command_line command.now).head ∷ (command_line command.now).text)) }
 {
     write_byte(out, op_byte(command.op()))?;
     write_fields(out, command)?;
@@ -110,7 +112,8 @@ fn write_create(
     requires given { AreGiven input.now }
     requires moment { IfSome activate_at.now (λ m. m.0 ≤ last_moment) }
     ensures fits { OnOk result (creation.Fits (model.now, (input.now, activate_at.now))) }
-    ensures bytes { OnOk result (out.new.items ≡ out.old.items ++ creation.text (model.now, (input.now, activate_at.now))) }
+    ensures bytes { OnOk result
+        (out.new.items ≡ out.old.items ++ creation.text (model.now, (input.now, activate_at.now))) }
 {
     write_option_name(out, model)?;
     write_parts(out, input)?;

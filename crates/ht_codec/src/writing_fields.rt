@@ -148,7 +148,8 @@ pub(crate) fn write_some_text(out: &mut Bytes, value: &Txt) -> Result<(), Memory
 pub(crate) fn write_opening_text(out: &mut Bytes, value: &Bytes) -> Result<(), Memory>
     requires { length value.now.items ≤ LONGEST_OFFICE_TEXT }
     ensures fits { opening_text.Fits value.now.items }
-    ensures bytes { OnOk result (out.new.items ≡ out.old.items ++ opening_text.text value.now.items) }
+    ensures bytes { OnOk result
+        (out.new.items ≡ out.old.items ++ opening_text.text value.now.items) }
 {
     let bytes = value.as_slice();
     write_u32(out, bytes.len() as u32)?;

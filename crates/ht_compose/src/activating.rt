@@ -21,7 +21,8 @@ pub(crate) fn activate(
 ) -> Result<Vec<Item>, Memory>
     requires plan { IsPlanOf tables.now.tables plan.old }
     requires sound { IsSound (planned tables.now.tables plan.old) }
-    ensures acts { IfOk result (λ puts. (at : Moment) → Acts tables.now.tables plan.old plan.new at (Activate task.0) puts.items) }
+    ensures acts { IfOk result (λ puts.
+        (at : Moment) → Acts tables.now.tables plan.old plan.new at (Activate task.0) puts.items) }
     ensures marked { OnErr result (plan.new.marked ≡ plan.old.marked) }
 {
     let Some(row) = plan.row(tables, task) else {
@@ -42,7 +43,8 @@ pub(crate) fn activate(
 
 // The state and the owner that a row gets by its activation.
 fn activation(row: &Row, needs_owner: bool) -> (State, Option<Person>)
-    ensures { activated_to result.0 result.1 row.now ≡ spec.activated_as needs_owner row.now.potential_owners row.now }
+    ensures { activated_to result.0 result.1 row.now
+        ≡ spec.activated_as needs_owner row.now.potential_owners row.now }
 {
     if needs_owner {
         let owners = &row.potential_owners;

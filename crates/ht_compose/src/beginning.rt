@@ -25,7 +25,8 @@ pub(crate) fn begin(
 ) -> Result<Vec<Item>, Memory>
     requires plan { IsPlanOf tables.now.tables plan.old }
     requires sound { IsSound (planned tables.now.tables plan.old) }
-    ensures acts { IfOk result (λ puts. (at : Moment) → Acts tables.now.tables plan.old plan.new at (Begin task.0) puts.items) }
+    ensures acts { IfOk result (λ puts.
+        (at : Moment) → Acts tables.now.tables plan.old plan.new at (Begin task.0) puts.items) }
     ensures marked { OnErr result (plan.new.marked ≡ plan.old.marked) }
 {
     let Some(row) = plan.row(tables, task) else {
@@ -51,7 +52,9 @@ fn begun(row: Row) -> Row
 // What is to be done where a task begins.
 fn begun_with(alloc: Global, model: &Model, row: &Row) -> Result<Vec<Item>, Memory>
     requires { length model.now.subs.items ≤ MOST_SUBS }
-    ensures { IfOk result (λ items. map item_of items.items ≡ spec.begins_with (model_of model.now) row.now ++ Check row.now.task.0 ∷ []) }
+    ensures { IfOk result (λ items.
+        map item_of items.items ≡ spec.begins_with (model_of model.now) row.now
+        ++ Check row.now.task.0 ∷ []) }
 {
     let mut items = Vec::new(alloc);
     if !row.started && model.instantiation == Trigger::Automatic {

@@ -72,8 +72,11 @@ fn may_be_made(
     entry: u32,
 ) -> bool
     requires { IsPlanOf tables.now.tables plan.now }
-    ensures { let rows = rows_of (planned tables.now.tables plan.now) subs.now in let m = model_of model.now in
-        result ≡ (not (is_automatic m.instantiation) && not (list_any (made.is_of_entry task.0 entry) rows) && (not (spec.is_sequential m.composition) || all_ended task.0 entry rows)) }
+    ensures { let rows = rows_of (planned tables.now.tables plan.now) subs.now in
+        let m = model_of model.now in
+        result ≡ (not (is_automatic m.instantiation)
+        && not (list_any (made.is_of_entry task.0 entry) rows)
+        && (not (spec.is_sequential m.composition) || all_ended task.0 entry rows)) }
 {
     model.instantiation == Trigger::Manual
         && !has_of_entry(tables, plan, subs, task, entry)

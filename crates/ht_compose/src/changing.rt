@@ -22,8 +22,10 @@ pub(crate) fn change_of(
     row: &Row,
 ) -> Change
     requires { IsPlanOf tables.now.tables plan.now }
-    ensures row { spec.changed result row.now ≡ reached reach (planned tables.now.tables plan.now).rows task.0 row.now }
-    ensures touches { spec.touches result (row.now).state ≡ changes reach (planned tables.now.tables plan.now).rows task.0 row.now }
+    ensures row { spec.changed result row.now
+        ≡ reached reach (planned tables.now.tables plan.now).rows task.0 row.now }
+    ensures touches { spec.touches result (row.now).state
+        ≡ changes reach (planned tables.now.tables plan.now).rows task.0 row.now }
 {
     if let Reach::Close(end) = reach {
         if row.task == task {

@@ -30,7 +30,8 @@ pub(crate) fn check(
 ) -> Result<Vec<Item>, Memory>
     requires plan { IsPlanOf tables.now.tables plan.old }
     requires sound { IsSound (planned tables.now.tables plan.old) }
-    ensures acts { IfOk result (λ puts. (at : Moment) → Acts tables.now.tables plan.old plan.new at (Check task.0) puts.items) }
+    ensures acts { IfOk result (λ puts.
+        (at : Moment) → Acts tables.now.tables plan.old plan.new at (Check task.0) puts.items) }
     ensures marked { OnErr result (plan.new.marked ≡ plan.old.marked) }
 {
     let Some(row) = plan.row(tables, task) else {
@@ -60,7 +61,8 @@ pub(crate) fn check(
 
 // Whether a task is in progress, and finishes by itself.
 fn may_finish(row: &Row, model: &Model) -> bool
-    ensures { result ≡ (spec.is_in_progress row.now.state && is_automatic (model_of model.now).completion) }
+    ensures { result ≡ (spec.is_in_progress row.now.state
+        && is_automatic (model_of model.now).completion) }
 {
     row.state == State::InProgress && model.completion == Trigger::Automatic
 }
@@ -68,7 +70,8 @@ fn may_finish(row: &Row, model: &Model) -> bool
 // Whether one of these tasks has ended.
 fn has_final(tables: &Tables, plan: &Plan, subs: &[TaskId]) -> bool
     requires { IsPlanOf tables.now.tables plan.now }
-    ensures { result ≡ list_any (λ s. is_final s.state) (rows_of (planned tables.now.tables plan.now) subs.now) }
+    ensures { result ≡ list_any (λ s. is_final s.state)
+        (rows_of (planned tables.now.tables plan.now) subs.now) }
 {
     for id in subs {
         if let Some(row) = plan.row(tables, *id) {

@@ -27,7 +27,8 @@ pub(crate) fn close(
     requires plan { IsPlanOf tables.now.tables plan.old }
     requires sound { IsSound (planned tables.now.tables plan.old) }
     requires end { IsTrue (is_final end) }
-    ensures acts { IfOk result (λ puts. (at : Moment) → Acts tables.now.tables plan.old plan.new at (Close task.0 end) puts.items) }
+    ensures acts { IfOk result (λ puts.
+        (at : Moment) → Acts tables.now.tables plan.old plan.new at (Close task.0 end) puts.items) }
     ensures marked { OnErr result (plan.new.marked ≡ plan.old.marked) }
 {
     let Some(row) = plan.row(tables, task) else {
@@ -55,7 +56,8 @@ pub(crate) fn up(
 ) -> Result<Vec<Item>, Memory>
     requires plan { IsPlanOf tables.now.tables plan.old }
     requires sound { IsSound (planned tables.now.tables plan.old) }
-    ensures acts { IfOk result (λ puts. (at : Moment) → Acts tables.now.tables plan.old plan.new at (Up above.0 sub.0) puts.items) }
+    ensures acts { IfOk result (λ puts.
+        (at : Moment) → Acts tables.now.tables plan.old plan.new at (Up above.0 sub.0) puts.items) }
     ensures marked { OnErr result (plan.new.marked ≡ plan.old.marked) }
 {
     let Some(child) = plan.row(tables, sub) else {
@@ -95,7 +97,9 @@ pub(crate) fn next(
 ) -> Result<Vec<Item>, Memory>
     requires plan { IsPlanOf tables.now.tables plan.old }
     requires sound { IsSound (planned tables.now.tables plan.old) }
-    ensures acts { IfOk result (λ puts. (at : Moment) → Acts tables.now.tables plan.old plan.new at (Next above.0 sub.0) puts.items) }
+    ensures acts { IfOk result (λ puts.
+        (at : Moment)
+        → Acts tables.now.tables plan.old plan.new at (Next above.0 sub.0) puts.items) }
     ensures marked { OnErr result (plan.new.marked ≡ plan.old.marked) }
 {
     let Some(child) = plan.row(tables, sub) else {

@@ -26,7 +26,8 @@ pub fn activate(
     requires plan { IsPlanOf tables.now.tables plan.old }
     requires sound { IsSound (planned tables.now.tables plan.old) }
     requires at { at.0 ≤ last_moment }
-    ensures runs { OnOk result (Runs tables.now.tables plan.old plan.new at (Activate task.0 ∷ [])) }
+    ensures runs { OnOk result
+        (Runs tables.now.tables plan.old plan.new at (Activate task.0 ∷ [])) }
     ensures marked { OnErr result (plan.new.marked ≡ plan.old.marked) }
 {
     run(alloc, tables, plan, at, Item::Activate(task))
@@ -66,7 +67,8 @@ pub fn close(
     requires sound { IsSound (planned tables.now.tables plan.old) }
     requires end { IsTrue (is_final end) }
     requires at { at.0 ≤ last_moment }
-    ensures runs { OnOk result (Runs tables.now.tables plan.old plan.new at (Close task.0 end ∷ [])) }
+    ensures runs { OnOk result
+        (Runs tables.now.tables plan.old plan.new at (Close task.0 end ∷ [])) }
     ensures marked { OnErr result (plan.new.marked ≡ plan.old.marked) }
 {
     run(alloc, tables, plan, at, Item::Close(task, end))
@@ -88,8 +90,10 @@ pub fn instantiate(
     requires entry { IsToMake (planned tables.now.tables plan.old) task.0 entry }
     requires at { at.0 ≤ last_moment }
     ensures id { IfOk result (λ id. id.0 ≡ length (planned tables.now.tables plan.old).rows + 1) }
-    ensures made { IfOk result (λ id. IsSubTask (planned tables.now.tables plan.new) task.0 entry id.0) }
-    ensures runs { OnOk result (Runs tables.now.tables plan.old plan.new at (Make task.0 entry ∷ [])) }
+    ensures made { IfOk result
+        (λ id. IsSubTask (planned tables.now.tables plan.new) task.0 entry id.0) }
+    ensures runs { OnOk result
+        (Runs tables.now.tables plan.old plan.new at (Make task.0 entry ∷ [])) }
     ensures marked { OnErr result (plan.new.marked ≡ plan.old.marked) }
 {
     count_models(tables);

@@ -18,7 +18,9 @@ pub fn hold(alloc: Global, tables: &Tables, plan: &mut Plan, task: TaskId) -> Re
     requires plan { IsPlanOf tables.now.tables plan.old }
     requires sound { IsSound (planned tables.now.tables plan.old) }
     requires there { IsTask (planned tables.now.tables plan.old) task.0 }
-    ensures goes { OnOk result (Goes tables.now.tables plan.old plan.new (planned tables.now.tables plan.old) (with_rows (planned tables.now.tables plan.old) (holding task.0 (planned tables.now.tables plan.old).rows))) }
+    ensures goes { OnOk result (Goes tables.now.tables plan.old plan.new
+        (planned tables.now.tables plan.old) (with_rows (planned tables.now.tables plan.old)
+        (holding task.0 (planned tables.now.tables plan.old).rows))) }
     ensures sound { OnOk result (IsSound (planned tables.now.tables plan.new)) }
     ensures marked { OnErr result (plan.new.marked ≡ plan.old.marked) }
 {
@@ -36,7 +38,9 @@ pub(crate) fn skip_below(
     requires plan { IsPlanOf tables.now.tables plan.old }
     requires sound { IsSound (planned tables.now.tables plan.old) }
     requires there { IsTask (planned tables.now.tables plan.old) task.0 }
-    ensures goes { OnOk result (Goes tables.now.tables plan.old plan.new (planned tables.now.tables plan.old) (with_rows (planned tables.now.tables plan.old) (skipping task.0 (planned tables.now.tables plan.old).rows))) }
+    ensures goes { OnOk result (Goes tables.now.tables plan.old plan.new
+        (planned tables.now.tables plan.old) (with_rows (planned tables.now.tables plan.old)
+        (skipping task.0 (planned tables.now.tables plan.old).rows))) }
     ensures sound { OnOk result (IsSound (planned tables.now.tables plan.new)) }
     ensures marked { OnErr result (plan.new.marked ≡ plan.old.marked) }
 {
@@ -56,7 +60,9 @@ pub(crate) fn close_family(
     requires sound { IsSound (planned tables.now.tables plan.old) }
     requires there { IsTask (planned tables.now.tables plan.old) task.0 }
     requires end { IsTrue (is_final end) }
-    ensures goes { OnOk result (Goes tables.now.tables plan.old plan.new (planned tables.now.tables plan.old) (with_rows (planned tables.now.tables plan.old) (closing end task.0 (planned tables.now.tables plan.old).rows))) }
+    ensures goes { OnOk result (Goes tables.now.tables plan.old plan.new
+        (planned tables.now.tables plan.old) (with_rows (planned tables.now.tables plan.old)
+        (closing end task.0 (planned tables.now.tables plan.old).rows))) }
     ensures sound { OnOk result (IsSound (planned tables.now.tables plan.new)) }
     ensures marked { OnErr result (plan.new.marked ≡ plan.old.marked) }
 {

@@ -38,10 +38,14 @@ pub(crate) fn finish(
     requires plan { IsPlanOf tables.now.tables plan.now }
     requires sound { IsSound (planned tables.now.tables plan.now) }
     requires row { task_row (planned tables.now.tables plan.now) row.now.task.0 ≡ Some row.now }
-    requires model { model_of (planned tables.now.tables plan.now) row.now ≡ Some (shown.model_of model.now) }
+    requires model { model_of (planned tables.now.tables plan.now) row.now
+        ≡ Some (shown.model_of model.now) }
     requires kinds { IsKinded model.now }
-    requires subs { subs.now ≡ map (λ s. s.task) (families.sub_tasks row.now.task.0 (planned tables.now.tables plan.now).rows) }
-    ensures { IfOk result (Finds (planned tables.now.tables plan.now) row.now (shown.model_of model.now)) }
+    requires subs { subs.now
+        ≡ map (λ s. s.task)
+        (families.sub_tasks row.now.task.0 (planned tables.now.tables plan.now).rows) }
+    ensures { IfOk result
+        (Finds (planned tables.now.tables plan.now) row.now (shown.model_of model.now)) }
 {
     let env = env_with(alloc, tables, plan, row, subs)?;
     let Some(finish) = chosen(tables, plan, subs, row.task, model, &env) else {
@@ -67,11 +71,15 @@ fn chosen<'a>(
 ) -> Option<&'a Finish>
     requires plan { IsPlanOf tables.now.tables plan.now }
     requires kinds { IsKinded model.now }
-    requires parts { IsTrue (has_parts (parts_of model.now.input.items model.now.output.items) env.now) }
+    requires parts { IsTrue
+        (has_parts (parts_of model.now.input.items model.now.output.items) env.now) }
     ensures { let finishes = (shown.model_of model.now).finishes in
         option_map (λ f. shown.finish_of f.now) result
-        ≡ option_or (find (spec.applies (parts_of model.now.input.items model.now.output.items) env.now) finishes)
-        (if spec.all_ended task.0 (length model.now.subs.items) (rows_of (planned tables.now.tables plan.now) subs.now) then default finishes else None) }
+        ≡ option_or (find
+        (spec.applies (parts_of model.now.input.items model.now.output.items) env.now)
+        finishes) (if spec.all_ended task.0 (length model.now.subs.items)
+        (rows_of (planned tables.now.tables plan.now) subs.now) then default finishes else
+        None) }
 {
     if let Some(finish) = first_true(model, env) {
         return Some(finish);
@@ -85,8 +93,11 @@ fn chosen<'a>(
 
 fn first_true<'a>(model: &'a Model, env: &Env) -> Option<&'a Finish>
     requires kinds { IsKinded model.now }
-    requires parts { IsTrue (has_parts (parts_of model.now.input.items model.now.output.items) env.now) }
-    ensures { option_map (λ f. shown.finish_of f.now) result ≡ find (spec.applies (parts_of model.now.input.items model.now.output.items) env.now) (shown.model_of model.now).finishes }
+    requires parts { IsTrue
+        (has_parts (parts_of model.now.input.items model.now.output.items) env.now) }
+    ensures { option_map (λ f. shown.finish_of f.now) result
+        ≡ find (spec.applies (parts_of model.now.input.items model.now.output.items) env.now)
+        (shown.model_of model.now).finishes }
 {
     for finish in &model.finishes {
         if applies(finish, env) {
@@ -99,7 +110,8 @@ fn first_true<'a>(model: &'a Model, env: &Env) -> Option<&'a Finish>
 // Whether the condition of a finish is true.
 fn applies(finish: &Finish, env: &Env) -> bool
     requires { (kinds : Declared) × HasTruth kinds finish.now × IsTrue (has_parts kinds env.now) }
-    ensures { (kinds : Declared) → HasTruth kinds finish.now → result ≡ spec.applies kinds env.now (shown.finish_of finish.now) }
+    ensures { (kinds : Declared) → HasTruth kinds finish.now
+        → result ≡ spec.applies kinds env.now (shown.finish_of finish.now) }
 {
     match &finish.when {
         Some(condition) => condition.truth(env),
@@ -109,7 +121,8 @@ fn applies(finish: &Finish, env: &Env) -> bool
 
 // The finish without a condition.
 fn default_finish(model: &Model) -> Option<&Finish>
-    ensures { option_map (λ f. shown.finish_of f.now) result ≡ default (shown.model_of model.now).finishes }
+    ensures { option_map (λ f. shown.finish_of f.now) result
+        ≡ default (shown.model_of model.now).finishes }
 {
     for finish in &model.finishes {
         if finish.when.is_none() {
@@ -128,7 +141,8 @@ pub(crate) fn all_ended(
     entries: usize,
 ) -> bool
     requires { IsPlanOf tables.now.tables plan.now }
-    ensures { result ≡ spec.all_ended task.0 entries (rows_of (planned tables.now.tables plan.now) subs.now) }
+    ensures { result ≡ spec.all_ended task.0 entries
+        (rows_of (planned tables.now.tables plan.now) subs.now) }
 {
     let mut all = true;
     for entry in 0..entries {
@@ -139,7 +153,8 @@ pub(crate) fn all_ended(
 
 fn entry_ended(tables: &Tables, plan: &Plan, subs: &[TaskId], task: TaskId, entry: usize) -> bool
     requires { IsPlanOf tables.now.tables plan.now }
-    ensures { result ≡ list_any (λ s. families.is_of_entry task.0 entry s && is_final s.state) (rows_of (planned tables.now.tables plan.now) subs.now) }
+    ensures { result ≡ list_any (λ s. families.is_of_entry task.0 entry s && is_final s.state)
+        (rows_of (planned tables.now.tables plan.now) subs.now) }
 {
     for id in subs {
         if let Some(row) = plan.row(tables, *id) {
@@ -172,7 +187,9 @@ fn completed(
     entries: usize,
 ) -> Result<Vec<TaskId>, Memory>
     requires { IsPlanOf tables.now.tables plan.now }
-    ensures { IfOk result (λ ids. ids.items ≡ map (λ s. s.task) (spec.completed task.0 entries (rows_of (planned tables.now.tables plan.now) subs.now))) }
+    ensures { IfOk result (λ ids.
+        ids.items ≡ map (λ s. s.task) (spec.completed task.0 entries
+        (rows_of (planned tables.now.tables plan.now) subs.now))) }
 {
     let mut found = Vec::new(alloc);
     for entry in 0..entries {
@@ -190,7 +207,11 @@ fn push_completed(
     found: &mut Vec<TaskId>,
 ) -> Result<(), Memory>
     requires { IsPlanOf tables.now.tables plan.now }
-    ensures { OnOk result (found.new.items ≡ found.old.items ++ map (λ s. s.task) (filter (λ s. families.is_of_entry task.0 entry s && is_completed s.state) (rows_of (planned tables.now.tables plan.now) subs.now))) }
+    ensures { OnOk result (found.new.items
+        ≡ found.old.items
+        ++ map (λ s. s.task) (filter
+        (λ s. families.is_of_entry task.0 entry s && is_completed s.state)
+        (rows_of (planned tables.now.tables plan.now) subs.now))) }
 {
     for id in subs {
         if let Some(row) = plan.row(tables, *id) {
@@ -212,7 +233,8 @@ fn results(
     output: Values,
 ) -> Result<Values, Memory>
     requires { IsPlanOf tables.now.tables plan.now }
-    ensures { IfOk result (Sets (rows_of (planned tables.now.tables plan.now) subs.now) settings.now output) }
+    ensures { IfOk result
+        (Sets (rows_of (planned tables.now.tables plan.now) subs.now) settings.now output) }
 {
     let mut output = output;
     for setting in settings {
@@ -232,7 +254,9 @@ fn values_for(
     setting: &Setting,
 ) -> Result<ValueList, Memory>
     requires { IsPlanOf tables.now.tables plan.now }
-    ensures { IfOk result (λ vs. vs ≡ spec.values_for setting.now.how setting.now.from (rows_of (planned tables.now.tables plan.now) subs.now)) }
+    ensures { IfOk result (λ vs.
+        vs ≡ spec.values_for setting.now.how setting.now.from
+        (rows_of (planned tables.now.tables plan.now) subs.now)) }
 {
     let mut values = ValueList::new(alloc);
     for id in subs {
@@ -247,7 +271,8 @@ fn values_for(
 
 // The value of the output part, where it is set and of the aggregate's kind.
 fn value_for<'a>(row: &'a Row, setting: &Setting) -> Option<&'a Value>
-    ensures { option_map (λ v. v.now) result ≡ of_kind (kind_of_how setting.now.how) (value_of setting.now.from row.now.output) }
+    ensures { option_map (λ v. v.now) result
+        ≡ of_kind (kind_of_how setting.now.how) (value_of setting.now.from row.now.output) }
 {
     let value = row.output.value_of(&setting.from)?;
     if takes(&setting.how, value) {

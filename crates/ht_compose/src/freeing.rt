@@ -52,9 +52,14 @@ fn free_below(
     requires plan { IsPlanOf tables.now.tables plan.old }
     requires sound { IsSound (planned tables.now.tables plan.old) }
     requires there { IsTask (planned tables.now.tables plan.old) task.0 }
-    ensures goes { OnOk result (Goes tables.now.tables plan.old plan.new (planned tables.now.tables plan.old) (with_rows (planned tables.now.tables plan.old) (freeing task.0 (planned tables.now.tables plan.old).rows))) }
+    ensures goes { OnOk result (Goes tables.now.tables plan.old plan.new
+        (planned tables.now.tables plan.old) (with_rows (planned tables.now.tables plan.old)
+        (freeing task.0 (planned tables.now.tables plan.old).rows))) }
     ensures sound { OnOk result (IsSound (planned tables.now.tables plan.new)) }
-    ensures freed { IfOk result (λ tasks. map (λ id. Check id.0) tasks.items ≡ map (λ row. Check row.task.0) (spec.freed_tasks task.0 (planned tables.now.tables plan.old).rows)) }
+    ensures freed { IfOk result (λ tasks.
+        map (λ id. Check id.0) tasks.items
+        ≡ map (λ row. Check row.task.0)
+        (spec.freed_tasks task.0 (planned tables.now.tables plan.old).rows)) }
     ensures marked { OnErr result (plan.new.marked ≡ plan.old.marked) }
 {
     let mut freed = Vec::new(alloc);
@@ -79,7 +84,8 @@ fn check_all(
     requires plan { IsPlanOf tables.now.tables plan.old }
     requires sound { IsSound (planned tables.now.tables plan.old) }
     requires at { at.0 ≤ last_moment }
-    ensures runs { OnOk result (Runs tables.now.tables plan.old plan.new at (map (λ id. Check id.0) tasks.now)) }
+    ensures runs { OnOk result
+        (Runs tables.now.tables plan.old plan.new at (map (λ id. Check id.0) tasks.now)) }
     ensures marked { OnErr result (plan.new.marked ≡ plan.old.marked) }
 {
     for task in tasks {

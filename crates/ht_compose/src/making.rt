@@ -32,7 +32,8 @@ pub(crate) fn make(
     requires plan { IsPlanOf tables.now.tables plan.old }
     requires sound { IsSound (planned tables.now.tables plan.old) }
     requires at { at.0 ≤ last_moment }
-    ensures acts { IfOk result (λ puts. Acts tables.now.tables plan.old plan.new at (Make task.0 entry) puts.items) }
+    ensures acts { IfOk result
+        (λ puts. Acts tables.now.tables plan.old plan.new at (Make task.0 entry) puts.items) }
     ensures marked { OnErr result (plan.new.marked ≡ plan.old.marked) }
 {
     let Some(row) = plan.row(tables, task) else {
@@ -69,7 +70,8 @@ fn is_made(
 ) -> Result<bool, Memory>
     requires plan { IsPlanOf tables.now.tables plan.now }
     requires sound { IsSound (planned tables.now.tables plan.now) }
-    ensures { IfOk result (λ b. b ≡ made.is_made task.0 entry (planned tables.now.tables plan.now).rows) }
+    ensures { IfOk result
+        (λ b. b ≡ made.is_made task.0 entry (planned tables.now.tables plan.now).rows) }
 {
     let subs = sub_tasks(alloc, tables, plan, task)?;
     Ok(has_of_entry(tables, plan, &subs, task, entry))
@@ -84,7 +86,8 @@ pub(crate) fn has_of_entry(
     entry: u32,
 ) -> bool
     requires { IsPlanOf tables.now.tables plan.now }
-    ensures { result ≡ list_any (made.is_of_entry task.0 entry) (rows_of (planned tables.now.tables plan.now) subs.now) }
+    ensures { result ≡ list_any (made.is_of_entry task.0 entry)
+        (rows_of (planned tables.now.tables plan.now) subs.now) }
 {
     for id in subs {
         if let Some(row) = plan.row(tables, *id) {

@@ -26,7 +26,9 @@ pub fn resume(
 ) -> Result<(), Memory>
     requires plan { IsPlanOf tables.now.tables plan.old }
     requires sound { IsSound (planned tables.now.tables plan.old) }
-    requires suspended { (row : Row) × (task_row (planned tables.now.tables plan.old) task.0 ≡ Some row) × (is_suspended row.state ≡ true) }
+    requires suspended { (row : Row)
+        × (task_row (planned tables.now.tables plan.old) task.0 ≡ Some row)
+        × (is_suspended row.state ≡ true) }
     requires at { at.0 ≤ last_moment }
     ensures resumes { OnOk result (IsResumed tables.now.tables plan.old plan.new at task.0) }
     ensures marked { OnErr result (plan.new.marked ≡ plan.old.marked) }
@@ -39,8 +41,12 @@ pub fn resume(
 fn free_one(alloc: Global, tables: &Tables, plan: &mut Plan, task: TaskId) -> Result<(), Memory>
     requires plan { IsPlanOf tables.now.tables plan.old }
     requires sound { IsSound (planned tables.now.tables plan.old) }
-    requires suspended { (row : Row) × (task_row (planned tables.now.tables plan.old) task.0 ≡ Some row) × (is_suspended row.state ≡ true) }
-    ensures frees { (row : Row) → task_row (planned tables.now.tables plan.old) task.0 ≡ Some row → OnOk result (Goes tables.now.tables plan.old plan.new (planned tables.now.tables plan.old) (with_row (planned tables.now.tables plan.old) (downward.freed row))) }
+    requires suspended { (row : Row)
+        × (task_row (planned tables.now.tables plan.old) task.0 ≡ Some row)
+        × (is_suspended row.state ≡ true) }
+    ensures frees { (row : Row) → task_row (planned tables.now.tables plan.old) task.0 ≡ Some row
+        → OnOk result (Goes tables.now.tables plan.old plan.new (planned tables.now.tables plan.old)
+        (with_row (planned tables.now.tables plan.old) (downward.freed row))) }
     ensures sound { OnOk result (IsSound (planned tables.now.tables plan.new)) }
     ensures marked { OnErr result (plan.new.marked ≡ plan.old.marked) }
 {

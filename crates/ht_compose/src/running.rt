@@ -59,7 +59,8 @@ fn act(
     requires sound { IsSound (planned tables.now.tables plan.old) }
     requires at { at.0 ≤ last_moment }
     requires closes { ClosesForGood (item_of item) }
-    ensures acts { IfOk result (λ puts. Acts tables.now.tables plan.old plan.new at (item_of item) puts.items) }
+    ensures acts { IfOk result
+        (λ puts. Acts tables.now.tables plan.old plan.new at (item_of item) puts.items) }
     ensures marked { OnErr result (plan.new.marked ≡ plan.old.marked) }
 {
     match item {

@@ -66,7 +66,9 @@ pub(crate) fn reach_one(
     requires plan { IsPlanOf tables.now.tables plan.old }
     requires there { IsTask (planned tables.now.tables plan.old) id.0 }
     ensures reaches { OnOk result (Reaches tables.now.tables plan.old plan.new task.0 reach id.0) }
-    ensures changes { IfOk result (λ changed. changed ≡ option_map_or (changes reach (planned tables.now.tables plan.old).rows task.0) (task_row (planned tables.now.tables plan.old) id.0) false) }
+    ensures changes { IfOk result (λ changed.
+        changed ≡ option_map_or (changes reach (planned tables.now.tables plan.old).rows task.0)
+        (task_row (planned tables.now.tables plan.old) id.0) false) }
     ensures marked { OnErr result (plan.new.marked ≡ plan.old.marked) }
 {
     let Some(row) = plan.row(tables, id) else {

@@ -27,9 +27,12 @@ pub(crate) fn put_in(dues: &mut Vec<Due>, news: &[Due])
 // Writes the last of those left of both to its place, and says how many are left of the old and of
 // the new ones.
 fn settle(dues: &mut Vec<Due>, news: &[Due], left: usize, more: usize) -> (usize, usize)
-    requires places { (1 ≤ more) × (more ≤ length news.now) × (left + more ≤ length dues.old.items) }
+    requires places { (1 ≤ more) × (more ≤ length news.now)
+        × (left + more ≤ length dues.old.items) }
     requires ascend { Ascends news.now }
-    ensures state { (old : List Due) → Ascends old → AreAbsent news.now old → IsPutTo old news.now dues.old.items left more → IsPutTo old news.now dues.new.items result.0 result.1 }
+    ensures state { (old : List Due) → Ascends old → AreAbsent news.now old
+        → IsPutTo old news.now dues.old.items left more
+        → IsPutTo old news.now dues.new.items result.0 result.1 }
     ensures less { result.0 + result.1 + 1 ≡ left + more }
     ensures capacity { vec_capacity dues.new ≡ vec_capacity dues.old }
 {

@@ -41,7 +41,8 @@ fn pass(dues: &mut Vec<Due>, gone: &[Due], at: Walk) -> Walk
     requires front { at.kept ≤ at.next }
     requires left { at.next < length dues.old.items }
     requires ascend { Ascends gone.now }
-    ensures state { (old : List Due) → IsTakenTo old gone.now dues.old.items at → IsTakenTo old gone.now dues.new.items result }
+    ensures state { (old : List Due) → IsTakenTo old gone.now dues.old.items at
+        → IsTakenTo old gone.now dues.new.items result }
     ensures on { at.next + at.past < result.next + result.past }
     ensures capacity { vec_capacity dues.new ≡ vec_capacity dues.old }
 {

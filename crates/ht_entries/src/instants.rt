@@ -18,10 +18,14 @@ const DAY: u64 = 86_400_000;
 /// It has 20 bytes. The year is from 1970, the date one of the calendar, and the time one from
 /// 00:00:00 to 23:59:59, in UTC.
 pub fn instant(text: &str) -> Option<Moment>
-    ensures reads { (i : InstantText) → IsInstant text.now i → result ≡ Some (record { 0 = moment_of i }) }
-    ensures exact { IfSome result (λ at. (i : InstantText) × IsInstant text.now i × (at.0 ≡ moment_of i)) }
-    ensures since_1970 { IfSome result (λ at. (i : InstantText) → IsInstant text.now i
-        → days_from_civil (pos (digits_value 10 i.year)) (digits_value 10 i.month) (digits_value 10 i.day) ≡ pos (day_number i.year i.month i.day)) }
+    ensures reads { (i : InstantText) → IsInstant text.now i
+        → result ≡ Some (record { 0 = moment_of i }) }
+    ensures exact { IfSome result
+        (λ at. (i : InstantText) × IsInstant text.now i × (at.0 ≡ moment_of i)) }
+    ensures since_1970 { IfSome result (λ at.
+        (i : InstantText) → IsInstant text.now i
+        → days_from_civil (pos (digits_value 10 i.year)) (digits_value 10 i.month)
+        (digits_value 10 i.day) ≡ pos (day_number i.year i.month i.day)) }
     ensures last { IfSome result (λ at. at.0 ≤ last_moment) }
 {
     let bytes = text.as_bytes();
@@ -47,7 +51,8 @@ fn is_marked(bytes: &[u8]) -> bool
 
 // How many days lie between 1970-01-01 and the day.
 fn day_of(year: &[u8], month: &[u8], day: &[u8]) -> Option<u32>
-    ensures exact { MatchOption result (IsDay year.now month.now day.now → ⊥) (λ n. IsDay year.now month.now day.now × (n ≡ day_number year.now month.now day.now)) }
+    ensures exact { MatchOption result (IsDay year.now month.now day.now → ⊥)
+        (λ n. IsDay year.now month.now day.now × (n ≡ day_number year.now month.now day.now)) }
     ensures few { IfSome result (λ n. n ≤ 2932896) }
 {
     let date = date_of(number(year)?, number(month)?, number(day)?)?;
@@ -57,7 +62,9 @@ fn day_of(year: &[u8], month: &[u8], day: &[u8]) -> Option<u32>
 // The date, from 1970 on.
 fn date_of(year: u32, month: u32, day: u32) -> Option<Date>
     ensures { MatchOption result (1970 ≤ year → IsDate (pos year) (pos month) (pos day) → ⊥)
-        (λ date. (1970 ≤ year) × IsDate (pos year) (pos month) (pos day) × IsYmd (pos year) (pos month) (pos day) date) }
+        (λ date.
+        (1970 ≤ year) × IsDate (pos year) (pos month) (pos day)
+        × IsYmd (pos year) (pos month) (pos day) date) }
 {
     if year < 1970 || year > 9999 || month > 12 || day > 31 {
         return None;
@@ -74,7 +81,10 @@ fn days_to(date: Date) -> u32
 
 // The milliseconds from midnight.
 fn time_of(hour: &[u8], minute: &[u8], second: &[u8]) -> Option<u64>
-    ensures exact { MatchOption result (IsTime hour.now minute.now second.now → ⊥) (λ n. IsTime hour.now minute.now second.now × (n ≡ time_of_day hour.now minute.now second.now)) }
+    ensures exact { MatchOption result (IsTime hour.now minute.now second.now → ⊥)
+        (λ n.
+        IsTime hour.now minute.now second.now
+        × (n ≡ time_of_day hour.now minute.now second.now)) }
     ensures few { IfSome result (λ n. n ≤ 86399000) }
 {
     let (hours, minutes, seconds) = (number(hour)?, number(minute)?, number(second)?);

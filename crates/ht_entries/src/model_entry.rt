@@ -125,7 +125,8 @@ fn has_its_delegatees(delegation: Option<Delegation>, delegatees: &Option<Txt>) 
 
 fn values_in(alloc: Global, table: &Table) -> Result<ModelEntry, Misfit>
     ensures ok { IfOk result (λ entry. spec.entry_values (table_view table.now) ≡ Some entry) }
-    ensures misfit { IfErr result (λ e. e ≡ Misfit.Shape → spec.entry_values (table_view table.now) ≡ None) }
+    ensures misfit { IfErr result
+        (λ e. e ≡ Misfit.Shape → spec.entry_values (table_view table.now) ≡ None) }
 {
     let heading = heading_in(alloc, table)?;
     let roles = roles_in(alloc, table)?;
@@ -164,8 +165,12 @@ struct Heading {
 }
 
 fn heading_in(alloc: Global, table: &Table) -> Result<Heading, Misfit>
-    ensures ok { IfOk result (λ h. spec.heading_in (table_view table.now) ≡ Some (spec.heading h.name h.priority h.skipable h.owner_required h.delegation h.delegatees)) }
-    ensures misfit { IfErr result (λ e. e ≡ Misfit.Shape → spec.heading_in (table_view table.now) ≡ None) }
+    ensures ok { IfOk result (λ h.
+        spec.heading_in (table_view table.now)
+        ≡ Some (spec.heading h.name h.priority h.skipable h.owner_required h.delegation
+        h.delegatees)) }
+    ensures misfit { IfErr result
+        (λ e. e ≡ Misfit.Shape → spec.heading_in (table_view table.now) ≡ None) }
 {
     Ok(Heading {
         name: required(alloc, table, "name")?,
@@ -186,8 +191,12 @@ struct RoleTexts {
 }
 
 fn roles_in(alloc: Global, table: &Table) -> Result<RoleTexts, Misfit>
-    ensures ok { IfOk result (λ r. spec.roles_in (table_view table.now) ≡ Some (spec.role_texts r.potential_owners r.excluded_owners r.administrators r.stakeholders)) }
-    ensures misfit { IfErr result (λ e. e ≡ Misfit.Shape → spec.roles_in (table_view table.now) ≡ None) }
+    ensures ok { IfOk result (λ r.
+        spec.roles_in (table_view table.now)
+        ≡ Some (spec.role_texts r.potential_owners r.excluded_owners r.administrators
+        r.stakeholders)) }
+    ensures misfit { IfErr result
+        (λ e. e ≡ Misfit.Shape → spec.roles_in (table_view table.now) ≡ None) }
 {
     Ok(RoleTexts {
         potential_owners: optional(alloc, table, "potentialOwners")?,
@@ -207,8 +216,12 @@ struct SubTexts {
 }
 
 fn subs_in(alloc: Global, table: &Table) -> Result<SubTexts, Misfit>
-    ensures ok { IfOk result (λ s. spec.subs_in (table_view table.now) ≡ Some (spec.sub_texts s.composition s.instantiation s.completion s.subs.items s.finishes.items)) }
-    ensures misfit { IfErr result (λ e. e ≡ Misfit.Shape → spec.subs_in (table_view table.now) ≡ None) }
+    ensures ok { IfOk result (λ s.
+        spec.subs_in (table_view table.now)
+        ≡ Some (spec.sub_texts s.composition s.instantiation s.completion s.subs.items
+        s.finishes.items)) }
+    ensures misfit { IfErr result
+        (λ e. e ≡ Misfit.Shape → spec.subs_in (table_view table.now) ≡ None) }
 {
     Ok(SubTexts {
         composition: word_or(table, "composition", Composition::Sequential, &COMPOSITIONS)?,
@@ -227,8 +240,11 @@ struct DataTexts {
 }
 
 fn data_in(alloc: Global, table: &Table) -> Result<DataTexts, Misfit>
-    ensures ok { IfOk result (λ d. spec.data_in (table_view table.now) ≡ Some (spec.data_texts d.input.items d.output.items d.deadlines.items)) }
-    ensures misfit { IfErr result (λ e. e ≡ Misfit.Shape → spec.data_in (table_view table.now) ≡ None) }
+    ensures ok { IfOk result (λ d.
+        spec.data_in (table_view table.now)
+        ≡ Some (spec.data_texts d.input.items d.output.items d.deadlines.items)) }
+    ensures misfit { IfErr result
+        (λ e. e ≡ Misfit.Shape → spec.data_in (table_view table.now) ≡ None) }
 {
     Ok(DataTexts {
         input: list(alloc, table, "input")?,

@@ -65,8 +65,11 @@ impl TableShape for SubEntry {
 
 /// The pairs of the table at `input`, whose keys ascend.
 fn input_of(alloc: Global, table: &Table) -> Result<Vec<(Label, Label)>, Misfit>
-    ensures ok { IfOk result (λ pairs. otherwise [] (table_of label label_of) (codes "input") (table_view table.now) ≡ Some pairs.items) }
-    ensures misfit { IfErr result (λ e. e ≡ Misfit.Shape → otherwise [] (table_of label label_of) (codes "input") (table_view table.now) ≡ None) }
+    ensures ok { IfOk result (λ pairs.
+        otherwise [] (table_of label label_of) (codes "input") (table_view table.now)
+        ≡ Some pairs.items) }
+    ensures misfit { IfErr result (λ e. e ≡ Misfit.Shape
+        → otherwise [] (table_of label label_of) (codes "input") (table_view table.now) ≡ None) }
     ensures ascend { IfOk result (λ pairs. Ascend pairs.items) }
 {
     let Some(value) = input_value(table) else {
@@ -79,14 +82,17 @@ fn input_of(alloc: Global, table: &Table) -> Result<Vec<(Label, Label)>, Misfit>
 }
 
 fn input_value(table: &Table) -> Option<&Value>
-    ensures { option_map (λ v. view v.now) result ≡ get_member (codes "input") (table_view table.now) }
+    ensures { option_map (λ v. view v.now) result
+        ≡ get_member (codes "input") (table_view table.now) }
 {
     table.get("input")
 }
 
 fn ascending_pairs(alloc: Global, table: &Table) -> Result<Vec<(Label, Label)>, Misfit>
-    ensures ok { IfOk result (λ pairs. each (row_of label label_of) (rows (table_view table.now)) ≡ Some pairs.items) }
-    ensures misfit { IfErr result (λ e. e ≡ Misfit.Shape → each (row_of label label_of) (rows (table_view table.now)) ≡ None) }
+    ensures ok { IfOk result
+        (λ pairs. each (row_of label label_of) (rows (table_view table.now)) ≡ Some pairs.items) }
+    ensures misfit { IfErr result (λ e.
+        e ≡ Misfit.Shape → each (row_of label label_of) (rows (table_view table.now)) ≡ None) }
     ensures ascend { IfOk result (λ pairs. Ascend pairs.items) }
 {
     // That the keys ascend is told by their iterator.

@@ -27,9 +27,14 @@ pub(crate) fn notices_of(
 ) -> Result<Vec<Notice>, Memory>
     requires seen { IsSeen tables.now.tables plan.now row.now model.now }
     requires kinds { Ends (parts_of model.now.input.items model.now.output.items) deadline.now }
-    requires view { IfSome view.old (λ e. e ≡ sees (planned tables.now.tables plan.now).rows row.now) }
-    ensures notices { IfOk result (λ notices. notices.items ≡ spec.notices_of (directory tables.now.tables) (seen_in (shown.model_of model.now) (planned tables.now.tables plan.now).rows row.now) row.now.task (shown.deadline_of deadline.now) at) }
-    ensures view { OnOk result (IfSome view.new (λ e. e ≡ sees (planned tables.now.tables plan.now).rows row.now)) }
+    requires view { IfSome view.old
+        (λ e. e ≡ sees (planned tables.now.tables plan.now).rows row.now) }
+    ensures notices { IfOk result (λ notices.
+        notices.items ≡ spec.notices_of (directory tables.now.tables)
+        (seen_in (shown.model_of model.now) (planned tables.now.tables plan.now).rows row.now)
+        row.now.task (shown.deadline_of deadline.now) at) }
+    ensures view { OnOk result
+        (IfSome view.new (λ e. e ≡ sees (planned tables.now.tables plan.now).rows row.now)) }
 {
     let mut notices = Vec::new(alloc);
     for escalation in &deadline.escalations {
@@ -55,12 +60,17 @@ fn notice_of(
     view: &mut Option<Env>,
 ) -> Result<Option<Notice>, Memory>
     requires seen { IsSeen tables.now.tables plan.now row.now model.now }
-    requires kinds { Escalates (parts_of model.now.input.items model.now.output.items) escalation.now }
-    requires view { IfSome view.old (λ e. e ≡ sees (planned tables.now.tables plan.now).rows row.now) }
+    requires kinds { Escalates (parts_of model.now.input.items model.now.output.items)
+        escalation.now }
+    requires view { IfSome view.old
+        (λ e. e ≡ sees (planned tables.now.tables plan.now).rows row.now) }
     ensures notice { let s = seen_in (shown.model_of model.now) (planned tables.now.tables plan.now).rows row.now in
         let e = shown.escalation_of escalation.now in
-        IfOk result (λ notice. notice ≡ (if spec.is_triggered s e then spec.notice_of (directory tables.now.tables) s row.now.task (deadline.now).name at e else None)) }
-    ensures view { OnOk result (IfSome view.new (λ e. e ≡ sees (planned tables.now.tables plan.now).rows row.now)) }
+        IfOk result (λ notice.
+        notice ≡ (if spec.is_triggered s e then spec.notice_of (directory tables.now.tables)
+        s row.now.task (deadline.now).name at e else None)) }
+    ensures view { OnOk result
+        (IfSome view.new (λ e. e ≡ sees (planned tables.now.tables plan.now).rows row.now)) }
 {
     let Some(assign) = &escalation.notify else {
         return Ok(None);

@@ -37,9 +37,12 @@ pub(crate) fn new_owners(
 ) -> Result<Option<Owners>, Memory>
     requires seen { IsSeen tables.now.tables plan.now row.now model.now }
     requires kinds { Ends (parts_of model.now.input.items model.now.output.items) deadline.now }
-    requires view { IfSome view.old (λ e. e ≡ sees (planned tables.now.tables plan.now).rows row.now) }
+    requires view { IfSome view.old
+        (λ e. e ≡ sees (planned tables.now.tables plan.now).rows row.now) }
     ensures { let s = seen_in (shown.model_of model.now) (planned tables.now.tables plan.now).rows row.now in
-        IfOk result (λ owners. owners ≡ seeing.owners_of (directory tables.now.tables) s row.now (spec.first_reassignment s (shown.deadline_of deadline.now))) }
+        IfOk result (λ owners.
+        owners ≡ seeing.owners_of (directory tables.now.tables) s row.now
+        (spec.first_reassignment s (shown.deadline_of deadline.now))) }
 {
     for escalation in &deadline.escalations {
         if let Some(assign) = &escalation.reassign {
@@ -63,10 +66,12 @@ fn owners_by(
 ) -> Result<Owners, Memory>
     requires seen { IsSeen tables.now.tables plan.now row.now model.now }
     requires kinds { Assigns (parts_of model.now.input.items model.now.output.items) assign.now }
-    requires view { IfSome view.old (λ e. e ≡ sees (planned tables.now.tables plan.now).rows row.now) }
+    requires view { IfSome view.old
+        (λ e. e ≡ sees (planned tables.now.tables plan.now).rows row.now) }
     ensures { let s = seen_in (shown.model_of model.now) (planned tables.now.tables plan.now).rows row.now in
         let a = tree.shown assign.now in
-        IfOk result (λ owners. owners ≡ seeing.owners_by (directory tables.now.tables) s row.now a) }
+        IfOk result
+        (λ owners. owners ≡ seeing.owners_by (directory tables.now.tables) s row.now a) }
 {
     let found = resolve_seen(alloc, tables, plan, row, assign, view)?;
     Ok(Owners {
@@ -79,7 +84,8 @@ fn owners_by(
 pub(crate) fn taken_row(row: Row, owners: Option<Owners>, place: u32) -> Result<Row, Memory>
     requires ascend { Ascends row.taken }
     requires absent { has place row.taken ≡ false }
-    ensures { IfOk result (λ after. after ≡ record (seeing.given_all row owners) { taken = spec.taken_with place row.taken }) }
+    ensures { IfOk result (λ after.
+        after ≡ record (seeing.given_all row owners) { taken = spec.taken_with place row.taken }) }
 {
     let mut row = row;
     row.taken.put(place)?;

@@ -33,7 +33,8 @@ pub fn deadline(
     requires sound { IsSound (planned tables.now.tables plan.old) }
     requires open { IsOpen (planned tables.now.tables plan.old) task.0 place }
     requires at { at.0 ≤ last_moment }
-    ensures escalates { OnOk result (IsEscalated tables.now.tables plan.old plan.new at task.0 place) }
+    ensures escalates { OnOk result
+        (IsEscalated tables.now.tables plan.old plan.new at task.0 place) }
     ensures marked { OnErr result (plan.new.marked ≡ plan.old.marked) }
 {
     let Some(row) = plan.row(tables, task) else {
@@ -68,9 +69,13 @@ fn what_follows(
     requires seen { IsSeen tables.now.tables plan.now row.now model.now }
     requires kinds { Ends (parts_of model.now.input.items model.now.output.items) deadline.now }
     ensures notices { let s = seen_in (shown.model_of model.now) (planned tables.now.tables plan.now).rows row.now in
-        IfOk result (λ f. f.notices.items ≡ spec.notices_of (directory tables.now.tables) s row.now.task (shown.deadline_of deadline.now) at) }
+        IfOk result (λ f.
+        f.notices.items ≡ spec.notices_of (directory tables.now.tables) s row.now.task
+        (shown.deadline_of deadline.now) at) }
     ensures owners { let s = seen_in (shown.model_of model.now) (planned tables.now.tables plan.now).rows row.now in
-        IfOk result (λ f. f.owners ≡ seeing.owners_of (directory tables.now.tables) s row.now (spec.first_reassignment s (shown.deadline_of deadline.now))) }
+        IfOk result (λ f.
+        f.owners ≡ seeing.owners_of (directory tables.now.tables) s row.now
+        (spec.first_reassignment s (shown.deadline_of deadline.now))) }
 {
     let mut view = None;
     Ok(Follows {

@@ -28,10 +28,17 @@ pub(crate) fn is_triggered(
     view: &mut Option<Env>,
 ) -> Result<bool, Memory>
     requires seen { IsSeen tables.now.tables plan.now row.now model.now }
-    requires kinds { Escalates (parts_of model.now.input.items model.now.output.items) escalation.now }
-    requires view { IfSome view.old (λ e. e ≡ sees (planned tables.now.tables plan.now).rows row.now) }
-    ensures triggered { IfOk result (λ triggered. triggered ≡ spec.is_triggered (seen_in (shown.model_of model.now) (planned tables.now.tables plan.now).rows row.now) (shown.escalation_of escalation.now)) }
-    ensures view { OnOk result (IfSome view.new (λ e. e ≡ sees (planned tables.now.tables plan.now).rows row.now)) }
+    requires kinds { Escalates (parts_of model.now.input.items model.now.output.items)
+        escalation.now }
+    requires view { IfSome view.old
+        (λ e. e ≡ sees (planned tables.now.tables plan.now).rows row.now) }
+    ensures triggered { IfOk result (λ triggered.
+        triggered
+        ≡ spec.is_triggered (seen_in (shown.model_of model.now)
+        (planned tables.now.tables plan.now).rows row.now)
+        (shown.escalation_of escalation.now)) }
+    ensures view { OnOk result
+        (IfSome view.new (λ e. e ≡ sees (planned tables.now.tables plan.now).rows row.now)) }
 {
     match &escalation.when {
         Some(condition) => {
@@ -46,8 +53,10 @@ pub(crate) fn is_triggered(
 }
 
 fn is_true(condition: &Expr, env: &Env) -> bool
-    requires { (kinds : Declared) × IsOfKind kinds Truth condition.now × IsTrue (has_parts kinds env.now) }
-    ensures { (kinds : Declared) → IsOfKind kinds Truth condition.now → values.value kinds env.now (condition.now).tree ≡ values.a_truth result }
+    requires { (kinds : Declared) × IsOfKind kinds Truth condition.now
+        × IsTrue (has_parts kinds env.now) }
+    ensures { (kinds : Declared) → IsOfKind kinds Truth condition.now
+        → values.value kinds env.now (condition.now).tree ≡ values.a_truth result }
 {
     condition.truth(env)
 }

@@ -343,7 +343,8 @@ fn branches(
 
 // A text in brackets.
 fn text(alloc: Global, tokens: &[Placed<'_>], at: usize) -> Result<(Txt, usize), Memory>
-    ensures { IfOk result (λ r. Spans tokens.now at (mark Open ∷ quoted r.0 ∷ mark Close ∷ []) r.1) }
+    ensures { IfOk result
+        (λ r. Spans tokens.now at (mark Open ∷ quoted r.0 ∷ mark Close ∷ []) r.1) }
 {
     let next = sign(tokens, at, Mark::Open)?;
     let text = quoted(alloc, tokens, next)?;

@@ -55,7 +55,8 @@ pub(crate) fn value<'a>(node: &'a Node, kinds: &Kinds, env: &'a Env) -> Held<'a>
 }
 
 fn part<'a>(side: Side, name: &Txt, kinds: &Kinds, env: &'a Env) -> Held<'a>
-    ensures { outcome result ≡ values.given_or_unset (environment.given env.now side name.now) (declared_kind kinds.now side name.now) }
+    ensures { outcome result ≡ values.given_or_unset (environment.given env.now side name.now)
+        (declared_kind kinds.now side name.now) }
 {
     match env.given(side, name.as_str()) {
         Some(value) => of_value(value),

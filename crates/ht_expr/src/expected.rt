@@ -159,7 +159,8 @@ enum Taken {
 
 // Takes one token. The symbol that is expected first is the last.
 fn take(expected: &mut Vec<Symbol>, token: Token<'_>) -> Taken
-    ensures yes { result ≡ Taken.Yes → next (reverse expected.old.items) (seen token.entry) ≡ Some (reverse expected.new.items) }
+    ensures yes { result ≡ Taken.Yes
+        → next (reverse expected.old.items) (seen token.entry) ≡ Some (reverse expected.new.items) }
     ensures no { result ≡ Taken.No → next (reverse expected.old.items) (seen token.entry) ≡ None }
 {
     while let Some(first) = expected.pop() {
@@ -184,8 +185,11 @@ fn take(expected: &mut Vec<Symbol>, token: Token<'_>) -> Taken
 // The tree of this level that begins with the token, and operators behind it.
 fn open(expected: &mut Vec<Symbol>, level: u8, token: Token<'_>) -> Taken
     ensures yes { result ≡ Taken.Yes
-        → if_some (opening_in (seen token.entry)) (on_opening level (reverse expected.old.items)) ≡ Some (reverse expected.new.items) }
-    ensures no { result ≡ Taken.No → if_some (opening_in (seen token.entry)) (on_opening level (reverse expected.old.items)) ≡ None }
+        → if_some (opening_in (seen token.entry)) (on_opening level (reverse expected.old.items))
+        ≡ Some (reverse expected.new.items) }
+    ensures no { result ≡ Taken.No
+        → if_some (opening_in (seen token.entry)) (on_opening level (reverse expected.old.items))
+        ≡ None }
 {
     let Some(opening) = Opening::of(token) else {
         return Taken::No;
@@ -206,7 +210,8 @@ fn open(expected: &mut Vec<Symbol>, level: u8, token: Token<'_>) -> Taken
 }
 
 fn expect(expected: &mut Vec<Symbol>, behind: Behind) -> Result<(), AllocError>
-    ensures { IfOk result (λ _. reverse expected.new.items ≡ symbols behind ++ reverse expected.old.items) }
+    ensures { IfOk result
+        (λ _. reverse expected.new.items ≡ symbols behind ++ reverse expected.old.items) }
 {
     let open = Symbol::Sign(Mark::Open);
     let close = Symbol::Sign(Mark::Close);
@@ -245,7 +250,8 @@ fn expect(expected: &mut Vec<Symbol>, behind: Behind) -> Result<(), AllocError>
 // is asked for.
 pub(crate) fn operator_for(level: u8, operand: u8, token: Token<'_>) -> Option<Operator>
     ensures found { result ≡ operator_for level operand (seen token.entry) }
-    ensures taken { IfSome result (λ o. (seen token.entry ≡ sign_of o) × (level ≤ trees.level o) × (trees.left o ≤ operand)) }
+    ensures taken { IfSome result
+        (λ o. (seen token.entry ≡ sign_of o) × (level ≤ trees.level o) × (trees.left o ≤ operand)) }
 {
     let operator = Operator::of(token)?;
     if level <= operator.level() && operator.left() <= operand {
@@ -258,7 +264,9 @@ pub(crate) fn operator_for(level: u8, operand: u8, token: Token<'_>) -> Option<O
 fn operate(expected: &mut Vec<Symbol>, level: u8, operator: Operator) -> Taken
     ensures no { result ≡ Taken.No → ⊥ }
     ensures yes { result ≡ Taken.Yes
-        → reverse expected.new.items ≡ Symbol.Tree (trees.level operator + 1) ∷ Symbol.Operators level (trees.level operator) ∷ reverse expected.old.items }
+        → reverse expected.new.items
+        ≡ Symbol.Tree (trees.level operator + 1) ∷ Symbol.Operators level (trees.level operator)
+        ∷ reverse expected.old.items }
 {
     let own = operator.level();
     let symbols = [Symbol::Operators(level, own), Symbol::Tree(own + 1)];
@@ -269,8 +277,11 @@ fn operate(expected: &mut Vec<Symbol>, level: u8, operator: Operator) -> Taken
 }
 
 fn name(expected: &mut Vec<Symbol>, token: Token<'_>) -> Taken
-    ensures yes { result ≡ Taken.Yes → on_part (reverse expected.old.items) (seen token.entry) ≡ Some (reverse expected.new.items) }
-    ensures no { result ≡ Taken.No → on_part (reverse expected.old.items) (seen token.entry) ≡ None }
+    ensures yes { result ≡ Taken.Yes
+        → on_part (reverse expected.old.items) (seen token.entry)
+        ≡ Some (reverse expected.new.items) }
+    ensures no { result ≡ Taken.No
+        → on_part (reverse expected.old.items) (seen token.entry) ≡ None }
 {
     if !is_side(token) {
         return Taken::No;

@@ -56,7 +56,8 @@ impl Expr {
 
     /// The kind of its values, by the table of forms and kinds. One that was read has a kind.
     pub fn kind(&self) -> Kind
-        ensures { IsSome (kind_of self.now.kinds self.now.tree) → kind_of self.now.kinds self.now.tree ≡ Some result }
+        ensures { IsSome (kind_of self.now.kinds self.now.tree)
+            → kind_of self.now.kinds self.now.tree ≡ Some result }
     {
         match kinding::kind_of(&self.node, &self.kinds) {
             Some(kind) => kind,

@@ -15,9 +15,11 @@ ghost use Rattle.ht_expr.specs.declared.refusal.ExprRefusal.{ExprRefusal};
 /// But for want of memory each text has one answer, as an expression and as an assignment, which are
 /// the trees of two levels: one tree, or one refusal. So it is whatever parts are declared.
 pub fn each_text_has_one_answer()
-    ensures tree { (level : ℕ) (text : List ℕ) (a b : Tree) → IsWritten level text a → IsWritten level text b → a ≡ b }
+    ensures tree { (level : ℕ) (text : List ℕ) (a b : Tree) → IsWritten level text a
+        → IsWritten level text b → a ≡ b }
     ensures one { (kinds : Declared) (level : ℕ) (text : List ℕ) (a b : Result Tree ExprRefusal)
-        → Reads kinds level text a → Reads kinds level text b → a ≢ Err ExprRefusal.Memory → b ≢ Err ExprRefusal.Memory → a ≡ b }
+        → Reads kinds level text a → Reads kinds level text b → a ≢ Err ExprRefusal.Memory
+        → b ≢ Err ExprRefusal.Memory → a ≡ b }
     ensures some { (kinds : Declared) (level : ℕ) (text : List ℕ) → level ≤ 9 → IsUtf8 text
         → (a : Result Tree ExprRefusal) × Reads kinds level text a × (a ≢ Err ExprRefusal.Memory) }
 {}
@@ -25,13 +27,15 @@ pub fn each_text_has_one_answer()
 /// Each tree whose tokens can be written, no more than there may be, is what some text is written as. So it is read
 /// where its kinds fit, and else refused for them.
 pub fn each_tree_has_a_text()
-    ensures { (level : ℕ) (a : Tree) → Fits level a → AreWritable (tokens_of a) → length (tokens_of a) ≤ MOST_TOKENS
+    ensures { (level : ℕ) (a : Tree) → Fits level a → AreWritable (tokens_of a)
+        → length (tokens_of a) ≤ MOST_TOKENS
         → (text : List ℕ) × IsUtf8 text × IsWritten level text a }
 {}
 
 /// An expression that has a kind gives a value of this kind, where the declared parts that have values
 /// have them of theirs.
 pub fn each_kind_has_a_value()
-    ensures { (kinds : Declared) (env : Env) (tree : Tree) (kind : Kind) → IsTrue (has_parts kinds env) → kind_of kinds tree ≡ Some kind
+    ensures { (kinds : Declared) (env : Env) (tree : Tree) (kind : Kind)
+        → IsTrue (has_parts kinds env) → kind_of kinds tree ≡ Some kind
         → kind_of_outcome (value kinds env tree) ≡ Some kind }
 {}

@@ -52,7 +52,8 @@ impl Node {
         then: Node,
         other: Node,
     ) -> Result<Node, Memory>
-        ensures { IfOk result (λ node. shown_node node ≡ choice (shown_node test) (shown_node then) (shown_node other)) }
+        ensures { IfOk result (λ node.
+            shown_node node ≡ choice (shown_node test) (shown_node then) (shown_node other)) }
     {
         let test = Box::new(alloc, test)?;
         let then = Box::new(alloc, then)?;

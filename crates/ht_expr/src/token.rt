@@ -24,7 +24,8 @@ impl Mark {
     /// The longest mark that these bytes begin with.
     pub(crate) fn first_of(bytes: &[u8]) -> Option<Mark>
         ensures longest { result ≡ mark_in bytes.now }
-        ensures stands { IfSome result (λ m. bytes.now ≡ mark_bytes m ++ drop (length (mark_bytes m)) bytes.now) }
+        ensures stands { IfSome result
+            (λ m. bytes.now ≡ mark_bytes m ++ drop (length (mark_bytes m)) bytes.now) }
     {
         match bytes {
             [b'(', ..] => Some(Mark::Open),

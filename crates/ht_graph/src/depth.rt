@@ -28,7 +28,9 @@ fn is_any_marked(marks: &[bool]) -> bool
 
 // For each place whether a chain of one more step begins there.
 fn longer<G: Graph>(alloc: Global, graph: &G, long: &[bool]) -> Result<Vec<bool>, AllocError>
-    ensures { IfOk result (λ next. next.items ≡ map (λ place. list_any (λ to. slice_index_or long.now to false) (G.next graph.now place)) (range_with_len 0 (length long.now))) }
+    ensures { IfOk result (λ next. next.items
+        ≡ map (λ place. list_any (λ to. slice_index_or long.now to false) (G.next graph.now place))
+        (range_with_len 0 (length long.now))) }
 {
     let mut next = Vec::new(alloc);
     for place in 0..long.len() {

@@ -13,7 +13,8 @@ pub fn reached_from<G: Graph>(
 ) -> Result<Vec<bool>, AllocError>
     requires { IsClosed (G.count graph.now) (G.next graph.now) }
     ensures long { IfOk result (λ met. length met.items ≡ G.count graph.now) }
-    ensures reached { IfOk result (λ met. (place : ℕ) → (slice_index_or met.items place false ≡ true) ↔ IsReached (G.next graph.now) from place) }
+    ensures reached { IfOk result (λ met. (place : ℕ)
+        → (slice_index_or met.items place false ≡ true) ↔ IsReached (G.next graph.now) from place) }
 {
     let mut met = vec![in alloc; false; graph.count()]?;
     let mut pending = vec![in alloc; from]?;
@@ -26,8 +27,10 @@ pub fn reached_from<G: Graph>(
 // Marks the places that were not met before, and leaves them to go on from.
 fn meet(places: &[usize], met: &mut [bool], pending: &mut Vec<usize>) -> Result<(), AllocError>
     requires { (i place : ℕ) → slice_get places.now i ≡ Some place → place < length met.old }
-    ensures meets { OnOk result (Meets places.now met.old met.new pending.old.items pending.new.items) }
-    ensures counted { OnOk result (unmet met.new + length pending.new.items ≡ unmet met.old + length pending.old.items) }
+    ensures meets { OnOk result
+        (Meets places.now met.old met.new pending.old.items pending.new.items) }
+    ensures counted { OnOk result
+        (unmet met.new + length pending.new.items ≡ unmet met.old + length pending.old.items) }
 {
     for place in places {
         if !met[*place] {

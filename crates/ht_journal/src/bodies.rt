@@ -23,11 +23,14 @@ fn body_at<D: Disk>(
 ) -> Result<Body, JournalFault>
     requires range { (at + len ≤ 2 ^ 32) × (at + len ≤ D.shown disk.old) }
     requires piece { IfSome (D.gives disk.old) (IsPiece reader.old) }
-    ensures body { IfOk result (λ body. (body.at ≡ at) × IfSome (D.gives disk.old) (λ file. body.bytes.items ≡ take len (drop at file))) }
+    ensures body { IfOk result (λ body.
+        (body.at ≡ at)
+        × IfSome (D.gives disk.old) (λ file. body.bytes.items ≡ take len (drop at file))) }
     ensures fault { IfErr result (IsFault (λ _. ⊥) (D.faults disk.old) (D.faults disk.new)) }
     ensures piece { IfSome (D.gives disk.old) (IsPiece reader.new) }
     ensures gate { (reader.new.gate ≡ reader.old.gate) × (reader.new.passed ≡ reader.old.passed) }
-    ensures quiet { IsQuiet D.room D.gives D.tells_images D.may_leave D.moment D.left_since disk.old disk.new }
+    ensures quiet { IsQuiet D.room D.gives D.tells_images D.may_leave D.moment D.left_since disk.old
+        disk.new }
     ensures shown { D.shown disk.new ≡ D.shown disk.old }
     ensures in_room { IsRoomy (D.room disk.old) 0 → result ≢ Err JournalFault.Store }
     ensures faults { D.faults disk.old ≤ D.faults disk.new }
@@ -57,17 +60,25 @@ impl JournalState {
         n: u32,
     ) -> Result<Body, JournalFault>
         requires number { (1 ≤ n) × (n ≤ self.old.count) }
-        requires kept { (bodies : List (List ℕ)) × IsKept D.gives D.shown D.tells_images D.may_leave bodies self.old disk.old }
-        ensures body { IfOk result (λ body. (bodies : List (List ℕ)) → IsKept D.gives D.shown D.tells_images D.may_leave bodies self.old disk.old
+        requires kept { (bodies : List (List ℕ))
+            × IsKept D.gives D.shown D.tells_images D.may_leave bodies self.old disk.old }
+        ensures body { IfOk result (λ body.
+            (bodies : List (List ℕ))
+            → IsKept D.gives D.shown D.tells_images D.may_leave bodies self.old disk.old
             → IfSome (D.gives disk.old) (λ _. IsNth bodies n body.at body.bytes.items)) }
         ensures fault { IfErr result (IsFault (λ _. ⊥) (D.faults disk.old) (D.faults disk.new)) }
-        ensures kept { (bodies : List (List ℕ)) → IsKept D.gives D.shown D.tells_images D.may_leave bodies self.old disk.old
+        ensures kept { (bodies : List (List ℕ))
+            → IsKept D.gives D.shown D.tells_images D.may_leave bodies self.old disk.old
             → IsKept D.gives D.shown D.tells_images D.may_leave bodies self.new disk.new }
         // For a caller to whom the bodies don't matter.
-        ensures goes_on { (bodies : List (List ℕ)) × IsKept D.gives D.shown D.tells_images D.may_leave bodies self.new disk.new }
-        ensures doubt { (self.new.doubt ≡ self.old.doubt) × (doubt_of self.new ≡ doubt_of self.old) }
-        ensures same { (self.new.count ≡ self.old.count) × (self.new.length ≡ self.old.length) × (self.new.limit ≡ self.old.limit) }
-        ensures quiet { IsQuiet D.room D.gives D.tells_images D.may_leave D.moment D.left_since disk.old disk.new }
+        ensures goes_on { (bodies : List (List ℕ))
+            × IsKept D.gives D.shown D.tells_images D.may_leave bodies self.new disk.new }
+        ensures doubt { (self.new.doubt ≡ self.old.doubt)
+            × (doubt_of self.new ≡ doubt_of self.old) }
+        ensures same { (self.new.count ≡ self.old.count) × (self.new.length ≡ self.old.length)
+            × (self.new.limit ≡ self.old.limit) }
+        ensures quiet { IsQuiet D.room D.gives D.tells_images D.may_leave D.moment D.left_since
+            disk.old disk.new }
         ensures in_room { IsRoomy (D.room disk.old) 0 → result ≢ Err JournalFault.Store }
         ensures faults { D.faults disk.old ≤ D.faults disk.new }
     {

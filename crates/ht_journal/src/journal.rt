@@ -41,11 +41,15 @@ impl<'a, D: Disk> JournalOver<'a, D, JournalState> {
     /// the disk.
     pub fn open(alloc: Global, disk: &'a mut D, limit: u64) -> Result<Journal<'a, D>, JournalFault>
         requires { limit ≤ 2 ^ 32 }
-        ensures same_disk { IfOk result (λ journal. journal.disk.ghost_name ≡ disk.entry.ghost_name) }
-        ensures found { IfOk result (λ journal. (bodies : List (List ℕ)) × IsKept D.gives D.shown D.tells_images D.may_leave bodies journal.state journal.disk.now
-            × IfSome (D.gives disk.old) (λ file. contents file ≡ Ok bodies)) }
-        ensures fresh { IfOk result (λ journal. (journal.state.doubt ≡ None) × (journal.state.limit ≡ limit)) }
-        ensures damaged { IfErr result (IsDamaged (λ at. IfSome (D.gives disk.old) (λ file. contents file ≡ Err at))) }
+        ensures same_disk { IfOk result
+            (λ journal. journal.disk.ghost_name ≡ disk.entry.ghost_name) }
+        ensures found { IfOk result (λ journal. (bodies : List (List ℕ))
+            × IsKept D.gives D.shown D.tells_images D.may_leave bodies journal.state
+            journal.disk.now × IfSome (D.gives disk.old) (λ file. contents file ≡ Ok bodies)) }
+        ensures fresh { IfOk result
+            (λ journal. (journal.state.doubt ≡ None) × (journal.state.limit ≡ limit)) }
+        ensures damaged { IfErr result
+            (IsDamaged (λ at. IfSome (D.gives disk.old) (λ file. contents file ≡ Err at))) }
     {
         match open(alloc, &mut *disk, limit) {
             Ok(state) => Ok(JournalOver { disk, state }),
@@ -63,17 +67,31 @@ impl<'a, D: Disk> JournalOver<'a, D, JournalState> {
     /// The nth body, counted from 1: see [`JournalState::body`].
     pub fn body(&mut self, alloc: Global, n: u32) -> Result<Body, JournalFault>
         requires number { (1 ≤ n) × (n ≤ self.old.state.count) }
-        requires kept { (bodies : List (List ℕ)) × IsKept D.gives D.shown D.tells_images D.may_leave bodies self.old.state self.old.disk.now }
+        requires kept { (bodies : List (List ℕ))
+            × IsKept D.gives D.shown D.tells_images D.may_leave bodies self.old.state
+            self.old.disk.now }
         ensures same_disk { self.new.disk.ghost_name ≡ self.old.disk.ghost_name }
-        ensures body { IfOk result (λ body. (bodies : List (List ℕ)) → IsKept D.gives D.shown D.tells_images D.may_leave bodies self.old.state self.old.disk.now
+        ensures body { IfOk result (λ body. (bodies : List (List ℕ))
+            → IsKept D.gives D.shown D.tells_images D.may_leave bodies self.old.state
+            self.old.disk.now
             → IfSome (D.gives self.old.disk.now) (λ _. IsNth bodies n body.at body.bytes.items)) }
-        ensures fault { IfErr result (IsFault (λ _. ⊥) (D.faults self.old.disk.now) (D.faults self.new.disk.now)) }
-        ensures kept { (bodies : List (List ℕ)) → IsKept D.gives D.shown D.tells_images D.may_leave bodies self.old.state self.old.disk.now
-            → IsKept D.gives D.shown D.tells_images D.may_leave bodies self.new.state self.new.disk.now }
-        ensures goes_on { (bodies : List (List ℕ)) × IsKept D.gives D.shown D.tells_images D.may_leave bodies self.new.state self.new.disk.now }
-        ensures doubt { (self.new.state.doubt ≡ self.old.state.doubt) × (doubt_of self.new.state ≡ doubt_of self.old.state) }
-        ensures same { (self.new.state.count ≡ self.old.state.count) × (self.new.state.length ≡ self.old.state.length) × (self.new.state.limit ≡ self.old.state.limit) }
-        ensures quiet { IsQuiet D.room D.gives D.tells_images D.may_leave D.moment D.left_since self.old.disk.now self.new.disk.now }
+        ensures fault { IfErr result
+            (IsFault (λ _. ⊥) (D.faults self.old.disk.now) (D.faults self.new.disk.now)) }
+        ensures kept { (bodies : List (List ℕ))
+            → IsKept D.gives D.shown D.tells_images D.may_leave bodies self.old.state
+            self.old.disk.now
+            → IsKept D.gives D.shown D.tells_images D.may_leave bodies self.new.state
+            self.new.disk.now }
+        ensures goes_on { (bodies : List (List ℕ))
+            × IsKept D.gives D.shown D.tells_images D.may_leave bodies self.new.state
+            self.new.disk.now }
+        ensures doubt { (self.new.state.doubt ≡ self.old.state.doubt)
+            × (doubt_of self.new.state ≡ doubt_of self.old.state) }
+        ensures same { (self.new.state.count ≡ self.old.state.count)
+            × (self.new.state.length ≡ self.old.state.length)
+            × (self.new.state.limit ≡ self.old.state.limit) }
+        ensures quiet { IsQuiet D.room D.gives D.tells_images D.may_leave D.moment D.left_since
+            self.old.disk.now self.new.disk.now }
         ensures in_room { IsRoomy (D.room self.old.disk.now) 0 → result ≢ Err JournalFault.Store }
         ensures faults { D.faults self.old.disk.now ≤ D.faults self.new.disk.now }
     {
@@ -83,24 +101,45 @@ impl<'a, D: Disk> JournalOver<'a, D, JournalState> {
     /// Adds a body of at most 1,048,576 bytes, where nothing is in doubt: see [`JournalState::append`].
     pub fn append(&mut self, body: &[u8]) -> Result<(), AppendRefusal>
         requires certain { self.old.state.doubt ≡ None }
-        requires kept { (bodies : List (List ℕ)) × IsKept D.gives D.shown D.tells_images D.may_leave bodies self.old.state self.old.disk.now }
+        requires kept { (bodies : List (List ℕ))
+            × IsKept D.gives D.shown D.tells_images D.may_leave bodies self.old.state
+            self.old.disk.now }
         ensures same_disk { self.new.disk.ghost_name ≡ self.old.disk.ghost_name }
-        ensures reason { MatchResult result (λ _. IsShort body.now × HasRoom self.old.state body.now) (HasReason self.old.state body.now (D.faults self.old.disk.now) (D.faults self.new.disk.now)) }
-        ensures ok { OnOk result ((bodies : List (List ℕ)) → IsKept D.gives D.shown D.tells_images D.may_leave bodies self.old.state self.old.disk.now
-            → IsKept D.gives D.shown D.tells_images D.may_leave (bodies ++ body.now ∷ []) self.new.state self.new.disk.now) }
+        ensures reason { MatchResult result
+            (λ _. IsShort body.now × HasRoom self.old.state body.now) (HasReason self.old.state
+            body.now (D.faults self.old.disk.now) (D.faults self.new.disk.now)) }
+        ensures ok { OnOk result ((bodies : List (List ℕ))
+            → IsKept D.gives D.shown D.tells_images D.may_leave bodies self.old.state
+            self.old.disk.now
+            → IsKept D.gives D.shown D.tells_images D.may_leave (bodies ++ body.now ∷ [])
+            self.new.state self.new.disk.now) }
         ensures certain { OnOk result (self.new.state.doubt ≡ None) }
-        ensures err { OnErr result ((bodies : List (List ℕ)) → IsKept D.gives D.shown D.tells_images D.may_leave bodies self.old.state self.old.disk.now
-            → IsKept D.gives D.shown D.tells_images D.may_leave bodies self.new.state self.new.disk.now) }
-        ensures goes_on { (bodies : List (List ℕ)) × IsKept D.gives D.shown D.tells_images D.may_leave bodies self.new.state self.new.disk.now }
-        ensures doubt { IfSome (doubt_of self.new.state) (λ doubt. (doubt ≡ body.now) × (result ≡ Err AppendRefusal.Store)) }
+        ensures err { OnErr result ((bodies : List (List ℕ))
+            → IsKept D.gives D.shown D.tells_images D.may_leave bodies self.old.state
+            self.old.disk.now
+            → IsKept D.gives D.shown D.tells_images D.may_leave bodies self.new.state
+            self.new.disk.now) }
+        ensures goes_on { (bodies : List (List ℕ))
+            × IsKept D.gives D.shown D.tells_images D.may_leave bodies self.new.state
+            self.new.disk.now }
+        ensures doubt { IfSome (doubt_of self.new.state)
+            (λ doubt. (doubt ≡ body.now) × (result ≡ Err AppendRefusal.Store)) }
         ensures limit { self.new.state.limit ≡ self.old.state.limit }
-        ensures refused { result ≢ Err AppendRefusal.Store → IsErr result → (self.new.state ≡ self.old.state) × (self.new.disk.now ≡ self.old.disk.now) }
-        ensures any_part { (bodies : List (List ℕ)) → IsKept D.gives D.shown D.tells_images D.may_leave bodies self.old.state self.old.disk.now → IsTrue (D.tells_images self.old.disk.now)
-            → LeavesOnly D.moment D.left_since self.old.disk.now self.new.disk.now (IsInPart bodies body.now) }
-        ensures any_moment { (bodies : List (List ℕ)) → IsKept D.gives D.shown D.tells_images D.may_leave bodies self.old.state self.old.disk.now → IsTrue (D.tells_images self.old.disk.now)
-            → LeavesOnly D.moment D.left_since self.old.disk.now self.new.disk.now (Reads bodies (Some body.now)) }
+        ensures refused { result ≢ Err AppendRefusal.Store → IsErr result
+            → (self.new.state ≡ self.old.state) × (self.new.disk.now ≡ self.old.disk.now) }
+        ensures any_part { (bodies : List (List ℕ))
+            → IsKept D.gives D.shown D.tells_images D.may_leave bodies self.old.state
+            self.old.disk.now → IsTrue (D.tells_images self.old.disk.now)
+            → LeavesOnly D.moment D.left_since self.old.disk.now self.new.disk.now
+            (IsInPart bodies body.now) }
+        ensures any_moment { (bodies : List (List ℕ))
+            → IsKept D.gives D.shown D.tells_images D.may_leave bodies self.old.state
+            self.old.disk.now → IsTrue (D.tells_images self.old.disk.now)
+            → LeavesOnly D.moment D.left_since self.old.disk.now self.new.disk.now
+            (Reads bodies (Some body.now)) }
         ensures room { D.room self.new.disk.now ≡ D.room self.old.disk.now }
-        ensures in_room { IsRoomy (D.room self.old.disk.now) self.old.state.limit → result ≢ Err AppendRefusal.Store }
+        ensures in_room { IsRoomy (D.room self.old.disk.now) self.old.state.limit
+            → result ≢ Err AppendRefusal.Store }
         ensures faults { D.faults self.old.disk.now ≤ D.faults self.new.disk.now }
         ensures tells { D.tells_images self.new.disk.now ≡ D.tells_images self.old.disk.now }
     {
@@ -118,20 +157,33 @@ impl<'a, D: Disk> JournalOver<'a, D, JournalState> {
     /// Looks whether the body in doubt is there: see [`JournalState::settle`].
     pub fn settle(&mut self) -> Settled
         requires doubt { IsSome self.old.state.doubt }
-        requires kept { (bodies : List (List ℕ)) × IsKept D.gives D.shown D.tells_images D.may_leave bodies self.old.state self.old.disk.now }
+        requires kept { (bodies : List (List ℕ))
+            × IsKept D.gives D.shown D.tells_images D.may_leave bodies self.old.state
+            self.old.disk.now }
         ensures same_disk { self.new.disk.ghost_name ≡ self.old.disk.ghost_name }
-        ensures gate { IfSome (D.gives self.old.disk.now) (λ file. IsSettledBy (slice_index file (self.old.state.length - 1)) result) }
-        ensures store { result ≡ Settled.Store → (self.new.state ≡ self.old.state) × Rose (D.faults self.old.disk.now) (D.faults self.new.disk.now) }
+        ensures gate { IfSome (D.gives self.old.disk.now)
+            (λ file. IsSettledBy (slice_index file (self.old.state.length - 1)) result) }
+        ensures store { result ≡ Settled.Store
+            → (self.new.state ≡ self.old.state)
+            × Rose (D.faults self.old.disk.now) (D.faults self.new.disk.now) }
         ensures certain { result ≢ Settled.Store → self.new.state.doubt ≡ None }
-        ensures settled { (bodies : List (List ℕ)) (body : List ℕ) → doubt_of self.old.state ≡ Some body
-            → IsKept D.gives D.shown D.tells_images D.may_leave bodies self.old.state self.old.disk.now
-            → IsKept D.gives D.shown D.tells_images D.may_leave (settled_bodies bodies body result) self.new.state self.new.disk.now }
-        ensures goes_on { (bodies : List (List ℕ)) × IsKept D.gives D.shown D.tells_images D.may_leave bodies self.new.state self.new.disk.now }
+        ensures settled { (bodies : List (List ℕ)) (body : List ℕ)
+            → doubt_of self.old.state ≡ Some body
+            → IsKept D.gives D.shown D.tells_images D.may_leave bodies self.old.state
+            self.old.disk.now
+            → IsKept D.gives D.shown D.tells_images D.may_leave (settled_bodies bodies body result)
+            self.new.state self.new.disk.now }
+        ensures goes_on { (bodies : List (List ℕ))
+            × IsKept D.gives D.shown D.tells_images D.may_leave bodies self.new.state
+            self.new.disk.now }
         ensures limit { self.new.state.limit ≡ self.old.state.limit }
         ensures room { D.room self.new.disk.now ≡ D.room self.old.disk.now }
         ensures in_room { IsRoomy (D.room self.old.disk.now) 0 → result ≢ Settled.Store }
-        ensures any_moment { (bodies : List (List ℕ)) → IsKept D.gives D.shown D.tells_images D.may_leave bodies self.old.state self.old.disk.now → IsTrue (D.tells_images self.old.disk.now)
-            → LeavesOnly D.moment D.left_since self.old.disk.now self.new.disk.now (Reads bodies (doubt_of self.old.state)) }
+        ensures any_moment { (bodies : List (List ℕ))
+            → IsKept D.gives D.shown D.tells_images D.may_leave bodies self.old.state
+            self.old.disk.now → IsTrue (D.tells_images self.old.disk.now)
+            → LeavesOnly D.moment D.left_since self.old.disk.now self.new.disk.now
+            (Reads bodies (doubt_of self.old.state)) }
         ensures faults { D.faults self.old.disk.now ≤ D.faults self.new.disk.now }
         ensures tells { D.tells_images self.new.disk.now ≡ D.tells_images self.old.disk.now }
     {

@@ -35,12 +35,18 @@ fn frame_at<D: Disk>(
     requires range { (gate < end) × (end ≤ 2 ^ 32) × (end ≤ D.shown disk.old) }
     requires told { IfSome (D.gives disk.old) (λ file. end ≡ min (length file) (2 ^ 32)) }
     requires piece { IfSome (D.gives disk.old) (IsPiece reader.old) }
-    ensures stands { IfOk result (λ found. IfSome (D.gives disk.old) (λ file. StandsAt gate file found)) }
-    ensures whole { IfOk result (λ found. IfSome found (λ n. (n ≤ LONGEST_BODY) × (gate + 5 + n < end))) }
-    ensures fault { IfErr result (IsFault (λ at. (at ≡ gate) × IfSome (D.gives disk.old) (λ file. bodies_from gate 0 (drop gate file) ≡ Err gate)) (D.faults disk.old) (D.faults disk.new)) }
+    ensures stands { IfOk result
+        (λ found. IfSome (D.gives disk.old) (λ file. StandsAt gate file found)) }
+    ensures whole { IfOk result
+        (λ found. IfSome found (λ n. (n ≤ LONGEST_BODY) × (gate + 5 + n < end))) }
+    ensures fault { IfErr result (IsFault (λ at.
+        (at ≡ gate)
+        × IfSome (D.gives disk.old) (λ file. bodies_from gate 0 (drop gate file) ≡ Err gate))
+        (D.faults disk.old) (D.faults disk.new)) }
     ensures piece { IfSome (D.gives disk.old) (IsPiece reader.new) }
     ensures gate { (reader.new.gate ≡ reader.old.gate) × (reader.new.passed ≡ reader.old.passed) }
-    ensures quiet { IsQuiet D.room D.gives D.tells_images D.may_leave D.moment D.left_since disk.old disk.new }
+    ensures quiet { IsQuiet D.room D.gives D.tells_images D.may_leave D.moment D.left_since disk.old
+        disk.new }
     ensures shown { D.shown disk.new ≡ D.shown disk.old }
     ensures in_room { IsRoomy (D.room disk.old) 0 → result ≢ Err JournalFault.Store }
     ensures faults { D.faults disk.old ≤ D.faults disk.new }
@@ -71,11 +77,16 @@ fn scan<D: Disk>(reader: &mut Reader, disk: &mut D, end: u64) -> Result<(u64, u3
     requires told { IfSome (D.gives disk.old) (λ file. end ≡ min (length file) (2 ^ 32)) }
     requires headed { IfSome (D.gives disk.old) (λ file. file ≡ header ++ drop 8 file) }
     requires piece { IfSome (D.gives disk.old) (IsPiece reader.old) }
-    ensures found { IfOk result (λ r. (bodies : List (List ℕ)) × (r.1 ≡ length bodies) × (r.0 ≡ length (front bodies)) × Fit bodies × IfSome (D.gives disk.old) (Rests bodies)) }
+    ensures found { IfOk result (λ r.
+        (bodies : List (List ℕ)) × (r.1 ≡ length bodies) × (r.0 ≡ length (front bodies))
+        × Fit bodies × IfSome (D.gives disk.old) (Rests bodies)) }
     ensures within { IfOk result (λ r. r.0 < end) }
-    ensures fault { IfErr result (IsFault (λ at. IfSome (D.gives disk.old) (λ file. contents file ≡ Err at)) (D.faults disk.old) (D.faults disk.new)) }
+    ensures fault { IfErr result (IsFault
+        (λ at. IfSome (D.gives disk.old) (λ file. contents file ≡ Err at)) (D.faults disk.old)
+        (D.faults disk.new)) }
     ensures gate { (reader.new.gate ≡ reader.old.gate) × (reader.new.passed ≡ reader.old.passed) }
-    ensures quiet { IsQuiet D.room D.gives D.tells_images D.may_leave D.moment D.left_since disk.old disk.new }
+    ensures quiet { IsQuiet D.room D.gives D.tells_images D.may_leave D.moment D.left_since disk.old
+        disk.new }
     ensures shown { D.shown disk.new ≡ D.shown disk.old }
     ensures in_room { IsRoomy (D.room disk.old) 0 → result ≢ Err JournalFault.Store }
     ensures faults { D.faults disk.old ≤ D.faults disk.new }
@@ -94,12 +105,16 @@ fn scan<D: Disk>(reader: &mut Reader, disk: &mut D, end: u64) -> Result<(u64, u3
 // Writes the header and a closed gate into a file that has no more bytes.
 fn begin<D: Disk>(disk: &mut D) -> Result<(), Failed>
     requires short { IfSome (D.gives disk.old) (λ file. length file ≤ 9) }
-    requires images { IsTrue (D.tells_images disk.old) → (image : List ℕ) → D.may_leave disk.old image → length image ≤ 9 }
+    requires images { IsTrue (D.tells_images disk.old) → (image : List ℕ)
+        → D.may_leave disk.old image → length image ≤ 9 }
     ensures file { OnOk result (IfSome (D.gives disk.new) (Rests [])) }
-    ensures same { Both (λ file now. contents now ≡ contents file) (D.gives disk.old) (D.gives disk.new) }
-    ensures durable { OnOk result (IsTrue (D.tells_images disk.old) → IfSome (D.gives disk.new) (λ file. Only file (D.may_leave disk.new))) }
+    ensures same { Both (λ file now. contents now ≡ contents file) (D.gives disk.old)
+        (D.gives disk.new) }
+    ensures durable { OnOk result (IsTrue (D.tells_images disk.old)
+        → IfSome (D.gives disk.new) (λ file. Only file (D.may_leave disk.new))) }
     ensures shown { OnOk result (9 ≤ D.shown disk.new) }
-    ensures any_moment { IsTrue (D.tells_images disk.old) → LeavesOnly D.moment D.left_since disk.old disk.new (λ image. contents image ≡ Ok []) }
+    ensures any_moment { IsTrue (D.tells_images disk.old)
+        → LeavesOnly D.moment D.left_since disk.old disk.new (λ image. contents image ≡ Ok []) }
     ensures tells { D.tells_images disk.new ≡ D.tells_images disk.old }
     ensures room { D.room disk.new ≡ D.room disk.old }
     ensures in_room { IsRoomy (D.room disk.old) 9 → IsOk result }
@@ -112,10 +127,12 @@ fn begin<D: Disk>(disk: &mut D) -> Result<(), Failed>
 fn is_headed<D: Disk>(reader: &mut Reader, disk: &mut D) -> Result<bool, Failed>
     requires long { 8 ≤ D.shown disk.old }
     requires piece { IfSome (D.gives disk.old) (IsPiece reader.old) }
-    ensures header { IfOk result (λ is. IfSome (D.gives disk.old) (λ file. is ≡ bytes_eq (take 8 file) header)) }
+    ensures header { IfOk result
+        (λ is. IfSome (D.gives disk.old) (λ file. is ≡ bytes_eq (take 8 file) header)) }
     ensures piece { IfSome (D.gives disk.old) (IsPiece reader.new) }
     ensures gate { (reader.new.gate ≡ reader.old.gate) × (reader.new.passed ≡ reader.old.passed) }
-    ensures quiet { IsQuiet D.room D.gives D.tells_images D.may_leave D.moment D.left_since disk.old disk.new }
+    ensures quiet { IsQuiet D.room D.gives D.tells_images D.may_leave D.moment D.left_since disk.old
+        disk.new }
     ensures shown { D.shown disk.new ≡ D.shown disk.old }
     ensures in_room { IsRoomy (D.room disk.old) 0 → IsOk result }
     ensures cause { HasCause (D.faults disk.old) (D.faults disk.new) result }
@@ -129,15 +146,22 @@ fn is_headed<D: Disk>(reader: &mut Reader, disk: &mut D) -> Result<bool, Failed>
 // begun.
 fn find<D: Disk>(reader: &mut Reader, disk: &mut D) -> Result<(u64, u32), JournalFault>
     requires { reader.old.held ≡ 0 }
-    ensures found { IfOk result (λ r. (bodies : List (List ℕ)) × (r.1 ≡ length bodies) × (r.0 ≡ length (front bodies)) × Fit bodies
-        × (r.0 + 1 ≤ D.shown disk.new)
-        × IfSome (D.gives disk.new) (Rests bodies)
-        × (IsTrue (D.tells_images disk.new) → (image : List ℕ) → D.may_leave disk.new image → Rests bodies image)
+    ensures found { IfOk result (λ r.
+        (bodies : List (List ℕ)) × (r.1 ≡ length bodies) × (r.0 ≡ length (front bodies))
+        × Fit bodies × (r.0 + 1 ≤ D.shown disk.new) × IfSome (D.gives disk.new) (Rests bodies)
+        × (IsTrue (D.tells_images disk.new) → (image : List ℕ) → D.may_leave disk.new image
+        → Rests bodies image)
         × IfSome (D.gives disk.old) (λ file. contents file ≡ Ok bodies)) }
-    ensures fault { IfErr result (IsFault (λ at. IfSome (D.gives disk.old) (λ file. contents file ≡ Err at)) (D.faults disk.old) (D.faults disk.new)) }
+    ensures fault { IfErr result (IsFault
+        (λ at. IfSome (D.gives disk.old) (λ file. contents file ≡ Err at)) (D.faults disk.old)
+        (D.faults disk.new)) }
     ensures gate { (reader.new.gate ≡ reader.old.gate) × (reader.new.passed ≡ reader.old.passed) }
-    ensures any_moment { IsTrue (D.tells_images disk.old) → LeavesOnly D.moment D.left_since disk.old disk.new (λ image. D.may_leave disk.old image ⊎ IfSome (D.gives disk.old) (λ file. contents image ≡ contents file)) }
-    ensures same { Both (λ file now. contents now ≡ contents file) (D.gives disk.old) (D.gives disk.new) }
+    ensures any_moment { IsTrue (D.tells_images disk.old)
+        → LeavesOnly D.moment D.left_since disk.old disk.new (λ image.
+        D.may_leave disk.old image
+        ⊎ IfSome (D.gives disk.old) (λ file. contents image ≡ contents file)) }
+    ensures same { Both (λ file now. contents now ≡ contents file) (D.gives disk.old)
+        (D.gives disk.new) }
     ensures room { D.room disk.new ≡ D.room disk.old }
     ensures in_room { IsRoomy (D.room disk.old) 9 → result ≢ Err JournalFault.Store }
     ensures faults { D.faults disk.old ≤ D.faults disk.new }
@@ -161,16 +185,24 @@ fn find<D: Disk>(reader: &mut Reader, disk: &mut D) -> Result<(u64, u32), Journa
 pub fn open<D: Disk>(alloc: Global, disk: &mut D, limit: u64) -> Result<JournalState, JournalFault>
     requires { limit ≤ 2 ^ 32 }
     // It finds the bodies of the file, and nothing is in doubt.
-    ensures found { IfOk result (λ state. (bodies : List (List ℕ)) × IsKept D.gives D.shown D.tells_images D.may_leave bodies state disk.new
+    ensures found { IfOk result (λ state.
+        (bodies : List (List ℕ))
+        × IsKept D.gives D.shown D.tells_images D.may_leave bodies state disk.new
         × IfSome (D.gives disk.old) (λ file. contents file ≡ Ok bodies)) }
     ensures fresh { IfOk result (λ state. (state.doubt ≡ None) × (state.limit ≡ limit)) }
     // Damaged comes exactly where the file is damaged there, and Store where the count of faults rose.
-    ensures fault { IfErr result (IsFault (λ at. IfSome (D.gives disk.old) (λ file. contents file ≡ Err at)) (D.faults disk.old) (D.faults disk.new)) }
+    ensures fault { IfErr result (IsFault
+        (λ at. IfSome (D.gives disk.old) (λ file. contents file ≡ Err at)) (D.faults disk.old)
+        (D.faults disk.new)) }
     // At every moment since it began, an image is one from before, or has the bodies that the file had.
-    ensures any_moment { IsTrue (D.tells_images disk.old) → LeavesOnly D.moment D.left_since disk.old disk.new (λ image. D.may_leave disk.old image ⊎ IfSome (D.gives disk.old) (λ file. contents image ≡ contents file)) }
+    ensures any_moment { IsTrue (D.tells_images disk.old)
+        → LeavesOnly D.moment D.left_since disk.old disk.new (λ image.
+        D.may_leave disk.old image
+        ⊎ IfSome (D.gives disk.old) (λ file. contents image ≡ contents file)) }
     // The file has the same bodies afterwards, or is damaged in the same place, also where it is
     // refused.
-    ensures same { Both (λ file now. contents now ≡ contents file) (D.gives disk.old) (D.gives disk.new) }
+    ensures same { Both (λ file now. contents now ≡ contents file) (D.gives disk.old)
+        (D.gives disk.new) }
     ensures room { D.room disk.new ≡ D.room disk.old }
     ensures in_room { IsRoomy (D.room disk.old) 9 → result ≢ Err JournalFault.Store }
     ensures faults { D.faults disk.old ≤ D.faults disk.new }

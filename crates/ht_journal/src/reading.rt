@@ -22,7 +22,8 @@ pub(crate) fn zeros(alloc: Global, n: usize) -> Result<Vec<u8>, AllocError>
 impl Reader {
     /// A reader before the first gate that has read nothing.
     pub(crate) fn new(alloc: Global) -> Result<Reader, AllocError>
-        ensures { IfOk result (λ reader. (reader.held ≡ 0) × (reader.gate ≡ 8) × (reader.passed ≡ 0)) }
+        ensures { IfOk result
+            (λ reader. (reader.held ≡ 0) × (reader.gate ≡ 8) × (reader.passed ≡ 0)) }
     {
         Ok(Reader {
             bytes: zeros(alloc, PIECE)?,
@@ -36,10 +37,12 @@ impl Reader {
     // Reads a piece from a place on.
     fn fill<D: Disk>(&mut self, disk: &mut D, at: u64) -> Result<(), Failed>
         requires { at ≤ 2 ^ 32 }
-        ensures held { OnOk result ((self.new.from ≡ at) × (min (D.shown disk.old) (at + 65536) ≤ at + self.new.held)) }
+        ensures held { OnOk result
+            ((self.new.from ≡ at) × (min (D.shown disk.old) (at + 65536) ≤ at + self.new.held)) }
         ensures piece { IfSome (D.gives disk.old) (IsPiece self.new) }
         ensures gate { (self.new.gate ≡ self.old.gate) × (self.new.passed ≡ self.old.passed) }
-        ensures quiet { IsQuiet D.room D.gives D.tells_images D.may_leave D.moment D.left_since disk.old disk.new }
+        ensures quiet { IsQuiet D.room D.gives D.tells_images D.may_leave D.moment D.left_since
+            disk.old disk.new }
         ensures shown { D.shown disk.new ≡ D.shown disk.old }
         ensures in_room { IsRoomy (D.room disk.old) 0 → IsOk result }
         ensures cause { HasCause (D.faults disk.old) (D.faults disk.new) result }
@@ -55,10 +58,12 @@ impl Reader {
     fn hold<D: Disk>(&mut self, disk: &mut D, at: u64, len: usize) -> Result<(), Failed>
         requires range { (at ≤ 2 ^ 32) × (len ≤ 65536) × (at + len ≤ D.shown disk.old) }
         requires piece { IfSome (D.gives disk.old) (IsPiece self.old) }
-        ensures held { OnOk result ((self.new.from ≤ at) × (at + len ≤ self.new.from + self.new.held)) }
+        ensures held { OnOk result
+            ((self.new.from ≤ at) × (at + len ≤ self.new.from + self.new.held)) }
         ensures piece { IfSome (D.gives disk.old) (IsPiece self.new) }
         ensures gate { (self.new.gate ≡ self.old.gate) × (self.new.passed ≡ self.old.passed) }
-        ensures quiet { IsQuiet D.room D.gives D.tells_images D.may_leave D.moment D.left_since disk.old disk.new }
+        ensures quiet { IsQuiet D.room D.gives D.tells_images D.may_leave D.moment D.left_since
+            disk.old disk.new }
         ensures shown { D.shown disk.new ≡ D.shown disk.old }
         ensures in_room { IsRoomy (D.room disk.old) 0 → IsOk result }
         ensures cause { HasCause (D.faults disk.old) (D.faults disk.new) result }
@@ -79,11 +84,13 @@ impl Reader {
     ) -> Result<(), Failed>
         requires range { (at ≤ 2 ^ 32) × (at + length into.old ≤ D.shown disk.old) }
         requires piece { IfSome (D.gives disk.old) (IsPiece self.old) }
-        ensures bytes { OnOk result (IfSome (D.gives disk.old) (λ file. into.new ≡ take (length into.new) (drop at file))) }
+        ensures bytes { OnOk result
+            (IfSome (D.gives disk.old) (λ file. into.new ≡ take (length into.new) (drop at file))) }
         ensures small { (i : ℕ) → slice_index into.new i < 256 }
         ensures piece { IfSome (D.gives disk.old) (IsPiece self.new) }
         ensures gate { (self.new.gate ≡ self.old.gate) × (self.new.passed ≡ self.old.passed) }
-        ensures quiet { IsQuiet D.room D.gives D.tells_images D.may_leave D.moment D.left_since disk.old disk.new }
+        ensures quiet { IsQuiet D.room D.gives D.tells_images D.may_leave D.moment D.left_since
+            disk.old disk.new }
         ensures shown { D.shown disk.new ≡ D.shown disk.old }
         ensures in_room { IsRoomy (D.room disk.old) 0 → IsOk result }
         ensures cause { HasCause (D.faults disk.old) (D.faults disk.new) result }

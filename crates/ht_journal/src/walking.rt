@@ -21,10 +21,12 @@ pub(crate) fn frame_behind<D: Disk>(
     requires range { (reader.old.gate ≤ end) × (end ≤ 2 ^ 32) × (end ≤ D.shown disk.old) }
     requires piece { IfSome (D.gives disk.old) (IsPiece reader.old) }
     ensures within { IfOk result (λ r. (r.0 + r.1 ≤ end) × (r.1 ≤ LONGEST_BODY)) }
-    ensures behind { IfOk result (λ r. IfSome (D.gives disk.old) (IsBehind reader.old.gate end r.0 r.1)) }
+    ensures behind { IfOk result
+        (λ r. IfSome (D.gives disk.old) (IsBehind reader.old.gate end r.0 r.1)) }
     ensures piece { IfSome (D.gives disk.old) (IsPiece reader.new) }
     ensures gate { (reader.new.gate ≡ reader.old.gate) × (reader.new.passed ≡ reader.old.passed) }
-    ensures quiet { IsQuiet D.room D.gives D.tells_images D.may_leave D.moment D.left_since disk.old disk.new }
+    ensures quiet { IsQuiet D.room D.gives D.tells_images D.may_leave D.moment D.left_since disk.old
+        disk.new }
     ensures shown { D.shown disk.new ≡ D.shown disk.old }
     ensures in_room { IsRoomy (D.room disk.old) 0 → IsOk result }
     ensures cause { HasCause (D.faults disk.old) (D.faults disk.new) result }
@@ -47,8 +49,10 @@ pub(crate) fn frame_behind<D: Disk>(
 pub(crate) fn back(reader: &mut Reader, n: u32)
     requires { 1 ≤ n }
     ensures before { reader.new.passed + 1 ≤ n }
-    ensures no_further { (reader.new.passed ≤ reader.old.passed) × (reader.new.gate ≤ max 8 reader.old.gate) }
-    ensures read { (bodies : List (List ℕ)) (file : List ℕ) → IsRead bodies reader.old file → IsRead bodies reader.new file }
+    ensures no_further { (reader.new.passed ≤ reader.old.passed)
+        × (reader.new.gate ≤ max 8 reader.old.gate) }
+    ensures read { (bodies : List (List ℕ)) (file : List ℕ) → IsRead bodies reader.old file
+        → IsRead bodies reader.new file }
 {
     if n <= reader.passed {
         reader.gate = FIRST_GATE;
@@ -68,10 +72,13 @@ pub(crate) fn pass<D: Disk>(
     requires piece { IfSome (D.gives disk.old) (IsPiece reader.old) }
     ensures passed { (reader.new.passed ≤ wanted) × OnOk result (reader.new.passed ≡ wanted) }
     ensures within { reader.new.gate ≤ end }
-    ensures read { (bodies : List (List ℕ)) → Fit bodies → end ≡ length (front bodies) → wanted ≤ length bodies → IfSome (D.gives disk.old) (HasFront bodies)
-        → IfSome (D.gives disk.old) (IsRead bodies reader.old) → IfSome (D.gives disk.old) (IsRead bodies reader.new) }
+    ensures read { (bodies : List (List ℕ)) → Fit bodies → end ≡ length (front bodies)
+        → wanted ≤ length bodies → IfSome (D.gives disk.old) (HasFront bodies)
+        → IfSome (D.gives disk.old) (IsRead bodies reader.old)
+        → IfSome (D.gives disk.old) (IsRead bodies reader.new) }
     ensures piece { IfSome (D.gives disk.old) (IsPiece reader.new) }
-    ensures quiet { IsQuiet D.room D.gives D.tells_images D.may_leave D.moment D.left_since disk.old disk.new }
+    ensures quiet { IsQuiet D.room D.gives D.tells_images D.may_leave D.moment D.left_since disk.old
+        disk.new }
     ensures shown { D.shown disk.new ≡ D.shown disk.old }
     ensures in_room { IsRoomy (D.room disk.old) 0 → IsOk result }
     ensures cause { HasCause (D.faults disk.old) (D.faults disk.new) result }

@@ -40,8 +40,10 @@ fn added<D: Disk>(
     disk: &mut D,
     body: &[u8],
 ) -> Option<Result<(), AppendRefusal>>
-    requires { (bodies : List (List ℕ)) × IsKept D.gives D.shown D.tells_images D.may_leave bodies journal.old disk.old }
-    ensures { (bodies : List (List ℕ)) × IsKept D.gives D.shown D.tells_images D.may_leave bodies journal.new disk.new }
+    requires { (bodies : List (List ℕ))
+        × IsKept D.gives D.shown D.tells_images D.may_leave bodies journal.old disk.old }
+    ensures { (bodies : List (List ℕ))
+        × IsKept D.gives D.shown D.tells_images D.may_leave bodies journal.new disk.new }
 {
     if journal.doubtful() {
         return None;

@@ -28,7 +28,8 @@ pub(crate) fn add_all(queue: &mut DueQueue, dues: &[Due]) -> Result<(), Memory>
     requires before { Ascends queue.old.dues }
     requires absent { AreAbsent dues.now queue.old.dues }
     ensures ascend { OnOk result (Ascends queue.new.dues) }
-    ensures has { OnOk result ((due : Due) → has due queue.new.dues ≡ (has due dues.now || has due queue.old.dues)) }
+    ensures has { OnOk result
+        ((due : Due) → has due queue.new.dues ≡ (has due dues.now || has due queue.old.dues)) }
 {
     let Ok(more) = u32::try_from(dues.len()) else {
         return Err(Memory);

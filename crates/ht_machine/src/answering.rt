@@ -21,7 +21,8 @@ pub(crate) enum Response {
 /// What is answered of a task as it would be after the plan: its state and its owner.
 pub(crate) fn done(tables: &Tables, plan: &Plan, task: TaskId) -> Kept
     requires plan { IsPlanOf tables.now.tables plan.now }
-    requires there { (row : Row) × (task_row (planned tables.now.tables plan.now) task.0 ≡ Some row) }
+    requires there { (row : Row)
+        × (task_row (planned tables.now.tables plan.now) task.0 ≡ Some row) }
     ensures shows { Shows (planned tables.now.tables plan.now) task.0 result }
     ensures known { NamesOwner tables.now.tables.people result }
 {

@@ -30,7 +30,9 @@ pub(crate) fn ask(
     requires ready { IsReady tables.now.tables plan.old }
     requires later { tables.now.tables.last ≤ asked.now.at.0 }
     requires asked { spec.IsAsked asked.now }
-    ensures { IfOk result (λ r. PlansAsk tables.now.tables plan.old plan.new asked.now.at.0 asked.now.caller asked.now.retry asked.now.task asked.now.command.now (record_left asked.now r) (answer_given r)) }
+    ensures { IfOk result (λ r.
+        PlansAsk tables.now.tables plan.old plan.new asked.now.at.0 asked.now.caller asked.now.retry
+        asked.now.task asked.now.command.now (record_left asked.now r) (answer_given r)) }
 {
     let op = asked.command.op();
     match sending_of(tables, asked.caller, asked.retry, op, asked.task) {
@@ -52,7 +54,10 @@ fn ask_anew(
     requires later { tables.now.tables.last ≤ asked.now.at.0 }
     requires person { person < length tables.now.tables.people.persons }
     requires asked { spec.IsAsked asked.now }
-    ensures { IfOk result (λ r. PlansNew tables.now.tables plan.old plan.new asked.now.at.0 person asked.now.retry asked.now.task asked.now.command.now (spec.record_of asked.now) (record_left asked.now r) (answer_given r)) }
+    ensures { IfOk result (λ r.
+        PlansNew tables.now.tables plan.old plan.new asked.now.at.0 person asked.now.retry
+        asked.now.task asked.now.command.now (spec.record_of asked.now)
+        (record_left asked.now r) (answer_given r)) }
 {
     match command(
         alloc,

@@ -33,7 +33,8 @@ pub(crate) fn command(
     requires caller { caller < length tables.now.tables.people.persons }
     requires at { at.0 ≤ last_moment }
     requires command { IsCommand command.now }
-    ensures { Tries tables.now.tables plan.old plan.new (Comes (planned tables.now.tables plan.old) caller at.0 task.0 command.now) result }
+    ensures { Tries tables.now.tables plan.old plan.new
+        (Comes (planned tables.now.tables plan.old) caller at.0 task.0 command.now) result }
 {
     match command {
         Command::Create {
@@ -65,7 +66,8 @@ fn act_on(
     requires caller { caller < length tables.now.tables.people.persons }
     requires at { at.0 ≤ last_moment }
     requires command { IsCommand command.now }
-    ensures { Tries tables.now.tables plan.old plan.new (ActsOn (planned tables.now.tables plan.old) caller at.0 task.0 command.now) result }
+    ensures { Tries tables.now.tables plan.old plan.new
+        (ActsOn (planned tables.now.tables plan.old) caller at.0 task.0 command.now) result }
 {
     if let Some(refusal) = refusal_at_gate(tables, plan, caller, task, command.op()) {
         return Err(ActRefusal::Refused(refusal));
@@ -86,10 +88,12 @@ fn do_on(
     requires plan { IsPlanOf tables.now.tables plan.old }
     requires sound { IsSound (planned tables.now.tables plan.old) }
     requires caller { caller < length tables.now.tables.people.persons }
-    requires allowed { IsAllowed (planned tables.now.tables plan.old) (op_of command.now) caller task.0 }
+    requires allowed { IsAllowed (planned tables.now.tables plan.old) (op_of command.now) caller
+        task.0 }
     requires at { at.0 ≤ last_moment }
     requires command { IsCommand command.now }
-    ensures { Tries tables.now.tables plan.old plan.new (DoesOn (planned tables.now.tables plan.old) caller at.0 task.0 command.now) result }
+    ensures { Tries tables.now.tables plan.old plan.new
+        (DoesOn (planned tables.now.tables plan.old) caller at.0 task.0 command.now) result }
 {
     match command {
         Command::InstantiateSubTask { sub } => {
@@ -116,10 +120,12 @@ fn act_then_follow(
     requires plan { IsPlanOf tables.now.tables plan.old }
     requires sound { IsSound (planned tables.now.tables plan.old) }
     requires caller { caller < length tables.now.tables.people.persons }
-    requires allowed { IsAllowed (planned tables.now.tables plan.old) (op_of command.now) caller task.0 }
+    requires allowed { IsAllowed (planned tables.now.tables plan.old) (op_of command.now) caller
+        task.0 }
     requires at { at.0 ≤ last_moment }
     requires command { IsCommand command.now }
-    ensures { Tries tables.now.tables plan.old plan.new (HasEffect (planned tables.now.tables plan.old) caller at.0 task.0 command.now) result }
+    ensures { Tries tables.now.tables plan.old plan.new
+        (HasEffect (planned tables.now.tables plan.old) caller at.0 task.0 command.now) result }
 {
     match act(alloc, tables, plan, task, caller, command, at) {
         Ok(next) => {

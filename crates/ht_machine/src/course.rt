@@ -29,7 +29,9 @@ impl Course {
     pub(crate) fn begin(alloc: Global, tables: &Tables, plan: &Plan) -> Result<Course, Memory>
         requires plan { IsPlanOf tables.now.tables plan.now }
         requires sound { IsSound (planned tables.now.tables plan.now) }
-        ensures course { IfOk result (λ c. IsOnCourse (all_dues tables.now.tables) (planned tables.now.tables plan.now) (c.news).dues c.passed) }
+        ensures course { IfOk result (λ c.
+            IsOnCourse (all_dues tables.now.tables) (planned tables.now.tables plan.now)
+            (c.news).dues c.passed) }
         ensures none { IfOk result (λ c. c.taken ≡ 0) }
     {
         let mut news = DueQueue::new(alloc);
@@ -54,12 +56,16 @@ impl Course {
     ) -> Result<bool, Memory>
         requires plan { IsPlanOf tables.now.tables plan.old }
         requires sound { IsSound (planned tables.now.tables plan.old) }
-        requires course { IsOnCourse (all_dues tables.now.tables) (planned tables.now.tables plan.old) (self.old.news).dues self.old.passed }
+        requires course { IsOnCourse (all_dues tables.now.tables)
+            (planned tables.now.tables plan.old) (self.old.news).dues self.old.passed }
         requires at { at.0 ≤ last_moment }
         requires room { self.old.taken + 1 < 2 ^ 32 }
-        ensures course { OnOk result (IsOnCourse (all_dues tables.now.tables) (planned tables.now.tables plan.new) (self.new.news).dues self.new.passed) }
-        ensures on { OnOk result (GoesOn tables.now.tables plan.old plan.new at.0 self.old.taken self.new.taken) }
-        ensures over { IfOk result (λ over. over ≡ true → first_due (planned tables.now.tables plan.new) at.0 ≡ None) }
+        ensures course { OnOk result (IsOnCourse (all_dues tables.now.tables)
+            (planned tables.now.tables plan.new) (self.new.news).dues self.new.passed) }
+        ensures on { OnOk result
+            (GoesOn tables.now.tables plan.old plan.new at.0 self.old.taken self.new.taken) }
+        ensures over { IfOk result
+            (λ over. over ≡ true → first_due (planned tables.now.tables plan.new) at.0 ≡ None) }
         ensures marked { OnErr result (plan.new.marked ≡ plan.old.marked) }
     {
         let Some(due) = next(tables.due(), &self.news, self.passed) else {
@@ -90,11 +96,16 @@ impl Course {
         requires due { has due (all_dues (planned tables.now.tables plan.old)) ≡ true }
         requires at { due.at.0 ≤ last_moment }
         requires in_order { Ascends (self.old.news).dues }
-        requires of_tasks { (q : Due) → has q (self.old.news).dues ≡ true → q.task.0 ≤ length (planned tables.now.tables plan.old).rows }
+        requires of_tasks { (q : Due) → has q (self.old.news).dues ≡ true
+            → q.task.0 ≤ length (planned tables.now.tables plan.old).rows }
         requires room { self.old.taken + 1 < 2 ^ 32 }
         ensures taken { OnOk result (IsTaken tables.now.tables plan.old plan.new due) }
         ensures in_order { OnOk result (Ascends (self.new.news).dues) }
-        ensures news { OnOk result ((q : Due) → has q (self.new.news).dues ≡ ((nat_lt (length (planned tables.now.tables plan.old).rows) q.task.0 && has q (all_dues (planned tables.now.tables plan.new))) || has q (self.old.news).dues)) }
+        ensures news { OnOk result ((q : Due)
+            → has q (self.new.news).dues
+            ≡ ((nat_lt (length (planned tables.now.tables plan.old).rows) q.task.0
+            && has q (all_dues (planned tables.now.tables plan.new)))
+            || has q (self.old.news).dues)) }
         ensures count { OnOk result (self.new.taken ≡ self.old.taken + 1) }
         ensures passed { self.new.passed ≡ self.old.passed }
         ensures marked { OnErr result (plan.new.marked ≡ plan.old.marked) }

@@ -36,7 +36,8 @@ pub(crate) fn create(
     requires at { at.0 ≤ last_moment }
     requires input { AreGiven input.now }
     requires waits { IfSome waits (λ m. m.0 ≤ last_moment) }
-    ensures { Tries tables.now.tables plan.old plan.new (Creates (planned tables.now.tables plan.old) caller at.0 model input.now waits) result }
+    ensures { Tries tables.now.tables plan.old plan.new
+        (Creates (planned tables.now.tables plan.old) caller at.0 model input.now waits) result }
 {
     let place = place_of(tables, model)?;
     let model = tables.models().model(place);

@@ -31,7 +31,9 @@ pub fn decide(alloc: Global, tables: &mut Tables, event: &Event) -> Result<Decis
     requires { IsValid event.now }
     ensures tables { tables.new.tables ≡ tables.old.tables }
     ensures decides { IfOk result (IsDecided tables.new event.now) }
-    ensures once { IfOk result (λ d. ActsOnce tables.new.tables event.now d.left d.reply.answer (committed tables.new.tables d.plan (last_after tables.new.tables d.left))) }
+    ensures once { IfOk result (λ d.
+        ActsOnce tables.new.tables event.now d.left d.reply.answer
+        (committed tables.new.tables d.plan (last_after tables.new.tables d.left))) }
 {
     let mut plan = Plan::begin(alloc)?;
     let (left, reply) = prepare_event(alloc, tables, &mut plan, event)?;
@@ -42,7 +44,9 @@ pub fn decide(alloc: Global, tables: &mut Tables, event: &Event) -> Result<Decis
 /// Decides an event, and leaves the tables as it decides. After `Memory` they are as before.
 pub fn run_one(alloc: Global, tables: &mut Tables, event: &Event) -> Result<Reply, Memory>
     requires { IsValid event.now }
-    ensures step { MatchResult result (λ reply. IsStep tables.old.tables event.now reply tables.new.tables) (λ _. IsStep tables.old.tables event.now memory_reply tables.new.tables) }
+    ensures step { MatchResult result
+        (λ reply. IsStep tables.old.tables event.now reply tables.new.tables)
+        (λ _. IsStep tables.old.tables event.now memory_reply tables.new.tables) }
     ensures err { OnErr result (tables.new.tables ≡ tables.old.tables) }
 {
     let mut plan = Plan::begin(alloc)?;
@@ -62,7 +66,8 @@ fn prepare_event(
     requires valid { IsValid event.now }
     requires plan { plan.old ≡ no_plan }
     ensures tables { tables.new.tables ≡ tables.old.tables }
-    ensures plans { IfOk result (λ r. Plans tables.new.tables plan.new event.now (record_in event.now r.0) r.1) }
+    ensures plans { IfOk result
+        (λ r. Plans tables.new.tables plan.new event.now (record_in event.now r.0) r.1) }
     ensures prepared { OnOk result (IsPrepared tables.new plan.new) }
 {
     let decided = plan_event(alloc, tables, plan, event)?;
@@ -79,7 +84,8 @@ fn plan_event(
 ) -> Result<(Left, Reply), Memory>
     requires valid { IsValid event.now }
     requires plan { plan.old ≡ no_plan }
-    ensures { IfOk result (λ r. Plans tables.now.tables plan.new event.now (record_in event.now r.0) r.1) }
+    ensures { IfOk result
+        (λ r. Plans tables.now.tables plan.new event.now (record_in event.now r.0) r.1) }
 {
     let last = tables.last();
     match event {
@@ -130,7 +136,9 @@ fn turn_then_ask(
     requires later { tables.now.tables.last ≤ asked.now.at.0 }
     requires plan { plan.old ≡ no_plan }
     requires asked { spec.IsAsked asked.now }
-    ensures { IfOk result (λ r. PlansBehindTurn tables.now.tables plan.new asked.now (record_by (spec.record_as asked.now) r.0) r.1) }
+    ensures { IfOk result (λ r.
+        PlansBehindTurn tables.now.tables plan.new asked.now
+        (record_by (spec.record_as asked.now) r.0) r.1) }
 {
     let taken = turn(alloc, tables, plan, asked.at)?;
     plan.mark();

@@ -26,9 +26,11 @@ pub(crate) fn make_sub_task(
 ) -> Result<TaskId, ActRefusal>
     requires plan { IsPlanOf tables.now.tables plan.old }
     requires sound { IsSound (planned tables.now.tables plan.old) }
-    requires allowed { IsAllowed (planned tables.now.tables plan.old) op.InstantiateSubTask caller task.0 }
+    requires allowed { IsAllowed (planned tables.now.tables plan.old) op.InstantiateSubTask caller
+        task.0 }
     requires at { at.0 ≤ last_moment }
-    ensures { Tries tables.now.tables plan.old plan.new (MakesByHand (planned tables.now.tables plan.old) at.0 task.0 sub) result }
+    ensures { Tries tables.now.tables plan.old plan.new
+        (MakesByHand (planned tables.now.tables plan.old) at.0 task.0 sub) result }
 {
     let Some(entry) = entry_to_make(alloc, tables, plan, task, sub)? else {
         return Err(ActRefusal::Refused(Refusal::SubRefused(sub)));

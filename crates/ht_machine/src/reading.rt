@@ -19,7 +19,9 @@ pub(crate) fn read(
     caller: Name,
     query: &Query,
 ) -> Result<Answer, Memory>
-    ensures { IfOk result (λ answer. answer ≡ spec.shown_to tables.now.tables query.now (find caller (directory tables.now.tables))) }
+    ensures { IfOk result (λ answer.
+        answer ≡ spec.shown_to tables.now.tables query.now
+        (find caller (directory tables.now.tables))) }
 {
     let Some(person) = tables.people().find(caller) else {
         return Ok(Answer::Refused(Refusal::Person));
@@ -32,7 +34,9 @@ pub(crate) fn read(
 // The sheet of a task, where the person may see it.
 fn show(alloc: Global, tables: &Tables, person: Person, task: TaskId) -> Result<Answer, Memory>
     requires { person < length tables.now.tables.people.persons }
-    ensures { IfOk result (λ answer. answer ≡ spec.sheet_behind tables.now.tables (gates.gate tables.now.tables Op.Get person task.0)) }
+    ensures { IfOk result (λ answer.
+        answer ≡ spec.sheet_behind tables.now.tables
+        (gates.gate tables.now.tables Op.Get person task.0)) }
 {
     let nothing = Plan::begin(alloc)?;
     if let Some(refusal) = refusal_at_gate(tables, &nothing, person, task, Op::Get) {

@@ -66,7 +66,8 @@ struct RoleNames {
 fn role_names(alloc: Global, tables: &Tables, row: &Row) -> Result<RoleNames, Memory>
     requires { IsSoundRow tables.now.tables row.now }
     ensures { let s = spec.sheet_of tables.now.tables row.now in
-        IfOk result (λ r. r ≡ record { administrators = s.administrators; excluded_owners = s.excluded_owners; potential_owners = s.potential_owners; stakeholders = s.stakeholders }) }
+        IfOk result (λ r.
+        r ≡ record { administrators = s.administrators; excluded_owners = s.excluded_owners; potential_owners = s.potential_owners; stakeholders = s.stakeholders }) }
 {
     let people = tables.people();
     Ok(RoleNames {
@@ -80,7 +81,8 @@ fn role_names(alloc: Global, tables: &Tables, row: &Row) -> Result<RoleNames, Me
 // The sub tasks of a task, where nothing is planned.
 fn subs_of(alloc: Global, tables: &Tables, nothing: &Plan, task: TaskId) -> Result<Ids, Memory>
     requires { nothing.now ≡ no_plan }
-    ensures { IfOk result (λ ids. ids ≡ map (λ r. r.task) (sub_tasks task.0 tables.now.tables.rows)) }
+    ensures { IfOk result
+        (λ ids. ids ≡ map (λ r. r.task) (sub_tasks task.0 tables.now.tables.rows)) }
 {
     let _last = tables.last();
     Ok(Ids::of(sub_tasks(alloc, tables, nothing, task)?))

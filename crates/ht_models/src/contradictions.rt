@@ -112,7 +112,9 @@ fn model_named<'a>(
 }
 
 fn misses_parts(model: Option<&ModelEntry>, entry: &ModelEntry, sub: &SubEntry) -> bool
-    ensures value { result ≡ list_any (spec.is_unfit_pair (option_map (λ m. m.now) model.entry) (declared entry.now)) sub.now.input }
+    ensures value { result
+        ≡ list_any (spec.is_unfit_pair (option_map (λ m. m.now) model.entry) (declared entry.now))
+        sub.now.input }
     ensures order { Ascend sub.now.input }
 {
     sub.input
@@ -121,7 +123,8 @@ fn misses_parts(model: Option<&ModelEntry>, entry: &ModelEntry, sub: &SubEntry) 
 }
 
 fn is_unfit_pair(model: Option<&ModelEntry>, entry: &ModelEntry, pair: &(Label, Label)) -> bool
-    ensures { result ≡ spec.is_unfit_pair (option_map (λ m. m.now) model.entry) (declared entry.now) pair.now }
+    ensures { result ≡ spec.is_unfit_pair (option_map (λ m. m.now) model.entry) (declared entry.now)
+        pair.now }
 {
     let theirs = match model {
         Some(model) => input_kind(model, pair.0.0),

@@ -12,8 +12,10 @@ use toml::{Table, Value};
 
 /// What a document says, or the first entry that has another shape.
 pub fn entries_of(alloc: Global, document: &Table) -> Result<Vec<ModelEntry>, ModelsRefusal>
-    ensures ok { IfOk result (λ entries. models_text (table_view document.now) ≡ Some entries.items) }
-    ensures passes { Passes ModelsRefusal.Memory (refused ModelsRefusal.Field (IsMisshapen (table_view document.now))) result }
+    ensures ok { IfOk result
+        (λ entries. models_text (table_view document.now) ≡ Some entries.items) }
+    ensures passes { Passes ModelsRefusal.Memory
+        (refused ModelsRefusal.Field (IsMisshapen (table_view document.now))) result }
 {
     let Some(values) = values_of(document) else {
         return Err(ModelsRefusal::Field(0));

@@ -13,7 +13,8 @@ use std::alloc::Global;
 fn assignment(alloc: Global, text: &Txt, kinds: &Kinds) -> Result<Assign, ExprRefusal>
     ensures ok { IfOk result (λ a. Spells kinds.now (assignment, text.now) (shown a)) }
     ensures kinds { IfOk result (Assigns kinds.now) }
-    ensures refused { IfErr result (λ e. e ≢ ExprRefusal.Memory → IsRefused kinds.now (assignment, text.now)) }
+    ensures refused { IfErr result
+        (λ e. e ≢ ExprRefusal.Memory → IsRefused kinds.now (assignment, text.now)) }
 {
     Assign::read(alloc, text.as_str(), kinds)
 }
@@ -26,7 +27,8 @@ pub fn assignment_or_nobody(
 ) -> Result<Assign, ExprRefusal>
     ensures ok { IfOk result (λ a. IsOr kinds.now assignment nobody text.now (shown a)) }
     ensures kinds { IfOk result (Assigns kinds.now) }
-    ensures refused { IfErr result (λ e. e ≢ ExprRefusal.Memory → One (IsRefused kinds.now) (asked assignment text.now)) }
+    ensures refused { IfErr result
+        (λ e. e ≢ ExprRefusal.Memory → One (IsRefused kinds.now) (asked assignment text.now)) }
 {
     match text {
         Some(text) => assignment(alloc, text, kinds),
@@ -42,7 +44,8 @@ pub fn assignment_if_any(
 ) -> Result<Option<Assign>, ExprRefusal>
     ensures ok { IfOk result (λ a. IsIfAny kinds.now assignment text.now (option_map shown a)) }
     ensures kinds { IfOk result (λ a. IfSome a (Assigns kinds.now)) }
-    ensures refused { IfErr result (λ e. e ≢ ExprRefusal.Memory → One (IsRefused kinds.now) (asked assignment text.now)) }
+    ensures refused { IfErr result
+        (λ e. e ≢ ExprRefusal.Memory → One (IsRefused kinds.now) (asked assignment text.now)) }
 {
     match text {
         Some(text) => Ok(Some(assignment(alloc, text, kinds)?)),
@@ -54,7 +57,8 @@ pub fn assignment_if_any(
 fn expression(alloc: Global, kind: Kind, text: &Txt, kinds: &Kinds) -> Result<Expr, ExprRefusal>
     ensures ok { IfOk result (λ e. Spells kinds.now (expression kind, text.now) e.tree) }
     ensures kinds { IfOk result (IsOfKind kinds.now kind) }
-    ensures refused { IfErr result (λ e. e ≢ ExprRefusal.Memory → IsRefused kinds.now (expression kind, text.now)) }
+    ensures refused { IfErr result
+        (λ e. e ≢ ExprRefusal.Memory → IsRefused kinds.now (expression kind, text.now)) }
 {
     let expression = Expr::read(alloc, text.as_str(), kinds)?;
     if is_of_kind(kind, Some(expression.kind())) {
@@ -71,9 +75,11 @@ pub fn expression_if_any(
     text: &Option<Txt>,
     kinds: &Kinds,
 ) -> Result<Option<Expr>, ExprRefusal>
-    ensures ok { IfOk result (λ x. IsIfAny kinds.now (expression kind) text.now (option_map (λ e. e.tree) x)) }
+    ensures ok { IfOk result
+        (λ x. IsIfAny kinds.now (expression kind) text.now (option_map (λ e. e.tree) x)) }
     ensures kinds { IfOk result (λ x. IfSome x (IsOfKind kinds.now kind)) }
-    ensures refused { IfErr result (λ e. e ≢ ExprRefusal.Memory → One (IsRefused kinds.now) (asked (expression kind) text.now)) }
+    ensures refused { IfErr result (λ e.
+        e ≢ ExprRefusal.Memory → One (IsRefused kinds.now) (asked (expression kind) text.now)) }
 {
     match text {
         Some(text) => Ok(Some(expression(alloc, kind, text, kinds)?)),

@@ -24,7 +24,8 @@ pub fn places_of(
     entries: &[ModelEntry],
 ) -> Result<BTreeMap<Name, usize>, ModelsRefusal>
     ensures ok { IfOk result (λ places. IsIndex places (spec.names_of entries.now)) }
-    ensures passes { Passes ModelsRefusal.Memory (refused ModelsRefusal.Twice (IsTwice entries.now)) result }
+    ensures passes { Passes ModelsRefusal.Memory (refused ModelsRefusal.Twice (IsTwice entries.now))
+        result }
 {
     let names = names_of(alloc, entries)?;
     let inside = first_that_repeats(alloc, entries)?;
@@ -40,7 +41,8 @@ pub fn places_of(
 }
 
 fn first_that_repeats(alloc: Global, entries: &[ModelEntry]) -> Result<Option<usize>, Memory>
-    ensures { IfOk result (λ found. IsLeastIfAny (IsOne (λ m. repeats.repeats_name m ≡ true) entries.now) found) }
+    ensures { IfOk result
+        (λ found. IsLeastIfAny (IsOne (λ m. repeats.repeats_name m ≡ true) entries.now) found) }
 {
     for (place, entry) in entries.iter().enumerate() {
         if repeats_name(alloc, entry)? {
@@ -66,7 +68,8 @@ pub fn check_known(
     entries: &[ModelEntry],
 ) -> Result<(), ModelsRefusal>
     requires { IsIndex places.now (spec.names_of entries.now) }
-    ensures { Passes ModelsRefusal.Memory (refused ModelsRefusal.UnknownModel (NamesUnknownModel entries.now)) result }
+    ensures { Passes ModelsRefusal.Memory
+        (refused ModelsRefusal.UnknownModel (NamesUnknownModel entries.now)) result }
 {
     for (place, entry) in entries.iter().enumerate() {
         if names_unknown_model(places, entry) {
@@ -77,7 +80,8 @@ pub fn check_known(
 }
 
 fn names_unknown_model(places: &BTreeMap<Name, usize>, entry: &ModelEntry) -> bool
-    ensures { result ≡ list_any (λ s. is_none (get (slice_cmp nat_cmp) places.now s.model)) entry.now.subs }
+    ensures { result ≡ list_any (λ s. is_none (get (slice_cmp nat_cmp) places.now s.model))
+        entry.now.subs }
 {
     entry
         .subs

@@ -6,8 +6,8 @@ ghost use Rattle.ht_models.specs.declared.refusal.ModelsRefusal.{ModelsRefusal};
 
 /// A law: a models text is read to one answer, unless there is no memory. It does nothing.
 pub fn a_models_text_has_one_answer()
-    ensures { (text : List ℕ) (a b : Result (List ModelOf) ModelsRefusal) → Reads text a → Reads text b
-        → a ≢ Err ModelsRefusal.Memory → b ≢ Err ModelsRefusal.Memory → a ≡ b }
+    ensures { (text : List ℕ) (a b : Result (List ModelOf) ModelsRefusal) → Reads text a
+        → Reads text b → a ≢ Err ModelsRefusal.Memory → b ≢ Err ModelsRefusal.Memory → a ≡ b }
 {}
 
 /// The models text of an office that brings none reads to one model, whose tasks everybody may own.

@@ -76,7 +76,8 @@ impl Models {
     // models.
     fn of_entries(alloc: Global, entries: Vec<ModelEntry>) -> Result<Models, ModelsRefusal>
         requires { 1 ≤ length entries.items }
-        ensures { text_reads.Reads ModelsRefusal.Memory (each_of entries.items model_refusals) (AreModels entries.items) result }
+        ensures { text_reads.Reads ModelsRefusal.Memory (each_of entries.items model_refusals)
+            (AreModels entries.items) result }
     {
         let places = places_of(alloc, &entries)?;
         check_known(&places, &entries)?;
@@ -124,7 +125,8 @@ impl Models {
         ensures value { result ≡ length self.now }
         ensures some { 1 ≤ result }
         ensures few { result ≤ MOST_MODELS }
-        ensures sizes { (place : ℕ) (m : ModelOf) → slice_get self.now place ≡ Some m → (1 ≤ m.size) × (m.size ≤ LARGEST_TREE) }
+        ensures sizes { (place : ℕ) (m : ModelOf) → slice_get self.now place ≡ Some m
+            → (1 ≤ m.size) × (m.size ≤ LARGEST_TREE) }
         ensures trees { AreSized self.now }
         ensures parts { DeclareOnce self.now }
         ensures inputs { AreMapped self.now }

@@ -24,10 +24,14 @@ pub fn models_of(
     entries: Vec<ModelEntry>,
     trees: &TreeSizes,
 ) -> Result<Vec<Model>, ModelsRefusal>
-    ensures models { IfOk result (λ models. AllZip IsModel entries.items (map model_of models.items)) }
-    ensures sizes { IfOk result (λ models. (place : ℕ) (m : ModelOf) → slice_get (map model_of models.items) place ≡ Some m → m.size ≡ slice_index_or trees.now.sizes place 0) }
+    ensures models { IfOk result
+        (λ models. AllZip IsModel entries.items (map model_of models.items)) }
+    ensures sizes { IfOk result (λ models.
+        (place : ℕ) (m : ModelOf) → slice_get (map model_of models.items) place ≡ Some m
+        → m.size ≡ slice_index_or trees.now.sizes place 0) }
     ensures kinds { IfOk result (λ models. All SpeaksOfParts models.items) }
-    ensures passes { Passes ModelsRefusal.Memory (refused ModelsRefusal.Expression (IsUnreadable entries.items)) result }
+    ensures passes { Passes ModelsRefusal.Memory
+        (refused ModelsRefusal.Expression (IsUnreadable entries.items)) result }
 {
     let mut models = Vec::new(alloc);
     for entry in entries {
@@ -85,9 +89,11 @@ fn deadlines_of(
     texts: &[DeadlineText],
     kinds: &Kinds,
 ) -> Result<Vec<Deadline>, ExprRefusal>
-    ensures ok { IfOk result (λ deadlines. AllZip (IsDeadline kinds.now) texts.now (map deadline_of deadlines.items)) }
+    ensures ok { IfOk result
+        (λ deadlines. AllZip (IsDeadline kinds.now) texts.now (map deadline_of deadlines.items)) }
     ensures kinds { IfOk result (λ deadlines. All (Ends kinds.now) deadlines.items) }
-    ensures refused { IfErr result (λ e. e ≢ ExprRefusal.Memory → One (IsRefused kinds.now) (flat_map of_deadline texts.now)) }
+    ensures refused { IfErr result
+        (λ e. e ≢ ExprRefusal.Memory → One (IsRefused kinds.now) (flat_map of_deadline texts.now)) }
 {
     let mut deadlines = Vec::new(alloc);
     for text in texts {
@@ -99,7 +105,8 @@ fn deadlines_of(
 fn deadline(alloc: Global, text: &DeadlineText, kinds: &Kinds) -> Result<Deadline, ExprRefusal>
     ensures ok { IfOk result (λ deadline. IsDeadline kinds.now text.now (deadline_of deadline)) }
     ensures kinds { IfOk result (Ends kinds.now) }
-    ensures refused { IfErr result (λ e. e ≢ ExprRefusal.Memory → One (IsRefused kinds.now) (of_deadline text.now)) }
+    ensures refused { IfErr result
+        (λ e. e ≢ ExprRefusal.Memory → One (IsRefused kinds.now) (of_deadline text.now)) }
 {
     Ok(Deadline {
         name: text.name,
@@ -116,9 +123,11 @@ fn escalations_of(
     texts: &[EscalationText],
     kinds: &Kinds,
 ) -> Result<Vec<Escalation>, ExprRefusal>
-    ensures ok { IfOk result (λ escalations. AllZip (IsEscalation kinds.now) texts.now (map escalation_of escalations.items)) }
+    ensures ok { IfOk result (λ escalations.
+        AllZip (IsEscalation kinds.now) texts.now (map escalation_of escalations.items)) }
     ensures kinds { IfOk result (λ escalations. All (Escalates kinds.now) escalations.items) }
-    ensures refused { IfErr result (λ e. e ≢ ExprRefusal.Memory → One (IsRefused kinds.now) (flat_map of_escalation texts.now)) }
+    ensures refused { IfErr result (λ e.
+        e ≢ ExprRefusal.Memory → One (IsRefused kinds.now) (flat_map of_escalation texts.now)) }
 {
     let mut escalations = Vec::new(alloc);
     for text in texts {
@@ -132,9 +141,11 @@ fn escalation(
     text: &EscalationText,
     kinds: &Kinds,
 ) -> Result<Escalation, ExprRefusal>
-    ensures ok { IfOk result (λ escalation. IsEscalation kinds.now text.now (escalation_of escalation)) }
+    ensures ok { IfOk result
+        (λ escalation. IsEscalation kinds.now text.now (escalation_of escalation)) }
     ensures kinds { IfOk result (Escalates kinds.now) }
-    ensures refused { IfErr result (λ e. e ≢ ExprRefusal.Memory → One (IsRefused kinds.now) (of_escalation text.now)) }
+    ensures refused { IfErr result
+        (λ e. e ≢ ExprRefusal.Memory → One (IsRefused kinds.now) (of_escalation text.now)) }
 {
     Ok(Escalation {
         name: text.name,
@@ -149,9 +160,11 @@ fn finishes_of(
     texts: Vec<FinishText>,
     kinds: &Kinds,
 ) -> Result<Vec<Finish>, ExprRefusal>
-    ensures ok { IfOk result (λ finishes. AllZip (IsFinish kinds.now) texts.items (map finish_of finishes.items)) }
+    ensures ok { IfOk result
+        (λ finishes. AllZip (IsFinish kinds.now) texts.items (map finish_of finishes.items)) }
     ensures kinds { IfOk result (λ finishes. All (HasTruth kinds.now) finishes.items) }
-    ensures refused { IfErr result (λ e. e ≢ ExprRefusal.Memory → One (IsRefused kinds.now) (flat_map of_finish texts.items)) }
+    ensures refused { IfErr result
+        (λ e. e ≢ ExprRefusal.Memory → One (IsRefused kinds.now) (flat_map of_finish texts.items)) }
 {
     let mut finishes = Vec::new(alloc);
     for text in texts {
@@ -163,7 +176,8 @@ fn finishes_of(
 fn finish(alloc: Global, text: FinishText, kinds: &Kinds) -> Result<Finish, ExprRefusal>
     ensures ok { IfOk result (λ finish. IsFinish kinds.now text (finish_of finish)) }
     ensures kinds { IfOk result (HasTruth kinds.now) }
-    ensures refused { IfErr result (λ e. e ≢ ExprRefusal.Memory → One (IsRefused kinds.now) (of_finish text)) }
+    ensures refused { IfErr result
+        (λ e. e ≢ ExprRefusal.Memory → One (IsRefused kinds.now) (of_finish text)) }
 {
     Ok(Finish {
         when: expression_if_any(alloc, Kind::Truth, &text.when, kinds)?,

@@ -81,7 +81,8 @@ fn sub_places(
     places: &BTreeMap<Name, usize>,
     entry: &ModelEntry,
 ) -> Result<SubPlaces, AllocError>
-    ensures { IfOk result (λ below. (names : List (List ℕ)) → IsIndex places.now names → below ≡ spec.below names entry.now) }
+    ensures { IfOk result (λ below.
+        (names : List (List ℕ)) → IsIndex places.now names → below ≡ spec.below names entry.now) }
 {
     let mut below = Vec::new(alloc);
     for sub in &entry.subs {
@@ -95,7 +96,8 @@ fn sub_places(
 /// Refuses a model that reaches itself by sub entries.
 pub fn check_cycles(alloc: Global, graph: &SubGraph) -> Result<(), ModelsRefusal>
     requires { IsClosed (length graph.now) (spec.places_at graph.now) }
-    ensures { Passes ModelsRefusal.Memory (refused ModelsRefusal.Cycle (IsInCycle (spec.places_at graph.now))) result }
+    ensures { Passes ModelsRefusal.Memory
+        (refused ModelsRefusal.Cycle (IsInCycle (spec.places_at graph.now))) result }
 {
     match first_cycle(alloc, graph)? {
         Some(place) => Err(ModelsRefusal::Cycle(place)),

@@ -74,7 +74,9 @@ fn plus(a: u32, b: u32) -> u32
 
 // How many sub entries each has.
 fn subs(alloc: Global, graph: &SubGraph) -> Result<Vec<u32>, AllocError>
-    ensures { IfOk result (λ subs. subs.items ≡ map (λ place. spec.up_to_enough (length (spec.places_at graph.now place))) (range_with_len 0 (length graph.now))) }
+    ensures { IfOk result (λ subs.
+        subs.items ≡ map (λ place. spec.up_to_enough (length (spec.places_at graph.now place)))
+        (range_with_len 0 (length graph.now))) }
 {
     let mut subs = Vec::new(alloc);
     for place in 0..graph.count() {
@@ -91,7 +93,10 @@ fn up_to_enough(n: usize) -> u32
 
 // The sums of two counts of each place.
 fn sums(alloc: Global, counts: &[u32], more: &[u32]) -> Result<Vec<u32>, AllocError>
-    ensures { IfOk result (λ sums. sums.items ≡ map (λ place. spec.up_to_enough (slice_index_or counts.now place 0 + slice_index_or more.now place 0)) (range_with_len 0 (length counts.now))) }
+    ensures { IfOk result (λ sums. sums.items
+        ≡ map (λ place.
+        spec.up_to_enough (slice_index_or counts.now place 0 + slice_index_or more.now place 0))
+        (range_with_len 0 (length counts.now))) }
 {
     let mut sums = Vec::new(alloc);
     for place in 0..counts.len() {
@@ -102,7 +107,11 @@ fn sums(alloc: Global, counts: &[u32], more: &[u32]) -> Result<Vec<u32>, AllocEr
 
 // Of each place the sum of the counts of those to which it leads.
 fn longer(alloc: Global, graph: &SubGraph, counts: &[u32]) -> Result<Vec<u32>, AllocError>
-    ensures { IfOk result (λ next. next.items ≡ map (λ place. spec.up_to_enough (sum_by (λ to. slice_index_or counts.now to 0) (spec.places_at graph.now place))) (range_with_len 0 (length counts.now))) }
+    ensures { IfOk result (λ next.
+        next.items
+        ≡ map (λ place.
+        spec.up_to_enough (sum_by (λ to. slice_index_or counts.now to 0)
+        (spec.places_at graph.now place))) (range_with_len 0 (length counts.now))) }
 {
     let mut next = Vec::new(alloc);
     for place in 0..counts.len() {
@@ -112,7 +121,8 @@ fn longer(alloc: Global, graph: &SubGraph, counts: &[u32]) -> Result<Vec<u32>, A
 }
 
 fn sum_of(places: &[usize], counts: &[u32]) -> u32
-    ensures { result ≡ spec.up_to_enough (sum_by (λ to. slice_index_or counts.now to 0) places.now) }
+    ensures { result
+        ≡ spec.up_to_enough (sum_by (λ to. slice_index_or counts.now to 0) places.now) }
 {
     let mut sum = 0;
     for place in places {

@@ -21,7 +21,9 @@ pub(crate) fn synced_of(alloc: Global, bytes: &[u8], calls: &[DiskCall]) -> Resu
 /// The contents as last synced, in which each byte that was written since, or that lies past the
 /// old end up to the present one, holds 1.
 pub(crate) fn marked_of(alloc: Global, bytes: &[u8], calls: &[DiskCall]) -> Result<Vec<u8>, Memory>
-    ensures { IfOk result (λ file. file.items ≡ marked (stand bytes.now calls.now).synced (stand bytes.now calls.now).patches) }
+    ensures { IfOk result (λ file.
+        file.items ≡ marked (stand bytes.now calls.now).synced
+        (stand bytes.now calls.now).patches) }
 {
     let mut file = synced_of(alloc, bytes, calls)?;
     let (_before, since) = calls.split_at(last_sync(calls));

@@ -44,20 +44,27 @@ pub trait Disk {
         ensures shown { shown self.new ≡ 0 }
         ensures file { gives self.new ≡ gives self.old }
         ensures tells { tells_images self.new ≡ tells_images self.old }
-        ensures crash { IsTrue (tells_images self.old) → (image : List ℕ) → may_leave self.new image → may_leave self.old image }
-        ensures time { IsTrue (tells_images self.old) → Elapses (moment self.old) (moment self.new) (left_since self.old) (left_since self.new) (may_leave self.new) }
+        ensures crash { IsTrue (tells_images self.old) → (image : List ℕ) → may_leave self.new image
+            → may_leave self.old image }
+        ensures time { IsTrue (tells_images self.old)
+            → Elapses (moment self.old) (moment self.new) (left_since self.old)
+            (left_since self.new) (may_leave self.new) }
         ensures same_room { room self.new ≡ room self.old }
         ensures in_room { IfSome (room self.old) (λ _. IsOk result) }
         ensures cause { HasCause (faults self.old) (faults self.new) result };
 
     /// The length of the file in bytes, which is shown from then on.
     fn len(&mut self) -> Result<u64, Failed>
-        ensures length { IfOk result (λ n. (shown self.new ≡ n) × IfSome (gives self.old) (λ file. n ≡ length file)) }
+        ensures length { IfOk result
+            (λ n. (shown self.new ≡ n) × IfSome (gives self.old) (λ file. n ≡ length file)) }
         ensures shown { OnErr result (shown self.new ≡ shown self.old) }
         ensures file { gives self.new ≡ gives self.old }
         ensures tells { tells_images self.new ≡ tells_images self.old }
-        ensures crash { IsTrue (tells_images self.old) → (image : List ℕ) → may_leave self.new image → may_leave self.old image }
-        ensures time { IsTrue (tells_images self.old) → Elapses (moment self.old) (moment self.new) (left_since self.old) (left_since self.new) (may_leave self.new) }
+        ensures crash { IsTrue (tells_images self.old) → (image : List ℕ) → may_leave self.new image
+            → may_leave self.old image }
+        ensures time { IsTrue (tells_images self.old)
+            → Elapses (moment self.old) (moment self.new) (left_since self.old)
+            (left_since self.new) (may_leave self.new) }
         ensures same_room { room self.new ≡ room self.old }
         ensures in_room { IfSome (room self.old) (λ _. IsOk result) }
         ensures cause { HasCause (faults self.old) (faults self.new) result };
@@ -65,13 +72,18 @@ pub trait Disk {
     /// Gives the bytes from `at` on, and answers how many. These are at least those up to the
     /// shown length, as far as `into` takes them: where the file has fewer, the read fails.
     fn read(&mut self, at: u64, into: &mut [u8]) -> Result<usize, Failed>
-        ensures bytes { IfOk result (λ n. (n ≤ length into.new) × (min (shown self.old) (at + length into.new) ≤ at + n) × IfSome (gives self.old) (λ file. take n into.new ≡ take n (drop at file))) }
+        ensures bytes { IfOk result (λ n.
+            (n ≤ length into.new) × (min (shown self.old) (at + length into.new) ≤ at + n)
+            × IfSome (gives self.old) (λ file. take n into.new ≡ take n (drop at file))) }
         ensures small { (k : ℕ) → slice_index into.new k < 256 }
         ensures shown { shown self.new ≡ shown self.old }
         ensures file { gives self.new ≡ gives self.old }
         ensures tells { tells_images self.new ≡ tells_images self.old }
-        ensures crash { IsTrue (tells_images self.old) → (image : List ℕ) → may_leave self.new image → may_leave self.old image }
-        ensures time { IsTrue (tells_images self.old) → Elapses (moment self.old) (moment self.new) (left_since self.old) (left_since self.new) (may_leave self.new) }
+        ensures crash { IsTrue (tells_images self.old) → (image : List ℕ) → may_leave self.new image
+            → may_leave self.old image }
+        ensures time { IsTrue (tells_images self.old)
+            → Elapses (moment self.old) (moment self.new) (left_since self.old)
+            (left_since self.new) (may_leave self.new) }
         ensures same_room { room self.new ≡ room self.old }
         ensures in_room { IfSome (room self.old) (λ _. IsOk result) }
         ensures cause { HasCause (faults self.old) (faults self.new) result };
@@ -80,25 +92,36 @@ pub trait Disk {
     /// end, zeros come between. A write that fails may have changed bytes of its own range and
     /// lengthened the file up to its end, and changed no others.
     fn write_at(&mut self, at: u64, piece: &[u8]) -> Result<(), Failed>
-        ensures written { OnOk result (Both (Holds at piece.now) (gives self.old) (gives self.new)) }
-        ensures torn { OnErr result (Both (Torn at (length piece.now)) (gives self.old) (gives self.new)) }
-        ensures shown { OnOk result (shown self.new ≡ max (shown self.old) (at + length piece.now)) }
+        ensures written { OnOk result
+            (Both (Holds at piece.now) (gives self.old) (gives self.new)) }
+        ensures torn { OnErr result
+            (Both (Torn at (length piece.now)) (gives self.old) (gives self.new)) }
+        ensures shown { OnOk result
+            (shown self.new ≡ max (shown self.old) (at + length piece.now)) }
         ensures shown_err { OnErr result (shown self.new ≡ shown self.old) }
         ensures tells { tells_images self.new ≡ tells_images self.old }
-        ensures crash { IsTrue (tells_images self.old) → Follows (Torn at (length piece.now)) (may_leave self.old) (may_leave self.new) }
-        ensures time { IsTrue (tells_images self.old) → Elapses (moment self.old) (moment self.new) (left_since self.old) (left_since self.new) (may_leave self.new) }
+        ensures crash { IsTrue (tells_images self.old)
+            → Follows (Torn at (length piece.now)) (may_leave self.old) (may_leave self.new) }
+        ensures time { IsTrue (tells_images self.old)
+            → Elapses (moment self.old) (moment self.new) (left_since self.old)
+            (left_since self.new) (may_leave self.new) }
         ensures same_room { room self.new ≡ room self.old }
-        ensures in_room { OnErr result (IfSome (room self.old) (λ most. most < at + length piece.now)) }
+        ensures in_room { OnErr result
+            (IfSome (room self.old) (λ most. most < at + length piece.now)) }
         ensures cause { HasCause (faults self.old) (faults self.new) result };
 
     /// After it, a crash leaves what a read gives.
     fn sync(&mut self) -> Result<(), Failed>
-        ensures durable { OnOk result (IsTrue (tells_images self.old) → IfSome (gives self.old) (λ file. Only file (may_leave self.new))) }
+        ensures durable { OnOk result (IsTrue (tells_images self.old)
+            → IfSome (gives self.old) (λ file. Only file (may_leave self.new))) }
         ensures shown { shown self.new ≡ shown self.old }
         ensures file { gives self.new ≡ gives self.old }
         ensures tells { tells_images self.new ≡ tells_images self.old }
-        ensures crash { IsTrue (tells_images self.old) → (image : List ℕ) → may_leave self.new image → may_leave self.old image }
-        ensures time { IsTrue (tells_images self.old) → Elapses (moment self.old) (moment self.new) (left_since self.old) (left_since self.new) (may_leave self.new) }
+        ensures crash { IsTrue (tells_images self.old) → (image : List ℕ) → may_leave self.new image
+            → may_leave self.old image }
+        ensures time { IsTrue (tells_images self.old)
+            → Elapses (moment self.old) (moment self.new) (left_since self.old)
+            (left_since self.new) (may_leave self.new) }
         ensures same_room { room self.new ≡ room self.old }
         ensures in_room { IfSome (room self.old) (λ _. IsOk result) }
         ensures cause { HasCause (faults self.old) (faults self.new) result };

@@ -156,7 +156,8 @@ fn pass(
     stopped: Option<u32>,
 ) -> Result<(), Failed>
     ensures asked { asked.new ≡ next_count asked.old }
-    ensures fails { is_err result ≡ (list_any (λ n. n == next_count asked.old) failing.now || is_from stopped (next_count asked.old)) }
+    ensures fails { is_err result ≡ (list_any (λ n. n == next_count asked.old) failing.now
+        || is_from stopped (next_count asked.old)) }
     ensures ok { OnOk result (faults.new ≡ faults.old) }
     ensures err { OnErr result (faults.new ≡ next_count faults.old) }
 {
@@ -186,7 +187,8 @@ fn write(
     piece: &[u8],
 ) -> Result<(), Memory>
     ensures file { OnOk result (file.new.items ≡ written at piece.now file.old.items) }
-    ensures calls { OnOk result (calls.new.items ≡ calls.old.items ++ DiskCall.Write (record { at = at; piece = piece.now }) ∷ []) }
+    ensures calls { OnOk result (calls.new.items
+        ≡ calls.old.items ++ DiskCall.Write (record { at = at; piece = piece.now }) ∷ []) }
     ensures end { OnOk result (at + length piece.now < 2 ^ 64) }
     ensures same_file { OnErr result (file.new.items ≡ file.old.items) }
     ensures same_calls { OnErr result (calls.new.items ≡ calls.old.items) }
@@ -233,7 +235,8 @@ impl Disk for MemoryDisk {
 
     fn attach(&mut self, _name: &str) -> Result<(), Failed>
         ensures fails { is_err result ≡ is_to_fail self.old }
-        ensures done { MatchResult result (λ _. self.new ≡ done_call self.old 0 self.old.calls) (λ _. self.new ≡ record (failed_call self.old) { shown = 0 }) }
+        ensures done { MatchResult result (λ _. self.new ≡ done_call self.old 0 self.old.calls)
+            (λ _. self.new ≡ record (failed_call self.old) { shown = 0 }) }
         ensures cause { HasCause self.old.faults self.new.faults result }
     {
         self.shown = 0;
@@ -248,7 +251,8 @@ impl Disk for MemoryDisk {
     fn len(&mut self) -> Result<u64, Failed>
         ensures fails { is_err result ≡ is_to_fail self.old }
         ensures length { IfOk result (λ n. n ≡ length (given_by self.old)) }
-        ensures done { MatchResult result (λ n. self.new ≡ done_call self.old n self.old.calls) (λ _. self.new ≡ failed_call self.old) }
+        ensures done { MatchResult result (λ n. self.new ≡ done_call self.old n self.old.calls)
+            (λ _. self.new ≡ failed_call self.old) }
         ensures cause { HasCause self.old.faults self.new.faults result }
     {
         pass(
@@ -263,11 +267,14 @@ impl Disk for MemoryDisk {
 
     fn read(&mut self, at: u64, into: &mut [u8]) -> Result<usize, Failed>
         ensures fails { is_err result ≡ is_to_fail self.old }
-        ensures count { IfOk result (λ n. n ≡ min (length into.new) (length (given_by self.old) - at)) }
+        ensures count { IfOk result
+            (λ n. n ≡ min (length into.new) (length (given_by self.old) - at)) }
         ensures bytes { IfOk result (λ n. take n into.new ≡ take n (drop at (given_by self.old))) }
         ensures small { (k : ℕ) → slice_index into.new k < 256 }
         ensures within { self.old.shown ≤ length (given_by self.old) }
-        ensures done { MatchResult result (λ _. self.new ≡ done_call self.old self.old.shown self.old.calls) (λ _. self.new ≡ failed_call self.old) }
+        ensures done { MatchResult result
+            (λ _. self.new ≡ done_call self.old self.old.shown self.old.calls)
+            (λ _. self.new ≡ failed_call self.old) }
         ensures cause { HasCause self.old.faults self.new.faults result }
     {
         pass(
@@ -283,9 +290,13 @@ impl Disk for MemoryDisk {
         ensures fails { is_to_fail self.old ≡ true → IsErr result }
         ensures done { IsWriteOf self.old self.new at piece.now result }
         ensures written { OnOk result (Holds at piece.now (given_by self.old) (given_by self.new)) }
-        ensures torn { OnErr result (Torn at (length piece.now) (given_by self.old) (given_by self.new)) }
-        ensures crash { Follows (Torn at (length piece.now)) (IsImage (stands self.old)) (IsImage (stands self.new)) }
-        ensures time { Elapses (length self.old.calls) (length self.new.calls) (LeftSince self.old.bytes self.old.calls) (LeftSince self.new.bytes self.new.calls) (IsImage (stands self.new)) }
+        ensures torn { OnErr result
+            (Torn at (length piece.now) (given_by self.old) (given_by self.new)) }
+        ensures crash { Follows (Torn at (length piece.now)) (IsImage (stands self.old))
+            (IsImage (stands self.new)) }
+        ensures time { Elapses (length self.old.calls) (length self.new.calls)
+            (LeftSince self.old.bytes self.old.calls) (LeftSince self.new.bytes self.new.calls)
+            (IsImage (stands self.new)) }
         ensures cause { HasCause self.old.faults self.new.faults result }
     {
         self.store(at, piece)
@@ -296,8 +307,11 @@ impl Disk for MemoryDisk {
         ensures done { IsSyncOf self.old self.new result }
         ensures durable { OnOk result (Only (given_by self.old) (IsImage (stands self.new))) }
         ensures file { given_by self.new ≡ given_by self.old }
-        ensures crash { (image : List ℕ) → IsImage (stands self.new) image → IsImage (stands self.old) image }
-        ensures time { Elapses (length self.old.calls) (length self.new.calls) (LeftSince self.old.bytes self.old.calls) (LeftSince self.new.bytes self.new.calls) (IsImage (stands self.new)) }
+        ensures crash { (image : List ℕ) → IsImage (stands self.new) image
+            → IsImage (stands self.old) image }
+        ensures time { Elapses (length self.old.calls) (length self.new.calls)
+            (LeftSince self.old.bytes self.old.calls) (LeftSince self.new.bytes self.new.calls)
+            (IsImage (stands self.new)) }
         ensures cause { HasCause self.old.faults self.new.faults result }
     {
         self.note_sync()

@@ -30,7 +30,8 @@ impl MemorySink {
     /// A sink with nothing written. `failing` has the numbers, counted from 1, of the writes that
     /// fail.
     pub fn make(alloc: Global, failing: Vec<u32>) -> Result<MemorySink, Memory>
-        ensures { IfOk result (λ s. s ≡ record { written = []; failing = failing.items; calls = 0; faults = 0 }) }
+        ensures { IfOk result
+            (λ s. s ≡ record { written = []; failing = failing.items; calls = 0; faults = 0 }) }
     {
         Ok(MemorySink {
             bytes: Bytes::new(alloc),
@@ -52,9 +53,11 @@ impl Sink for MemorySink {
     ghost sink_state = { λ s. record { written = Some s.written; faults = s.faults } };
 
     fn write(&mut self, piece: &[u8]) -> Result<(), Failed>
-        ensures bytes { WriteGrows (Some self.old.written) (Some self.new.written) result piece.now }
+        ensures bytes { WriteGrows (Some self.old.written) (Some self.new.written) result
+            piece.now }
         ensures cause { HasCause self.old.faults self.new.faults result }
-        ensures fails { list_any (λ n. n == next_count self.old.calls) self.old.failing ≡ true → IsErr result }
+        ensures fails { list_any (λ n. n == next_count self.old.calls) self.old.failing ≡ true
+            → IsErr result }
         ensures counted { self.new.calls ≡ next_count self.old.calls }
     {
         self.calls = self.calls.saturating_add(1);

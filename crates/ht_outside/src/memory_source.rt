@@ -34,7 +34,8 @@ impl Model for MemorySource {
 impl MemorySource {
     /// A source of these bytes. `failing` has the numbers, counted from 1, of the reads that fail.
     pub fn make(_alloc: Global, bytes: Bytes, failing: Vec<u32>) -> Result<MemorySource, Memory>
-        ensures { IfOk result (λ s. s ≡ record { flow = record { left = bytes.items; taken = []; before = [] }; failing = failing.items; calls = 0; faults = 0 }) }
+        ensures { IfOk result (λ s.
+            s ≡ record { flow = record { left = bytes.items; taken = []; before = [] }; failing = failing.items; calls = 0; faults = 0 }) }
     {
         Ok(MemorySource {
             bytes,
@@ -61,7 +62,8 @@ impl Source for MemorySource {
         ensures bytes { ReadTakes (Some self.old.flow) (Some self.new.flow) result into.new }
         ensures last { self.new.flow.before ≡ self.old.flow.taken }
         ensures cause { HasCause self.old.faults self.new.faults result }
-        ensures fails { is_err result ≡ list_any (λ n. n == next_count self.old.calls) self.old.failing }
+        ensures fails { is_err result ≡ list_any (λ n. n == next_count self.old.calls)
+            self.old.failing }
         ensures counted { self.new.calls ≡ next_count self.old.calls }
     {
         self.calls = self.calls.saturating_add(1);

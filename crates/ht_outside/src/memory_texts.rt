@@ -38,7 +38,8 @@ impl MemoryTexts {
         texts: Vec<(Txt, Bytes)>,
         failing: Vec<u32>,
     ) -> Result<MemoryTexts, Memory>
-        ensures { IfOk result (λ t. t ≡ record { texts = texts.items; asked = []; failing = failing.items; calls = 0; faults = 0 }) }
+        ensures { IfOk result (λ t.
+            t ≡ record { texts = texts.items; asked = []; failing = failing.items; calls = 0; faults = 0 }) }
     {
         Ok(MemoryTexts {
             texts,
@@ -64,10 +65,13 @@ impl Texts for MemoryTexts {
         ensures text { ReadsWhole limit (bytes_named self.old.texts name.now) result }
         ensures limit { IfOk result (λ bytes. length bytes.items ≤ limit) }
         ensures kept { (self.new.texts ≡ self.old.texts) × (self.new.failing ≡ self.old.failing) }
-        ensures noted { IsNoted (result ≡ Err TextFault.Memory) name.now (told_by self.old) (told_by self.new) }
+        ensures noted { IsNoted (result ≡ Err TextFault.Memory) name.now (told_by self.old)
+            (told_by self.new) }
         ensures cause { RoseWhere (IsTrue (is_failed result)) self.old.faults self.new.faults }
-        ensures asked { IsTrue (is_failed result) → list_any (λ n. n == next_count self.old.calls) self.old.failing ≡ true }
-        ensures fails { result ≢ Err TextFault.Memory → is_failed result ≡ list_any (λ n. n == next_count self.old.calls) self.old.failing }
+        ensures asked { IsTrue (is_failed result)
+            → list_any (λ n. n == next_count self.old.calls) self.old.failing ≡ true }
+        ensures fails { result ≢ Err TextFault.Memory
+            → is_failed result ≡ list_any (λ n. n == next_count self.old.calls) self.old.failing }
         ensures counted { self.new.calls ≡ next_count self.old.calls }
     {
         self.calls = self.calls.saturating_add(1);

@@ -18,7 +18,8 @@ pub trait Sink {
 
     /// Writes the whole piece behind what was written. After a failure a prefix of it was.
     fn write(&mut self, piece: &[u8]) -> Result<(), Failed>
-        ensures bytes { WriteGrows (sink_state self.old).written (sink_state self.new).written result piece.now }
+        ensures bytes { WriteGrows (sink_state self.old).written (sink_state self.new).written
+            result piece.now }
         ensures beside { beside_sink self.new ≡ beside_sink self.old }
         ensures same { same_sink self.old self.new }
         ensures cause { HasCause (sink_state self.old).faults (sink_state self.new).faults result };

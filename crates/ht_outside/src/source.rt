@@ -20,9 +20,11 @@ pub trait Source {
     /// Takes the first bytes of those left, as many as it answers and at most as many as `into`
     /// holds. For an `into` that isn't empty, 0 is the end. After a failure nothing was taken.
     fn read(&mut self, into: &mut [u8]) -> Result<usize, Failed>
-        ensures bytes { ReadTakes (source_state self.old).flow (source_state self.new).flow result into.new }
+        ensures bytes { ReadTakes (source_state self.old).flow (source_state self.new).flow result
+            into.new }
         ensures last { IsLastRead (source_state self.old).flow (source_state self.new).flow }
         ensures beside { beside_source self.new ≡ beside_source self.old }
         ensures same { same_source self.old self.new }
-        ensures cause { HasCause (source_state self.old).faults (source_state self.new).faults result };
+        ensures cause { HasCause (source_state self.old).faults (source_state self.new).faults
+            result };
 }

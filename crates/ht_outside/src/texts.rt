@@ -16,9 +16,12 @@ pub trait Texts {
     /// The whole text of this name, of at most `limit` bytes. The read is noted behind the others,
     /// which takes memory.
     fn read(&mut self, alloc: Global, name: &str, limit: u32) -> Result<Bytes, TextFault>
-        ensures text { IfSome (texts_state self.old).texts (λ text. ReadsWhole limit (text name.now) result) }
+        ensures text { IfSome (texts_state self.old).texts
+            (λ text. ReadsWhole limit (text name.now) result) }
         ensures limit { IfOk result (λ bytes. length bytes.items ≤ limit) }
         ensures kept { (texts_state self.new).texts ≡ (texts_state self.old).texts }
-        ensures noted { IsNoted (result ≡ Err TextFault.Memory) name.now (texts_state self.old) (texts_state self.new) }
-        ensures cause { RoseWhere (IsTrue (is_failed result)) (texts_state self.old).faults (texts_state self.new).faults };
+        ensures noted { IsNoted (result ≡ Err TextFault.Memory) name.now (texts_state self.old)
+            (texts_state self.new) }
+        ensures cause { RoseWhere (IsTrue (is_failed result)) (texts_state self.old).faults
+            (texts_state self.new).faults };
 }

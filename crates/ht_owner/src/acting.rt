@@ -29,7 +29,8 @@ pub fn act(
     requires plan { IsPlanOf tables.now.tables plan.old }
     requires sound { IsSound (planned tables.now.tables plan.old) }
     requires caller { caller < length tables.now.tables.people.persons }
-    requires allowed { IsAllowed (planned tables.now.tables plan.old) (op_of command.now) caller id.0 }
+    requires allowed { IsAllowed (planned tables.now.tables plan.old) (op_of command.now) caller
+        id.0 }
     requires command { IsCommand command.now }
     requires at { at.0 ≤ last_moment }
     ensures { Acts tables.now.tables plan.old plan.new id.0 caller at command.now result }

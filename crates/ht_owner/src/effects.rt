@@ -39,7 +39,8 @@ pub(crate) fn effect(
     requires row { Fits tables.now.tables row.old }
     requires model { tables_of.model_of tables.now.tables row.old ≡ Some (model_of model.now) }
     requires kinds { IsKinded model.now }
-    ensures { Gives (spec.effect (planned tables.now.tables plan.now) (model_of model.now) caller at command.now row.old) row.new result }
+    ensures { Gives (spec.effect (planned tables.now.tables plan.now) (model_of model.now) caller at
+        command.now row.old) row.new result }
 {
     if let Some(refusal) = fault(alloc, tables, plan, model, at, row, command)? {
         return Err(ActRefusal::Refused(refusal));
@@ -104,7 +105,8 @@ fn prepare(
     row: &mut Row,
 ) -> Result<(), Memory>
     requires { AllBelow (length people.now.persons) row.old.potential_owners }
-    ensures { OnOk result (row.new ≡ spec.prepared people.now (model_of model.now) caller at command.now row.old) }
+    ensures { OnOk result
+        (row.new ≡ spec.prepared people.now (model_of model.now) caller at command.now row.old) }
 {
     match command {
         Command::Delegate { person } => {
@@ -147,7 +149,8 @@ fn set_output(
     row: &mut Row,
     output: &Parts,
 ) -> Result<(), Memory>
-    ensures { OnOk result (row.new ≡ spec.with_output people.now (model_of model.now) row.old output.now) }
+    ensures { OnOk result
+        (row.new ≡ spec.with_output people.now (model_of model.now) row.old output.now) }
 {
     let given = values_given(alloc, people, &model.output, output)?;
     let output = mem::replace(&mut row.output, Values::new(alloc));

@@ -33,7 +33,9 @@ pub(crate) fn fault(
     requires row { Fits tables.now.tables row.now }
     requires model { tables_of.model_of tables.now.tables row.now ≡ Some (model_of model.now) }
     requires kinds { IsKinded model.now }
-    ensures { IfOk result (λ o. o ≡ spec.fault (planned tables.now.tables plan.now) (model_of model.now) at row.now command.now) }
+    ensures { IfOk result (λ o.
+        o ≡ spec.fault (planned tables.now.tables plan.now) (model_of model.now) at row.now
+        command.now) }
 {
     let people = tables.people();
     let excluded_owners = &row.excluded_owners;
@@ -86,7 +88,8 @@ fn role_fault(
     role: RoleList,
     names: &[Name],
 ) -> Option<Refusal>
-    ensures { result ≡ spec.first_of (spec.role_faults people.now (model_of model.now) row.now names.now role) }
+    ensures { result
+        ≡ spec.first_of (spec.role_faults people.now (model_of model.now) row.now names.now role) }
 {
     match role {
         RoleList::PotentialOwners => first(&[
@@ -273,7 +276,9 @@ fn not_delegatee(
     requires row { Fits tables.now.tables row.now }
     requires model { tables_of.model_of tables.now.tables row.now ≡ Some (model_of model.now) }
     requires kinds { IsKinded model.now }
-    ensures { IfOk result (λ o. o ≡ spec.not_delegatee (planned tables.now.tables plan.now) (model_of model.now) row.now name) }
+    ensures { IfOk result (λ o.
+        o ≡ spec.not_delegatee (planned tables.now.tables plan.now) (model_of model.now) row.now
+        name) }
 {
     let Some(person) = tables.people().find(name) else {
         return Ok(None);
@@ -299,7 +304,9 @@ fn may_delegate(
     requires row { Fits tables.now.tables row.now }
     requires model { tables_of.model_of tables.now.tables row.now ≡ Some (model_of model.now) }
     requires kinds { IsKinded model.now }
-    ensures { IfOk result (λ may. may ≡ spec.may_delegate (planned tables.now.tables plan.now) (model_of model.now) row.now person model.now.delegation) }
+    ensures { IfOk result (λ may.
+        may ≡ spec.may_delegate (planned tables.now.tables plan.now) (model_of model.now) row.now
+        person model.now.delegation) }
 {
     match model.delegation {
         Delegation::Anybody => Ok(true),

@@ -74,7 +74,8 @@ pub(crate) fn forwarded(
 
 // Who hands the task on: of a ready task the caller, and else its owner.
 fn forwarder(alloc: Global, caller: Person, row: &Row) -> Result<Persons, Memory>
-    ensures { IfOk result (λ persons. (p : ℕ) → has p persons ≡ is_forwarder caller row.now.state row.now.owner p) }
+    ensures { IfOk result
+        (λ persons. (p : ℕ) → has p persons ≡ is_forwarder caller row.now.state row.now.owner p) }
 {
     if row.state == State::Ready {
         return Persons::alone(alloc, caller);

@@ -93,7 +93,9 @@ impl Directory {
 // The marked ones of this many persons.
 fn marked_persons(alloc: Global, marks: &[bool], count: usize) -> Result<Persons, Memory>
     requires { count ≤ MOST_PERSONS }
-    ensures { IfOk result (λ persons. persons ≡ filter (λ person. slice_index_or marks.now person false) (range_with_len 0 count)) }
+    ensures { IfOk result (λ persons.
+        persons ≡ filter (λ person. slice_index_or marks.now person false)
+        (range_with_len 0 count)) }
 {
     let mut persons = Persons::new(alloc);
     for person in 0..count {

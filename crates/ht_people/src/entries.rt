@@ -71,7 +71,8 @@ impl Model for PeopleText {
 /// The entries of a document, or the first that has another shape.
 pub(crate) fn people_text(alloc: Global, document: &Table) -> Result<PeopleText, PeopleRefusal>
     ensures ok { IfOk result (λ text. spec.text_of (table_view document.now) ≡ Some text) }
-    ensures passes { Passes PeopleRefusal.Memory (refused PeopleRefusal.Field (IsMisshapen (table_view document.now))) result }
+    ensures passes { Passes PeopleRefusal.Memory
+        (refused PeopleRefusal.Field (IsMisshapen (table_view document.now))) result }
 {
     if !has_only(document, &["person", "group"]) {
         return Err(PeopleRefusal::Field(0));
@@ -92,8 +93,11 @@ fn entries_text(
 ) -> Result<PeopleText, PeopleRefusal>
     requires persons { length persons.now < 2 ^ 63 }
     requires groups { length groups.now < 2 ^ 63 }
-    ensures ok { IfOk result (λ text. spec.read_entries (map view persons.now) (map view groups.now) ≡ Some text) }
-    ensures passes { Passes PeopleRefusal.Memory (refused PeopleRefusal.Field (HasShapeFault (map view persons.now) (map view groups.now))) result }
+    ensures ok { IfOk result
+        (λ text. spec.read_entries (map view persons.now) (map view groups.now) ≡ Some text) }
+    ensures passes { Passes PeopleRefusal.Memory
+        (refused PeopleRefusal.Field (HasShapeFault (map view persons.now) (map view groups.now)))
+        result }
 {
     let count = persons.len();
     let persons = match each(alloc, persons) {

@@ -37,7 +37,8 @@ pub(crate) fn groups_of(
 ) -> Result<Vec<Group>, PeopleRefusal>
     requires { ArePlaces places.now (person_names text.now) (group_names text.now) }
     ensures ok { IfOk result (λ groups. groups.items ≡ map (group_from text.now) text.now.groups) }
-    ensures passes { Passes PeopleRefusal.Memory (refused PeopleRefusal.UnknownMember (Behind (length text.now.persons) (HasUnknown text.now))) result }
+    ensures passes { Passes PeopleRefusal.Memory (refused PeopleRefusal.UnknownMember
+        (Behind (length text.now.persons) (HasUnknown text.now))) result }
 {
     let mut groups = Vec::new(alloc);
     for (i, entry) in text.groups.iter().enumerate() {
@@ -57,8 +58,10 @@ fn group_of(
     entry: &GroupEntry,
 ) -> Result<Option<Group>, AllocError>
     requires { ArePlaces places.now (person_names text.now) (group_names text.now) }
-    ensures some { IfOk result (λ group. (g : spec.GroupOf) → group ≡ Some g → g ≡ group_from text.now entry.now) }
-    ensures known { IfOk result (λ group. (g : spec.GroupOf) → group ≡ Some g → HasUnknownMember text.now entry.now → ⊥) }
+    ensures some { IfOk result
+        (λ group. (g : spec.GroupOf) → group ≡ Some g → g ≡ group_from text.now entry.now) }
+    ensures known { IfOk result
+        (λ group. (g : spec.GroupOf) → group ≡ Some g → HasUnknownMember text.now entry.now → ⊥) }
     ensures none { IfOk result (λ group. group ≡ None → HasUnknownMember text.now entry.now) }
 {
     let mut members = Vec::new(alloc);

@@ -14,5 +14,6 @@ pub fn a_people_text_has_one_answer()
 /// that reads it answers these, unless there is no memory.
 pub fn built_in_text_reads()
     ensures reads { Reads built_in_text (Ok built_in_people) }
-    ensures answered { (answer : Result DirectoryOf PeopleRefusal) → Reads built_in_text answer → IsBuiltIn answer }
+    ensures answered { (answer : Result DirectoryOf PeopleRefusal) → Reads built_in_text answer
+        → IsBuiltIn answer }
 {}

@@ -73,7 +73,8 @@ impl Graph for People {
 /// Refuses memberships that lead back to where they began.
 pub(crate) fn check_cycles(alloc: Global, people: &People) -> Result<(), PeopleRefusal>
     requires { IsClosed (places people.now) (members_at people.now) }
-    ensures { Passes PeopleRefusal.Memory (refused PeopleRefusal.Cycle (IsInCycle (members_at people.now))) result }
+    ensures { Passes PeopleRefusal.Memory
+        (refused PeopleRefusal.Cycle (IsInCycle (members_at people.now))) result }
 {
     match first_cycle(alloc, people)? {
         Some(place) => Err(PeopleRefusal::Cycle(place)),
@@ -84,7 +85,8 @@ pub(crate) fn check_cycles(alloc: Global, people: &People) -> Result<(), PeopleR
 /// Refuses too many persons or groups, and chains that are too long.
 pub(crate) fn check_limits(alloc: Global, people: &People) -> Result<(), PeopleRefusal>
     requires { IsClosed (places people.now) (members_at people.now) }
-    ensures { Passes PeopleRefusal.Memory (refused (λ _. PeopleRefusal.Limit) (λ _. IsTooMuch people.now)) result }
+    ensures { Passes PeopleRefusal.Memory
+        (refused (λ _. PeopleRefusal.Limit) (λ _. IsTooMuch people.now)) result }
 {
     if people.person_count() > MOST_PERSONS || people.group_count() > MOST_GROUPS {
         return Err(PeopleRefusal::Limit);

@@ -21,8 +21,10 @@ pub(crate) struct Places {
 
 /// The places of a text's names, or the first entry that stands twice.
 pub(crate) fn places_of(alloc: Global, text: &PeopleText) -> Result<Places, PeopleRefusal>
-    ensures ok { IfOk result (λ places. ArePlaces places (person_names text.now) (group_names text.now)) }
-    ensures passes { Passes PeopleRefusal.Memory (refused PeopleRefusal.Twice (IsTwice text.now)) result }
+    ensures ok { IfOk result
+        (λ places. ArePlaces places (person_names text.now) (group_names text.now)) }
+    ensures passes { Passes PeopleRefusal.Memory (refused PeopleRefusal.Twice (IsTwice text.now))
+        result }
 {
     let persons = match person_places(alloc, &text.persons) {
         Ok(persons) => persons,
@@ -41,8 +43,11 @@ fn person_places(
     persons: &[PersonEntry],
 ) -> Result<BTreeMap<Name, usize>, IndexFault>
     ensures ok { IfOk result (λ places. IsIndex places (map (λ p. p.name) persons.now)) }
-    ensures distinct { OnOk result ((place : ℕ) → IsRepeated (map (λ p. p.name) persons.now) place → ⊥) }
-    ensures repeated { IfErr result (λ fault. (place : ℕ) → fault ≡ IndexFault.Repeated place → IsLeast (IsRepeated (map (λ p. p.name) persons.now)) place) }
+    ensures distinct { OnOk result
+        ((place : ℕ) → IsRepeated (map (λ p. p.name) persons.now) place → ⊥) }
+    ensures repeated { IfErr result (λ fault.
+        (place : ℕ) → fault ≡ IndexFault.Repeated place
+        → IsLeast (IsRepeated (map (λ p. p.name) persons.now)) place) }
 {
     let names = names_of_persons(alloc, persons)?;
     name_places(alloc, &names)
@@ -58,8 +63,10 @@ fn names_of_persons(alloc: Global, persons: &[PersonEntry]) -> Result<Vec<Name>,
 fn group_places(alloc: Global, groups: &[GroupEntry]) -> Result<BTreeMap<Name, usize>, IndexFault>
     ensures ok { IfOk result (λ places. IsIndex places (map (λ g. g.name) groups.now)) }
     ensures distinct { OnOk result ((place : ℕ) → IsTwiceGroup groups.now place → ⊥) }
-    ensures repeated { IfErr result (λ fault. (place : ℕ) → fault ≡ IndexFault.Repeated place → IsLeast (IsTwiceGroup groups.now) place) }
-    ensures within { IfErr result (λ fault. (place : ℕ) → fault ≡ IndexFault.Repeated place → place < length groups.now) }
+    ensures repeated { IfErr result (λ fault.
+        (place : ℕ) → fault ≡ IndexFault.Repeated place → IsLeast (IsTwiceGroup groups.now) place) }
+    ensures within { IfErr result
+        (λ fault. (place : ℕ) → fault ≡ IndexFault.Repeated place → place < length groups.now) }
 {
     let names = names_of_groups(alloc, groups)?;
     match name_places(alloc, &names) {

@@ -51,7 +51,8 @@ impl Keep {
 
 // Goes through both sets at once, in ascending order.
 fn merge(alloc: Global, first: &Persons, second: &Persons, keep: Keep) -> Result<Persons, Memory>
-    ensures set { IfOk result (λ set. (p : ℕ) → has p set ≡ keeps keep (has p first.now) (has p second.now)) }
+    ensures set { IfOk result
+        (λ set. (p : ℕ) → has p set ≡ keeps keep (has p first.now) (has p second.now)) }
     ensures ascends { IfOk result Ascends }
 {
     let mut first = first.as_slice();

@@ -25,7 +25,8 @@ pub(crate) fn serve<S: Source, K: Sink>(
     output: &mut K,
 ) -> Ending
     ensures { Ran (moment_of run.now.from run.now.step) budget tables.tables
-        (streams (S.source_state input.old) (K.sink_state output.old)) (streams (S.source_state input.new) (K.sink_state output.new)) result }
+        (streams (S.source_state input.old) (K.sink_state output.old))
+        (streams (S.source_state input.new) (K.sink_state output.new)) result }
 {
     let mut machine = Machine { alloc, tables };
     let mut clock = run.clock();
@@ -42,7 +43,9 @@ fn serve_lent<T: TakesEvents, S: Source, K: Sink, C: Clock>(
 ) -> Ending
     requires { T.stands state.old }
     ensures { Served (StepsMade T.relates state.old state.new) ⊥ false budget 0
-        (sides (S.source_state input.old) (K.sink_state output.old) (C.moments clock.old)) (sides (S.source_state input.new) (K.sink_state output.new) (C.moments clock.new)) [] result }
+        (sides (S.source_state input.old) (K.sink_state output.old) (C.moments clock.old))
+        (sides (S.source_state input.new) (K.sink_state output.new) (C.moments clock.new)) []
+        result }
 {
     let mut link = LentPair { input, output };
     let ending = serve_alone(alloc, state, &mut link, clock);
@@ -62,7 +65,9 @@ fn serve_alone<T: TakesEvents, L: Link, C: Clock>(
 ) -> Ending
     requires { T.stands state.old }
     ensures served { Served (StepsMade T.relates state.old state.new) ⊥ false budget 0
-        (sides (L.Source.source_state link.old) (L.Sink.sink_state link.old) (C.moments clock.old)) (sides (L.Source.source_state link.new) (L.Sink.sink_state link.new) (C.moments clock.new)) [] result }
+        (sides (L.Source.source_state link.old) (L.Sink.sink_state link.old) (C.moments clock.old))
+        (sides (L.Source.source_state link.new) (L.Sink.sink_state link.new) (C.moments clock.new))
+        [] result }
     ensures same { L.same link.old link.new }
 {
     let mut caller = Alone { state: &mut *state };

@@ -9,7 +9,8 @@ use ht_people::a_people_text_has_one_answer;
 /// its words, its texts and the bytes that it reads. It does nothing.
 pub fn one_output()
     ensures { (words : List (List ℕ)) (told : List ℕ → List ℕ) (bytes a b : List ℕ)
-        → IsOutputOf words told bytes a → IsOutputOf words told bytes b → IsRefusedOneWay bytes → a ≡ b }
+        → IsOutputOf words told bytes a → IsOutputOf words told bytes b → IsRefusedOneWay bytes
+        → a ≡ b }
 {
     one_outcome();
     a_models_text_has_one_answer();

@@ -57,9 +57,11 @@ pub(crate) fn open<X: Texts>(
     texts: &mut X,
 ) -> Result<Tables, TextsFault>
     ensures opens { Opens (option_map pair_of named.entry) (X.texts_state texts.old).texts result }
-    ensures asks { AsksFor (option_map pair_of named.entry) (X.texts_state texts.old) (X.texts_state texts.new) result }
+    ensures asks { AsksFor (option_map pair_of named.entry) (X.texts_state texts.old)
+        (X.texts_state texts.new) result }
     ensures built_in { IfNone named.entry (texts.new ≡ texts.old) }
-    ensures cause { RoseWhere (IsUnread result) (X.texts_state texts.old).faults (X.texts_state texts.new).faults }
+    ensures cause { RoseWhere (IsUnread result) (X.texts_state texts.old).faults
+        (X.texts_state texts.new).faults }
 {
     let Some(named) = named else {
         return Ok(built_in_tables(alloc)?);
@@ -78,8 +80,10 @@ fn text_of<X: Texts>(
 ) -> Result<Bytes, TextsFault>
     ensures text { ReadsText which (X.texts_state texts.old).texts name.now result }
     ensures kept { (X.texts_state texts.new).texts ≡ (X.texts_state texts.old).texts }
-    ensures asked { IsNoted (result ≡ Err TextsFault.Memory) name.now (X.texts_state texts.old) (X.texts_state texts.new) }
-    ensures cause { RoseWhere (IsUnread result) (X.texts_state texts.old).faults (X.texts_state texts.new).faults }
+    ensures asked { IsNoted (result ≡ Err TextsFault.Memory) name.now (X.texts_state texts.old)
+        (X.texts_state texts.new) }
+    ensures cause { RoseWhere (IsUnread result) (X.texts_state texts.old).faults
+        (X.texts_state texts.new).faults }
 {
     match texts.read(alloc, name, LONGEST_OFFICE_TEXT) {
         Ok(bytes) => Ok(bytes),

@@ -32,22 +32,38 @@ pub fn office<X: Texts, S: Source, K: Sink, Q: Sink>(
     output: &mut K,
     complaints: &mut Q,
 ) -> Status
-    ensures usage { (result.0 ≡ 2) ↔ ((from step : ℕ) (names : Option (List ℕ × List ℕ)) → IsRun (map string_bytes words.now.items) from step names → ⊥) }
-    ensures refused { result.0 ≡ 2 → (texts.new ≡ texts.old) × (input.new ≡ input.old) × (output.new ≡ output.old)
+    ensures usage { (result.0 ≡ 2)
+        ↔ ((from step : ℕ) (names : Option (List ℕ × List ℕ))
+        → IsRun (map string_bytes words.now.items) from step names → ⊥) }
+    ensures refused { result.0 ≡ 2
+        → (texts.new ≡ texts.old) × (input.new ≡ input.old) × (output.new ≡ output.old)
         × Complains (Q.sink_state complaints.old) (Q.sink_state complaints.new) usage_line }
-    ensures run { result.0 ≢ 2 → (from : ℕ) × (step : ℕ) × (names : Option (List ℕ × List ℕ)) × IsRun (map string_bytes words.now.items) from step names
-        × RunsOffice (moment_of from step) budget names
-        (outside (X.texts_state texts.old) (S.source_state input.old) (K.sink_state output.old) (Q.sink_state complaints.old))
-        (outside (X.texts_state texts.new) (S.source_state input.new) (K.sink_state output.new) (Q.sink_state complaints.new)) result.0 }
-    ensures unread { result.0 ≡ 3 → Rose (X.texts_state texts.old).faults (X.texts_state texts.new).faults }
-    ensures wrong { (from step : ℕ) (names : List ℕ × List ℕ) → IsRun (map string_bytes words.now.items) from step (Some names)
-        → IfSome (X.texts_state texts.old).texts (λ text. result.0 ≢ 3 → result.0 ≢ 8 → (result.0 ≡ 4) ↔ AreWrong (text names.0) (text names.1)) }
-    ensures built_in { (from step : ℕ) → IsRun (map string_bytes words.now.items) from step None → (result.0 ≢ 3) × (result.0 ≢ 4) × (texts.new ≡ texts.old) }
-    ensures exact { result.0 ≢ 2 → result.0 ≢ 3 → result.0 ≢ 4 → result.0 ≢ 7 → result.0 ≢ 8 → IsStatusOf budget (S.source_state input.old).flow result.0 }
-    ensures complete { (from step : ℕ) (names : Option (List ℕ × List ℕ)) → IsRun (map string_bytes words.now.items) from step names
-        → (Rose (X.texts_state texts.old).faults (X.texts_state texts.new).faults → ⊥) → (Rose (S.source_state input.old).faults (S.source_state input.new).faults → ⊥)
-        → (Rose (K.sink_state output.old).faults (K.sink_state output.new).faults → ⊥) → IsAnswered result.0 }
-    ensures pipe { result.0 ≡ 7 → Rose (S.source_state input.old).faults (S.source_state input.new).faults ⊎ Rose (K.sink_state output.old).faults (K.sink_state output.new).faults }
+    ensures run { result.0 ≢ 2
+        → (from : ℕ) × (step : ℕ) × (names : Option (List ℕ × List ℕ))
+        × IsRun (map string_bytes words.now.items) from step names
+        × RunsOffice (moment_of from step) budget names (outside (X.texts_state texts.old)
+        (S.source_state input.old) (K.sink_state output.old) (Q.sink_state complaints.old))
+        (outside (X.texts_state texts.new) (S.source_state input.new)
+        (K.sink_state output.new) (Q.sink_state complaints.new)) result.0 }
+    ensures unread { result.0 ≡ 3
+        → Rose (X.texts_state texts.old).faults (X.texts_state texts.new).faults }
+    ensures wrong { (from step : ℕ) (names : List ℕ × List ℕ)
+        → IsRun (map string_bytes words.now.items) from step (Some names)
+        → IfSome (X.texts_state texts.old).texts (λ text.
+        result.0 ≢ 3 → result.0 ≢ 8 → (result.0 ≡ 4) ↔ AreWrong (text names.0) (text names.1)) }
+    ensures built_in { (from step : ℕ) → IsRun (map string_bytes words.now.items) from step None
+        → (result.0 ≢ 3) × (result.0 ≢ 4) × (texts.new ≡ texts.old) }
+    ensures exact { result.0 ≢ 2 → result.0 ≢ 3 → result.0 ≢ 4 → result.0 ≢ 7 → result.0 ≢ 8
+        → IsStatusOf budget (S.source_state input.old).flow result.0 }
+    ensures complete { (from step : ℕ) (names : Option (List ℕ × List ℕ))
+        → IsRun (map string_bytes words.now.items) from step names
+        → (Rose (X.texts_state texts.old).faults (X.texts_state texts.new).faults → ⊥)
+        → (Rose (S.source_state input.old).faults (S.source_state input.new).faults → ⊥)
+        → (Rose (K.sink_state output.old).faults (K.sink_state output.new).faults → ⊥)
+        → IsAnswered result.0 }
+    ensures pipe { result.0 ≡ 7
+        → Rose (S.source_state input.old).faults (S.source_state input.new).faults
+        ⊎ Rose (K.sink_state output.old).faults (K.sink_state output.new).faults }
 {
     match run_of(words) {
         Some(words) => match open(alloc, words.texts, texts) {
@@ -71,7 +87,8 @@ pub fn office<X: Texts, S: Source, K: Sink, Q: Sink>(
 /// Where there was no memory for the words: tells so. Gives the status with which the program ends.
 pub fn tell_no_memory<Q: Sink>(complaints: &mut Q) -> Status
     ensures status { result.0 ≡ 8 }
-    ensures line { Complains (Q.sink_state complaints.old) (Q.sink_state complaints.new) (codes "memory\n") }
+    ensures line { Complains (Q.sink_state complaints.old) (Q.sink_state complaints.new)
+        (codes "memory\n") }
 {
     complain(complaints, &line_of(Ending::Memory));
     Status::MEMORY
@@ -89,7 +106,8 @@ fn complain_of<Q: Sink>(complaints: &mut Q, named: Option<Named<'_>>, fault: Tex
 }
 
 fn name_in(named: Option<Named<'_>>, which: Which) -> &str
-    ensures { result.now ≡ opening.name_in which (unwrap_or (option_map pair_of named.entry) ([], [])) }
+    ensures { result.now ≡ opening.name_in which
+        (unwrap_or (option_map pair_of named.entry) ([], [])) }
 {
     match (named, which) {
         (Some(named), Which::Models) => named.models,

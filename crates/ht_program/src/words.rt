@@ -49,8 +49,10 @@ pub(crate) struct Words<'a> {
 
 /// Reads the words of the command line.
 pub(crate) fn run_of(words: &[String]) -> Option<Words<'_>>
-    ensures some { IfSome result (λ w. IsRun (map string_bytes words.now) w.run.from w.run.step (option_map pair_of w.texts)) }
-    ensures none { IfNone result ((from step : ℕ) (texts : Option (List ℕ × List ℕ)) → IsRun (map string_bytes words.now) from step texts → ⊥) }
+    ensures some { IfSome result (λ w.
+        IsRun (map string_bytes words.now) w.run.from w.run.step (option_map pair_of w.texts)) }
+    ensures none { IfNone result ((from step : ℕ) (texts : Option (List ℕ × List ℕ))
+        → IsRun (map string_bytes words.now) from step texts → ⊥) }
 {
     let Some((command, options)) = words.split_first() else {
         return None;
@@ -86,7 +88,8 @@ fn are_options(words: &[String]) -> bool
 
 // Whether these two words are an option, whose name does not stand again.
 fn begin_options(name: &String, value: &String, later: &[String]) -> bool
-    ensures { result ≡ spec.begin_options (string_bytes name.now) (string_bytes value.now) (map string_bytes later.now) }
+    ensures { result ≡ spec.begin_options (string_bytes name.now) (string_bytes value.now)
+        (map string_bytes later.now) }
 {
     is_option(name) && is_value(value) && value_of(later, name.as_str()).is_none()
 }
@@ -128,8 +131,11 @@ fn is_word(word: &String, text: &str) -> bool
 
 // The number of an option, which must be there.
 fn number_of(options: &[String], name: &str) -> Option<u64>
-    ensures some { IfSome result (λ n. (word : List ℕ) × (spec.value_of name.now (map string_bytes options.now) ≡ Some word) × IsNumber word n) }
-    ensures none { IfNone result ((word : List ℕ) (n : ℕ) → spec.value_of name.now (map string_bytes options.now) ≡ Some word → IsNumber word n → ⊥) }
+    ensures some { IfSome result (λ n.
+        (word : List ℕ) × (spec.value_of name.now (map string_bytes options.now) ≡ Some word)
+        × IsNumber word n) }
+    ensures none { IfNone result ((word : List ℕ) (n : ℕ)
+        → spec.value_of name.now (map string_bytes options.now) ≡ Some word → IsNumber word n → ⊥) }
 {
     match value_of(options, name) {
         Some(word) => number(word),
@@ -155,8 +161,13 @@ fn number(word: &str) -> Option<u64>
 
 // The names of the two texts, of which both are given, or none.
 fn texts_of(options: &[String]) -> Option<Option<Named<'_>>>
-    ensures some { IfSome result (λ texts. AreTexts (spec.value_of (codes "--models") (map string_bytes options.now)) (spec.value_of (codes "--people") (map string_bytes options.now)) (option_map pair_of texts)) }
-    ensures none { IfNone result ((texts : Option (List ℕ × List ℕ)) → AreTexts (spec.value_of (codes "--models") (map string_bytes options.now)) (spec.value_of (codes "--people") (map string_bytes options.now)) texts → ⊥) }
+    ensures some { IfSome result (λ texts.
+        AreTexts (spec.value_of (codes "--models") (map string_bytes options.now))
+        (spec.value_of (codes "--people") (map string_bytes options.now))
+        (option_map pair_of texts)) }
+    ensures none { IfNone result ((texts : Option (List ℕ × List ℕ))
+        → AreTexts (spec.value_of (codes "--models") (map string_bytes options.now))
+        (spec.value_of (codes "--people") (map string_bytes options.now)) texts → ⊥) }
 {
     match (value_of(options, "--models"), value_of(options, "--people")) {
         (Some(models), Some(people)) => Some(Some(Named { models, people })),

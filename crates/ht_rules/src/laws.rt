@@ -9,5 +9,6 @@ ghost use Rattle.ht_rules.specs.Sets.{every_role};
 /// The two tables speak of the same states: somebody may do an operation in a state exactly where the
 /// table of changes has a line for it.
 pub fn tables_agree()
-    ensures { (state : State) (op : Op) → contains_state (allowed op every_role) state ≡ is_some (next state op) }
+    ensures { (state : State) (op : Op)
+        → contains_state (allowed op every_role) state ≡ is_some (next state op) }
 {}

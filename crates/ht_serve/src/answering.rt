@@ -50,11 +50,14 @@ pub(crate) fn reply_to<Q: Caller, L: Link>(
 ) -> Result<(), Failed>
     requires at { at.0 ≤ last_moment }
     requires stands { Q.stands caller.old }
-    ensures replied { Replies (Q.made caller.old caller.new) (Q.spent caller.new) (event_due request.now at.0) closes (L.Sink.sink_state link.old).written (L.Sink.sink_state link.new).written result }
+    ensures replied { Replies (Q.made caller.old caller.new) (Q.spent caller.new)
+        (event_due request.now at.0) closes (L.Sink.sink_state link.old).written
+        (L.Sink.sink_state link.new).written result }
     ensures kept { Q.spent caller.old → Q.spent caller.new }
     ensures stands { Q.stands caller.new }
     ensures same_caller { Q.same caller.old caller.new }
-    ensures cause { HasCause (L.Sink.sink_state link.old).faults (L.Sink.sink_state link.new).faults result }
+    ensures cause { HasCause (L.Sink.sink_state link.old).faults (L.Sink.sink_state link.new).faults
+        result }
     ensures beside { L.Source.source_state link.new ≡ L.Source.source_state link.old }
     ensures same { L.same link.old link.new }
     ensures input { buffers.new.input ≡ buffers.old.input }
@@ -85,7 +88,8 @@ fn answer<Q: Caller>(
 ) -> Result<u16, Memory>
     requires at { at.0 ≤ last_moment }
     requires stands { Q.stands caller.old }
-    ensures answers { Answers (Q.made caller.old caller.new) (Q.spent caller.new) (event_due request.now at.0) (status_or result) (text_or result text.new.items) }
+    ensures answers { Answers (Q.made caller.old caller.new) (Q.spent caller.new)
+        (event_due request.now at.0) (status_or result) (text_or result text.new.items) }
     ensures known { IfOk result IsReplyStatus }
     ensures kept { Q.spent caller.old → Q.spent caller.new }
     ensures stands { Q.stands caller.new }
@@ -109,7 +113,8 @@ fn call_into<Q: Caller>(
     requires valid { IsValid event.now }
     requires room { 1024 ≤ text.old.spare + length text.old.items }
     requires stands { Q.stands caller.old }
-    ensures answers { Answers (Q.made caller.old caller.new) (Q.spent caller.new) (Ok event.now) (status_or result) (text_or result text.new.items) }
+    ensures answers { Answers (Q.made caller.old caller.new) (Q.spent caller.new) (Ok event.now)
+        (status_or result) (text_or result text.new.items) }
     ensures known { IfOk result IsReplyStatus }
     ensures kept { Q.spent caller.old → Q.spent caller.new }
     ensures stands { Q.stands caller.new }

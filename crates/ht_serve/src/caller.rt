@@ -29,7 +29,9 @@ pub trait Caller {
         requires stands { stands self.old }
         requires valid { IsValid event.now }
         ensures stands { stands self.new }
-        ensures made { MatchResult result (λ r. made self.old self.new (record { event = event.now; reply = r } ∷ [])) (λ _. made self.old self.new []) }
+        ensures made { MatchResult result
+            (λ r. made self.old self.new (record { event = event.now; reply = r } ∷ []))
+            (λ _. made self.old self.new []) }
         ensures spent { OnErr result (spent self.new) }
         ensures kept { spent self.old → spent self.new }
         ensures only { OnOk result (spent self.new → spent self.old) }

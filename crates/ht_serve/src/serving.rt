@@ -25,7 +25,9 @@ pub fn serve_connection<Q: Caller, L: Link, C: Clock, G: Gate>(
     requires some { 1 ≤ budget }
     requires stands { Q.stands caller.old }
     ensures served { Served (Q.made caller.old caller.new) (Q.spent caller.new) closing budget 0
-        (sides (L.Source.source_state link.old) (L.Sink.sink_state link.old) (C.moments clock.old)) (sides (L.Source.source_state link.new) (L.Sink.sink_state link.new) (C.moments clock.new)) [] result }
+        (sides (L.Source.source_state link.old) (L.Sink.sink_state link.old) (C.moments clock.old))
+        (sides (L.Source.source_state link.new) (L.Sink.sink_state link.new) (C.moments clock.new))
+        [] result }
     ensures kept { Q.spent caller.old → Q.spent caller.new }
     ensures stands { Q.stands caller.new }
     ensures same_caller { Q.same caller.old caller.new }
@@ -69,11 +71,15 @@ fn serve_next<Q: Caller, L: Link, C: Clock, G: Gate>(
 ) -> Option<Ending>
     requires few { number < most }
     requires stands { Q.stands caller.old }
-    ensures served { MatchOption result
-        (Goes (Q.made caller.old caller.new) (Q.spent caller.new) closing most number (number + 1)
-        (sides (L.Source.source_state link.old) (L.Sink.sink_state link.old) (C.moments clock.old)) (sides (L.Source.source_state link.new) (L.Sink.sink_state link.new) (C.moments clock.new)) buffers.old.input buffers.new.input)
-        (Served (Q.made caller.old caller.new) (Q.spent caller.new) closing most number
-        (sides (L.Source.source_state link.old) (L.Sink.sink_state link.old) (C.moments clock.old)) (sides (L.Source.source_state link.new) (L.Sink.sink_state link.new) (C.moments clock.new)) buffers.old.input) }
+    ensures served { MatchOption result (Goes (Q.made caller.old caller.new) (Q.spent caller.new)
+        closing most number (number + 1)
+        (sides (L.Source.source_state link.old) (L.Sink.sink_state link.old) (C.moments clock.old))
+        (sides (L.Source.source_state link.new) (L.Sink.sink_state link.new) (C.moments clock.new))
+        buffers.old.input buffers.new.input) (Served (Q.made caller.old caller.new)
+        (Q.spent caller.new) closing most number
+        (sides (L.Source.source_state link.old) (L.Sink.sink_state link.old) (C.moments clock.old))
+        (sides (L.Source.source_state link.new) (L.Sink.sink_state link.new) (C.moments clock.new))
+        buffers.old.input) }
     ensures kept { Q.spent caller.old → Q.spent caller.new }
     ensures stands { Q.stands caller.new }
     ensures same_caller { Q.same caller.old caller.new }
@@ -116,7 +122,8 @@ fn closes_at(closing: bool, most: u32, number: u32, last: bool) -> bool
 
 // Whether more input stands behind the last request that may be answered.
 fn what_follows<L: Link>(alloc: Global, link: &mut L, buffer: &mut Buffer) -> Ending
-    ensures follows { Follows (L.Source.source_state link.old) (L.Source.source_state link.new) buffer.old result }
+    ensures follows { Follows (L.Source.source_state link.old) (L.Source.source_state link.new)
+        buffer.old result }
     ensures beside { L.Sink.sink_state link.new ≡ L.Sink.sink_state link.old }
     ensures same { L.same link.old link.new }
 {

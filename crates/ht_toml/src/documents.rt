@@ -20,7 +20,8 @@ pub enum DocumentFault {
 /// The document of a TOML text: UTF-8 that `toml` reads.
 pub fn document(alloc: Global, text: &[u8]) -> Result<Table, DocumentFault>
     ensures ok { IfOk result (λ table. IsDocument text.now (table_view table)) }
-    ensures syntax { IfErr result (λ fault. fault ≡ DocumentFault.Syntax → (ms : Members) → IsDocument text.now ms → ⊥) }
+    ensures syntax { IfErr result
+        (λ fault. fault ≡ DocumentFault.Syntax → (ms : Members) → IsDocument text.now ms → ⊥) }
 {
     let Ok(text) = str::from_utf8(text) else {
         return Err(DocumentFault::Syntax);

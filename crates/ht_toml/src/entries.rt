@@ -52,10 +52,15 @@ impl<T: Drop> From<AllocFailed<T>> for EntriesFault {
 
 /// Reads every entry of an array, or tells the first that has another shape.
 pub fn each<E: Shape>(alloc: Global, values: &[Value]) -> Result<Vec<E>, EntriesFault>
-    ensures all { IfOk result (λ entries. spec.each E.of (map view values.now) ≡ Some entries.items) }
-    ensures passes { Passes EntriesFault.Memory (refused EntriesFault.Misshapen (IsMisshapen E.of (map view values.now))) result }
-    ensures none { IfErr result (λ fault. (place : ℕ) → fault ≡ EntriesFault.Misshapen place → spec.each E.of (map view values.now) ≡ None) }
-    ensures within { IfErr result (λ fault. (place : ℕ) → fault ≡ EntriesFault.Misshapen place → place < length values.now) }
+    ensures all { IfOk result
+        (λ entries. spec.each E.of (map view values.now) ≡ Some entries.items) }
+    ensures passes { Passes EntriesFault.Memory
+        (refused EntriesFault.Misshapen (IsMisshapen E.of (map view values.now))) result }
+    ensures none { IfErr result (λ fault.
+        (place : ℕ) → fault ≡ EntriesFault.Misshapen place
+        → spec.each E.of (map view values.now) ≡ None) }
+    ensures within { IfErr result
+        (λ fault. (place : ℕ) → fault ≡ EntriesFault.Misshapen place → place < length values.now) }
 {
     let mut entries = Vec::new(alloc);
     for (place, value) in values.iter().enumerate() {

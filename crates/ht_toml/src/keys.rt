@@ -33,8 +33,10 @@ impl From<AllocError> for Misfit {
 
 /// The value at a key that must be there.
 pub fn required<T: Shape>(alloc: Global, table: &Table, key: &str) -> Result<T, Misfit>
-    ensures ok { IfOk result (λ value. spec.required T.of key.now (table_view table.now) ≡ Some value) }
-    ensures misfit { IfErr result (λ e. e ≡ Misfit.Shape → spec.required T.of key.now (table_view table.now) ≡ None) }
+    ensures ok { IfOk result
+        (λ value. spec.required T.of key.now (table_view table.now) ≡ Some value) }
+    ensures misfit { IfErr result
+        (λ e. e ≡ Misfit.Shape → spec.required T.of key.now (table_view table.now) ≡ None) }
 {
     let Some(value) = value_at(table, key) else {
         return Err(Misfit::Shape);
@@ -47,8 +49,10 @@ pub fn required<T: Shape>(alloc: Global, table: &Table, key: &str) -> Result<T, 
 
 /// The value at a key that may be missing.
 pub fn optional<T: Shape>(alloc: Global, table: &Table, key: &str) -> Result<Option<T>, Misfit>
-    ensures ok { IfOk result (λ value. spec.optional T.of key.now (table_view table.now) ≡ Some value) }
-    ensures misfit { IfErr result (λ e. e ≡ Misfit.Shape → spec.optional T.of key.now (table_view table.now) ≡ None) }
+    ensures ok { IfOk result
+        (λ value. spec.optional T.of key.now (table_view table.now) ≡ Some value) }
+    ensures misfit { IfErr result
+        (λ e. e ≡ Misfit.Shape → spec.optional T.of key.now (table_view table.now) ≡ None) }
 {
     let Some(value) = value_at(table, key) else {
         return Ok(None);
@@ -61,8 +65,10 @@ pub fn optional<T: Shape>(alloc: Global, table: &Table, key: &str) -> Result<Opt
 
 /// The value at a key, or this one where the key is missing.
 pub fn otherwise<T: Shape>(alloc: Global, table: &Table, key: &str, missing: T) -> Result<T, Misfit>
-    ensures ok { IfOk result (λ value. spec.otherwise missing T.of key.now (table_view table.now) ≡ Some value) }
-    ensures misfit { IfErr result (λ e. e ≡ Misfit.Shape → spec.otherwise missing T.of key.now (table_view table.now) ≡ None) }
+    ensures ok { IfOk result
+        (λ value. spec.otherwise missing T.of key.now (table_view table.now) ≡ Some value) }
+    ensures misfit { IfErr result (λ e.
+        e ≡ Misfit.Shape → spec.otherwise missing T.of key.now (table_view table.now) ≡ None) }
 {
     let Some(value) = value_at(table, key) else {
         return Ok(missing);
@@ -75,8 +81,10 @@ pub fn otherwise<T: Shape>(alloc: Global, table: &Table, key: &str, missing: T) 
 
 /// The entries of the array at a key, of which there are none where the key is missing.
 pub fn list<T: Shape>(alloc: Global, table: &Table, key: &str) -> Result<Vec<T>, Misfit>
-    ensures ok { IfOk result (λ entries. spec.otherwise [] (list_of T.of) key.now (table_view table.now) ≡ Some entries.items) }
-    ensures misfit { IfErr result (λ e. e ≡ Misfit.Shape → spec.otherwise [] (list_of T.of) key.now (table_view table.now) ≡ None) }
+    ensures ok { IfOk result (λ entries.
+        spec.otherwise [] (list_of T.of) key.now (table_view table.now) ≡ Some entries.items) }
+    ensures misfit { IfErr result (λ e.
+        e ≡ Misfit.Shape → spec.otherwise [] (list_of T.of) key.now (table_view table.now) ≡ None) }
 {
     let Some(values) = entries_at(table, key) else {
         return Err(Misfit::Shape);
@@ -90,9 +98,13 @@ pub fn list<T: Shape>(alloc: Global, table: &Table, key: &str) -> Result<Vec<T>,
 
 /// What the word at a key means, which must be one of these. No memory is taken for it.
 pub fn word<T: Copy>(table: &Table, key: &str, words: &[(&str, T)]) -> Result<T, Misfit>
-    ensures ok { IfOk result (λ value. spec.required (word_of (map (λ w. (w.0.now, w.1)) words.now)) key.now (table_view table.now) ≡ Some value) }
+    ensures ok { IfOk result (λ value.
+        spec.required (word_of (map (λ w. (w.0.now, w.1)) words.now)) key.now (table_view table.now)
+        ≡ Some value) }
     ensures shape { IfErr result (λ e. e ≡ Misfit.Shape) }
-    ensures misfit { IfErr result (λ e. spec.required (word_of (map (λ w. (w.0.now, w.1)) words.now)) key.now (table_view table.now) ≡ None) }
+    ensures misfit { IfErr result (λ e.
+        spec.required (word_of (map (λ w. (w.0.now, w.1)) words.now)) key.now (table_view table.now)
+        ≡ None) }
 {
     let Some(value) = value_at(table, key) else {
         return Err(Misfit::Shape);
@@ -109,9 +121,13 @@ pub fn word_if_any<T: Copy>(
     key: &str,
     words: &[(&str, T)],
 ) -> Result<Option<T>, Misfit>
-    ensures ok { IfOk result (λ value. spec.optional (word_of (map (λ w. (w.0.now, w.1)) words.now)) key.now (table_view table.now) ≡ Some value) }
+    ensures ok { IfOk result (λ value.
+        spec.optional (word_of (map (λ w. (w.0.now, w.1)) words.now)) key.now (table_view table.now)
+        ≡ Some value) }
     ensures shape { IfErr result (λ e. e ≡ Misfit.Shape) }
-    ensures misfit { IfErr result (λ e. spec.optional (word_of (map (λ w. (w.0.now, w.1)) words.now)) key.now (table_view table.now) ≡ None) }
+    ensures misfit { IfErr result (λ e.
+        spec.optional (word_of (map (λ w. (w.0.now, w.1)) words.now)) key.now (table_view table.now)
+        ≡ None) }
 {
     let Some(value) = value_at(table, key) else {
         return Ok(None);
@@ -129,9 +145,13 @@ pub fn word_or<T: Copy>(
     missing: T,
     words: &[(&str, T)],
 ) -> Result<T, Misfit>
-    ensures ok { IfOk result (λ value. spec.otherwise missing (word_of (map (λ w. (w.0.now, w.1)) words.now)) key.now (table_view table.now) ≡ Some value) }
+    ensures ok { IfOk result (λ value.
+        spec.otherwise missing (word_of (map (λ w. (w.0.now, w.1)) words.now)) key.now
+        (table_view table.now) ≡ Some value) }
     ensures shape { IfErr result (λ e. e ≡ Misfit.Shape) }
-    ensures misfit { IfErr result (λ e. spec.otherwise missing (word_of (map (λ w. (w.0.now, w.1)) words.now)) key.now (table_view table.now) ≡ None) }
+    ensures misfit { IfErr result (λ e.
+        spec.otherwise missing (word_of (map (λ w. (w.0.now, w.1)) words.now)) key.now
+        (table_view table.now) ≡ None) }
 {
     let Some(value) = value_at(table, key) else {
         return Ok(missing);

@@ -43,8 +43,12 @@ impl KeyShape for Name {
 
 /// The keys of a table and their values, in the order of the keys.
 pub fn pairs<K: KeyShape, V: Shape>(alloc: Global, table: &Table) -> Result<Vec<(K, V)>, Misfit>
-    ensures ok { IfOk result (λ pairs. entries.each (spec.row_of K.of_key V.of) (spec.rows (table_view table.now)) ≡ Some pairs.items) }
-    ensures misfit { IfErr result (λ e. e ≡ Misfit.Shape → entries.each (spec.row_of K.of_key V.of) (spec.rows (table_view table.now)) ≡ None) }
+    ensures ok { IfOk result (λ pairs.
+        entries.each (spec.row_of K.of_key V.of) (spec.rows (table_view table.now))
+        ≡ Some pairs.items) }
+    ensures misfit { IfErr result (λ e.
+        e ≡ Misfit.Shape
+        → entries.each (spec.row_of K.of_key V.of) (spec.rows (table_view table.now)) ≡ None) }
 {
     let mut pairs = Vec::new(alloc);
     for (key, value) in table {
@@ -65,8 +69,12 @@ pub fn pairs_at<K: KeyShape, V: Shape>(
     table: &Table,
     key: &str,
 ) -> Result<Vec<(K, V)>, Misfit>
-    ensures ok { IfOk result (λ pairs. otherwise [] (spec.table_of K.of_key V.of) key.now (table_view table.now) ≡ Some pairs.items) }
-    ensures misfit { IfErr result (λ e. e ≡ Misfit.Shape → otherwise [] (spec.table_of K.of_key V.of) key.now (table_view table.now) ≡ None) }
+    ensures ok { IfOk result (λ pairs.
+        otherwise [] (spec.table_of K.of_key V.of) key.now (table_view table.now)
+        ≡ Some pairs.items) }
+    ensures misfit { IfErr result (λ e.
+        e ≡ Misfit.Shape
+        → otherwise [] (spec.table_of K.of_key V.of) key.now (table_view table.now) ≡ None) }
 {
     let Some(value) = value_at(table, key) else {
         return Ok(Vec::new(alloc));

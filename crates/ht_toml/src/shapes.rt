@@ -54,7 +54,8 @@ pub trait TableShape: Sized + Drop {
 
     fn read_table(alloc: Global, table: &Table) -> Result<Self, Misfit>
         ensures ok { IfOk result (λ read. in_table (table_view table.now) ≡ Some read) }
-        ensures misfit { IfErr result (λ e. e ≡ Misfit.Shape → in_table (table_view table.now) ≡ None) };
+        ensures misfit { IfErr result
+            (λ e. e ≡ Misfit.Shape → in_table (table_view table.now) ≡ None) };
 }
 
 /// What a value says that is a table of this shape.

@@ -50,7 +50,8 @@ pub fn truth_at(table: &Table, key: &str, missing: bool) -> Option<bool>
 
 /// The entries of the array at a key.
 pub fn array_at<'a>(table: &'a Table, key: &str) -> Option<&'a [Value]>
-    ensures value { option_map (λ es. map view es.now) result ≡ spec.array_at key.now (table_view table.now) }
+    ensures value { option_map (λ es. map view es.now) result
+        ≡ spec.array_at key.now (table_view table.now) }
     ensures few { IfSome result (λ es. length es.now < 2 ^ 63) }
 {
     match value_at(table, key) {
@@ -61,7 +62,8 @@ pub fn array_at<'a>(table: &'a Table, key: &str) -> Option<&'a [Value]>
 
 /// The entries of the array at a key, of which there are none where the key is missing.
 pub fn entries_at<'a>(table: &'a Table, key: &str) -> Option<&'a [Value]>
-    ensures value { option_map (λ es. map view es.now) result ≡ spec.entries_at key.now (table_view table.now) }
+    ensures value { option_map (λ es. map view es.now) result
+        ≡ spec.entries_at key.now (table_view table.now) }
     ensures few { IfSome result (λ es. length es.now < 2 ^ 63) }
 {
     match value_at(table, key) {

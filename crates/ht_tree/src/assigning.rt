@@ -44,7 +44,9 @@ pub fn env_with(
     requires plan { IsPlanOf tables.now.tables plan.now }
     requires sound { IsSound (planned tables.now.tables plan.now) }
     requires row { Fits tables.now.tables row.now }
-    requires subs { subs.now ≡ map (λ r. r.task) (families.sub_tasks row.now.task.0 (planned tables.now.tables plan.now).rows) }
+    requires subs { subs.now
+        ≡ map (λ r. r.task)
+        (families.sub_tasks row.now.task.0 (planned tables.now.tables plan.now).rows) }
     ensures { IfOk result (λ e. e ≡ sees (planned tables.now.tables plan.now).rows row.now) }
 {
     Ok(Env {
@@ -66,8 +68,11 @@ fn subs_of(
 ) -> Result<Subs, Memory>
     requires plan { IsPlanOf tables.now.tables plan.now }
     requires sound { IsSound (planned tables.now.tables plan.now) }
-    requires ids { ids.now ≡ map (λ r. r.task) (families.sub_tasks task.0 (planned tables.now.tables plan.now).rows) }
-    ensures { IfOk result (λ subs. subs ≡ map (λ s. (s.state, s.output)) (families.sub_tasks task.0 (planned tables.now.tables plan.now).rows)) }
+    requires ids { ids.now
+        ≡ map (λ r. r.task) (families.sub_tasks task.0 (planned tables.now.tables plan.now).rows) }
+    ensures { IfOk result (λ subs.
+        subs ≡ map (λ s. (s.state, s.output))
+        (families.sub_tasks task.0 (planned tables.now.tables plan.now).rows)) }
 {
     let mut subs = Subs::new(alloc);
     for id in ids {
@@ -92,8 +97,12 @@ pub fn resolve(
     requires plan { IsPlanOf tables.now.tables plan.now }
     requires sound { IsSound (planned tables.now.tables plan.now) }
     requires row { Fits tables.now.tables row.now }
-    requires assign { IfSome (model_of tables.now.tables row.now) (λ m. Assigns (parts_of m.input m.output) assign.now) }
-    ensures { IfOk result (λ persons. IfSome (model_of tables.now.tables row.now) (λ m. persons ≡ resolved (directory tables.now.tables) (seen_in m (planned tables.now.tables plan.now).rows row.now) (shown assign.now))) }
+    requires assign { IfSome (model_of tables.now.tables row.now)
+        (λ m. Assigns (parts_of m.input m.output) assign.now) }
+    ensures { IfOk result (λ persons.
+        IfSome (model_of tables.now.tables row.now) (λ m.
+        persons ≡ resolved (directory tables.now.tables)
+        (seen_in m (planned tables.now.tables plan.now).rows row.now) (shown assign.now))) }
 {
     let mut seen = None;
     resolve_seen(alloc, tables, plan, row, assign, &mut seen)
@@ -112,10 +121,16 @@ pub fn resolve_seen(
     requires plan { IsPlanOf tables.now.tables plan.now }
     requires sound { IsSound (planned tables.now.tables plan.now) }
     requires row { Fits tables.now.tables row.now }
-    requires assign { IfSome (model_of tables.now.tables row.now) (λ m. Assigns (parts_of m.input m.output) assign.now) }
-    requires seen { IfSome seen.old (λ e. e ≡ sees (planned tables.now.tables plan.now).rows row.now) }
-    ensures persons { IfOk result (λ persons. IfSome (model_of tables.now.tables row.now) (λ m. persons ≡ resolved (directory tables.now.tables) (seen_in m (planned tables.now.tables plan.now).rows row.now) (shown assign.now))) }
-    ensures seen { OnOk result (IfSome seen.new (λ e. e ≡ sees (planned tables.now.tables plan.now).rows row.now)) }
+    requires assign { IfSome (model_of tables.now.tables row.now)
+        (λ m. Assigns (parts_of m.input m.output) assign.now) }
+    requires seen { IfSome seen.old
+        (λ e. e ≡ sees (planned tables.now.tables plan.now).rows row.now) }
+    ensures persons { IfOk result (λ persons.
+        IfSome (model_of tables.now.tables row.now) (λ m.
+        persons ≡ resolved (directory tables.now.tables)
+        (seen_in m (planned tables.now.tables plan.now).rows row.now) (shown assign.now))) }
+    ensures seen { OnOk result
+        (IfSome seen.new (λ e. e ≡ sees (planned tables.now.tables plan.now).rows row.now)) }
 {
     if assign.is_plain() {
         return found(
@@ -143,8 +158,10 @@ pub fn see(
     requires plan { IsPlanOf tables.now.tables plan.now }
     requires sound { IsSound (planned tables.now.tables plan.now) }
     requires row { Fits tables.now.tables row.now }
-    requires seen { IfSome seen.old (λ e. e ≡ sees (planned tables.now.tables plan.now).rows row.now) }
-    ensures { OnOk result (seen.new ≡ Some (sees (planned tables.now.tables plan.now).rows row.now)) }
+    requires seen { IfSome seen.old
+        (λ e. e ≡ sees (planned tables.now.tables plan.now).rows row.now) }
+    ensures { OnOk result
+        (seen.new ≡ Some (sees (planned tables.now.tables plan.now).rows row.now)) }
 {
     if seen.is_none() {
         *seen = Some(env(alloc, tables, plan, row)?);
@@ -175,8 +192,11 @@ pub(crate) fn found(
     assign: &Assign,
 ) -> Result<Persons, Memory>
     requires initiator { env.now.initiator < length people.now.persons }
-    requires kinds { (kinds : Declared) × Assigns kinds assign.now × IsTrue (has_parts kinds env.now) }
-    ensures { IfOk result (λ persons. (kinds : Declared) → Assigns kinds assign.now → persons ≡ resolved people.now (sight kinds env.now) (shown assign.now)) }
+    requires kinds { (kinds : Declared) × Assigns kinds assign.now
+        × IsTrue (has_parts kinds env.now) }
+    ensures { IfOk result (λ persons.
+        (kinds : Declared) → Assigns kinds assign.now
+        → persons ≡ resolved people.now (sight kinds env.now) (shown assign.now)) }
 {
     match assign {
         Assign::Nobody => Ok(Persons::new(alloc)),
@@ -212,7 +232,9 @@ pub(crate) fn found(
 
 /// Those of the persons found who aren't excluded (WS-HumanTask 1.1, 3.1).
 pub fn without(alloc: Global, found: Persons, excluded: &Persons) -> Result<Persons, Memory>
-    ensures { IfOk result (λ ps. (d : DirectoryOf) (s : Sight) (a : Assignment) → found ≡ resolved d s a → ps ≡ potential_owners d s a excluded.now) }
+    ensures { IfOk result (λ ps.
+        (d : DirectoryOf) (s : Sight) (a : Assignment) → found ≡ resolved d s a
+        → ps ≡ potential_owners d s a excluded.now) }
 {
     if excluded.as_slice().is_empty() {
         return Ok(found);
@@ -222,7 +244,9 @@ pub fn without(alloc: Global, found: Persons, excluded: &Persons) -> Result<Pers
 
 // The person whom an input part names, if the directory has the person.
 fn person_given(alloc: Global, people: &Directory, env: &Env, name: &str) -> Result<Persons, Memory>
-    ensures { IfOk result (λ persons. (kinds : Declared) → persons ≡ resolved people.now (sight kinds env.now) (part Side.Input name.now)) }
+    ensures { IfOk result (λ persons.
+        (kinds : Declared)
+        → persons ≡ resolved people.now (sight kinds env.now) (part Side.Input name.now)) }
 {
     let Some(person) = person_of(env.given(Side::Input, name)) else {
         return Ok(Persons::new(alloc));
@@ -257,7 +281,8 @@ fn everybody(alloc: Global, people: &Directory) -> Result<Persons, Memory>
 
 // The person with this name, where the text is a name.
 fn persons_named(alloc: Global, people: &Directory, text: &str) -> Result<Persons, Memory>
-    ensures { IfOk result (λ persons. (s : Sight) → persons ≡ resolved people.now s (user text.now)) }
+    ensures { IfOk result
+        (λ persons. (s : Sight) → persons ≡ resolved people.now s (user text.now)) }
 {
     let Some(name) = Name::of(text.as_bytes()) else {
         return Ok(Persons::new(alloc));
@@ -270,7 +295,8 @@ fn persons_named(alloc: Global, people: &Directory, text: &str) -> Result<Person
 
 // The members of the group with this name, where the text is a name.
 fn members_of(alloc: Global, people: &Directory, text: &str) -> Result<Persons, Memory>
-    ensures { IfOk result (λ persons. (s : Sight) → persons ≡ resolved people.now s (group text.now)) }
+    ensures { IfOk result
+        (λ persons. (s : Sight) → persons ≡ resolved people.now s (group text.now)) }
 {
     match Name::of(text.as_bytes()) {
         Some(name) => people.members(alloc, name),

@@ -15,7 +15,9 @@ use std::alloc::Global;
 
 /// The dues of the tasks that a plan changes, as they are, in ascending order.
 pub(crate) fn dues_before(alloc: Global, tables: &Tables, plan: &Plan) -> Result<Vec<Due>, Memory>
-    ensures { IfOk result (λ dues. dues.items ≡ spec.changed_dues tables.now.tables.models tables.now.tables.rows plan.now.changes.rows) }
+    ensures { IfOk result (λ dues.
+        dues.items ≡ spec.changed_dues tables.now.tables.models tables.now.tables.rows
+        plan.now.changes.rows) }
 {
     let mut dues = Vec::new(alloc);
     for put in plan.puts() {
@@ -28,7 +30,9 @@ pub(crate) fn dues_before(alloc: Global, tables: &Tables, plan: &Plan) -> Result
 /// The dues of the tasks that a plan changes, as they would be after it, in ascending order.
 pub fn dues_after(alloc: Global, tables: &Tables, plan: &Plan) -> Result<Vec<Due>, Memory>
     requires { IsPlanOf tables.now.tables plan.now }
-    ensures { IfOk result (λ dues. dues.items ≡ spec.changed_dues tables.now.tables.models (planned tables.now.tables plan.now).rows plan.now.changes.rows) }
+    ensures { IfOk result (λ dues.
+        dues.items ≡ spec.changed_dues tables.now.tables.models
+        (planned tables.now.tables plan.now).rows plan.now.changes.rows) }
 {
     let mut dues = Vec::new(alloc);
     for put in plan.puts() {
@@ -49,7 +53,10 @@ pub fn dues_behind(
     requires plan { IsPlanOf tables.now.tables plan.now }
     requires sound { IsSound (planned tables.now.tables plan.now) }
     ensures ascend { IfOk result (λ dues. Ascends dues.items) }
-    ensures has { IfOk result (λ dues. (due : Due) → has due dues.items ≡ (nat_lt last due.task.0 && has due (spec.all_dues (planned tables.now.tables plan.now)))) }
+    ensures has { IfOk result (λ dues.
+        (due : Due)
+        → has due dues.items ≡ (nat_lt last due.task.0
+        && has due (spec.all_dues (planned tables.now.tables plan.now)))) }
 {
     let mut dues = Vec::new(alloc);
     for id in last..plan.rows(tables) {
@@ -73,7 +80,9 @@ pub fn is_due(tables: &Tables, plan: &Plan, due: Due) -> bool
 
 fn add_dues_of(models: &Models, row: Option<&Row>, dues: &mut Vec<Due>) -> Result<(), Memory>
     requires { IfSome row (λ r. r.now.model < length models.now) }
-    ensures { OnOk result (dues.new.items ≡ dues.old.items ++ option_map_or (spec.row_dues models.now) (option_map (λ r. r.now) row.entry) []) }
+    ensures { OnOk result (dues.new.items
+        ≡ dues.old.items
+        ++ option_map_or (spec.row_dues models.now) (option_map (λ r. r.now) row.entry) []) }
 {
     match row {
         Some(row) => add_dues(models, row, dues),

@@ -69,14 +69,24 @@ pub fn create(
     requires plan { IsPlanOf tables.now.tables plan.old }
     requires number { length (planned tables.now.tables plan.old).rows + 1 < 2 ^ 32 }
     requires model { model < length tables.now.tables.models }
-    requires parent { IfSome parent (λ p. (1 ≤ p.0.0) × (p.0.0 ≤ length (planned tables.now.tables plan.old).rows)) }
+    requires parent { IfSome parent
+        (λ p. (1 ≤ p.0.0) × (p.0.0 ≤ length (planned tables.now.tables plan.old).rows)) }
     requires initiator { initiator < length tables.now.tables.people.persons }
-    requires input { IsInput (length tables.now.tables.people.persons) (model_at tables.now.tables model) input }
+    requires input { IsInput (length tables.now.tables.people.persons)
+        (model_at tables.now.tables model) input }
     ensures id { IfOk result (λ id. id.0 ≡ length (planned tables.now.tables plan.old).rows + 1) }
-    ensures goes { OnOk result ((m : ModelOf) × (model_at tables.now.tables model ≡ Some m) × Goes tables.now.tables plan.old plan.new (planned tables.now.tables plan.old) (with_row (planned tables.now.tables plan.old) (spec.new_row (planned tables.now.tables plan.old) m model parent initiator input waits at))) }
-    ensures sound { OnOk result (MayCome tables.now.tables.models (planned tables.now.tables plan.old).rows model parent → at.0 ≤ last_moment → IfSome waits (λ m. m.0 ≤ last_moment) → KeepsSound (planned tables.now.tables plan.old) (planned tables.now.tables plan.new)) }
-    ensures room { OnOk result (parent ≡ None → is_full (planned tables.now.tables plan.old) model ≡ false) }
-    ensures full { result ≡ Err CreateRefusal.TaskLimit → (parent ≡ None) × (is_full (planned tables.now.tables plan.old) model ≡ true) }
+    ensures goes { OnOk result ((m : ModelOf) × (model_at tables.now.tables model ≡ Some m)
+        × Goes tables.now.tables plan.old plan.new (planned tables.now.tables plan.old)
+        (with_row (planned tables.now.tables plan.old) (spec.new_row
+        (planned tables.now.tables plan.old) m model parent initiator input waits at))) }
+    ensures sound { OnOk result (MayCome tables.now.tables.models
+        (planned tables.now.tables plan.old).rows model parent → at.0 ≤ last_moment
+        → IfSome waits (λ m. m.0 ≤ last_moment)
+        → KeepsSound (planned tables.now.tables plan.old) (planned tables.now.tables plan.new)) }
+    ensures room { OnOk result
+        (parent ≡ None → is_full (planned tables.now.tables plan.old) model ≡ false) }
+    ensures full { result ≡ Err CreateRefusal.TaskLimit
+        → (parent ≡ None) × (is_full (planned tables.now.tables plan.old) model ≡ true) }
     ensures err { OnErr result (plan.new ≡ plan.old) }
 {
     let size = u128::from(tables.models().model(model).size);
@@ -108,10 +118,15 @@ fn new_row(
     requires plan { IsPlanOf tables.now.tables plan.now }
     requires task { task.0 ≡ length (planned tables.now.tables plan.now).rows + 1 }
     requires model { model < length tables.now.tables.models }
-    requires parent { IfSome parent (λ p. (1 ≤ p.0.0) × (p.0.0 ≤ length (planned tables.now.tables plan.now).rows)) }
+    requires parent { IfSome parent
+        (λ p. (1 ≤ p.0.0) × (p.0.0 ≤ length (planned tables.now.tables plan.now).rows)) }
     requires initiator { initiator < length tables.now.tables.people.persons }
-    requires input { IsInput (length tables.now.tables.people.persons) (model_at tables.now.tables model) input }
-    ensures { IfOk result (λ row. IfSome (model_at tables.now.tables model) (λ m. row ≡ spec.new_row (planned tables.now.tables plan.now) m model parent initiator input waits at)) }
+    requires input { IsInput (length tables.now.tables.people.persons)
+        (model_at tables.now.tables model) input }
+    ensures { IfOk result (λ row.
+        IfSome (model_at tables.now.tables model) (λ m.
+        row ≡ spec.new_row (planned tables.now.tables plan.now) m model parent initiator input
+        waits at)) }
 {
     let m = tables.models().model(model);
     let above = parent_row(tables, plan, parent);
@@ -178,8 +193,10 @@ fn values_of(env: Env) -> (Values, Values)
 // The priority that a model says, in this environment.
 fn priority_of(model: &Model, env: &Env) -> u8
     requires kinds { IsKinded model.now }
-    requires parts { IsTrue (has_parts (parts_of model.now.input.items model.now.output.items) env.now) }
-    ensures { result ≡ level_of (value (parts_of model.now.input.items model.now.output.items) env.now (model_of model.now).priority) }
+    requires parts { IsTrue
+        (has_parts (parts_of model.now.input.items model.now.output.items) env.now) }
+    ensures { result ≡ level_of (value (parts_of model.now.input.items model.now.output.items)
+        env.now (model_of model.now).priority) }
 {
     match &model.priority {
         Some(expression) => level(expression.int(env)),
@@ -217,15 +234,23 @@ fn roles_of(
 ) -> Result<Roles, Memory>
     requires initiator { env.now.initiator < length people.now.persons }
     requires kinds { IsKinded model.now }
-    requires parts { IsTrue (has_parts (parts_of model.now.input.items model.now.output.items) env.now) }
+    requires parts { IsTrue
+        (has_parts (parts_of model.now.input.items model.now.output.items) env.now) }
     ensures potential_owners { let s = sight (parts_of model.now.input.items model.now.output.items) env.now in
-        IfOk result (λ r. r.potential_owners ≡ potential_owners people.now s (shown model.now.potential_owners) (resolved people.now s (shown model.now.excluded_owners))) }
+        IfOk result (λ r.
+        r.potential_owners ≡ potential_owners people.now s (shown model.now.potential_owners)
+        (resolved people.now s (shown model.now.excluded_owners))) }
     ensures excluded_owners { let s = sight (parts_of model.now.input.items model.now.output.items) env.now in
-        IfOk result (λ r. r.excluded_owners ≡ resolved people.now s (shown model.now.excluded_owners)) }
+        IfOk result
+        (λ r. r.excluded_owners ≡ resolved people.now s (shown model.now.excluded_owners)) }
     ensures administrators { let s = sight (parts_of model.now.input.items model.now.output.items) env.now in
-        IfOk result (λ r. r.administrators ≡ role_or people.now s (option_map shown model.now.administrators) (option_map_or (λ r. r.now.administrators) above.entry [])) }
+        IfOk result (λ r.
+        r.administrators ≡ role_or people.now s (option_map shown model.now.administrators)
+        (option_map_or (λ r. r.now.administrators) above.entry [])) }
     ensures stakeholders { let s = sight (parts_of model.now.input.items model.now.output.items) env.now in
-        IfOk result (λ r. r.stakeholders ≡ role_or people.now s (option_map shown model.now.stakeholders) (option_map_or (λ r. r.now.stakeholders) above.entry [])) }
+        IfOk result (λ r.
+        r.stakeholders ≡ role_or people.now s (option_map shown model.now.stakeholders)
+        (option_map_or (λ r. r.now.stakeholders) above.entry [])) }
 {
     let candidates = found(alloc, people, env, &model.potential_owners)?;
     let excluded_owners = found(alloc, people, env, &model.excluded_owners)?;
@@ -256,7 +281,8 @@ fn parent_row<'a>(
     parent: Option<(TaskId, u32)>,
 ) -> Option<&'a Row>
     requires { IsPlanOf tables.now.tables plan.now }
-    ensures { option_map (λ r. r.now) result ≡ spec.parent_row (planned tables.now.tables plan.now) parent }
+    ensures { option_map (λ r. r.now) result
+        ≡ spec.parent_row (planned tables.now.tables plan.now) parent }
 {
     match parent {
         Some((id, _)) => plan.row(tables, id),
@@ -273,8 +299,12 @@ fn role(
     inherited: Option<&Persons>,
 ) -> Result<Persons, Memory>
     requires initiator { env.now.initiator < length people.now.persons }
-    requires kinds { (kinds : Declared) × IfSome assign.now (Assigns kinds) × IsTrue (has_parts kinds env.now) }
-    ensures { IfOk result (λ ps. (kinds : Declared) → IfSome assign.now (Assigns kinds) → ps ≡ role_or people.now (sight kinds env.now) (option_map shown assign.now) (option_map_or (λ p. p.now) inherited.entry [])) }
+    requires kinds { (kinds : Declared) × IfSome assign.now (Assigns kinds)
+        × IsTrue (has_parts kinds env.now) }
+    ensures { IfOk result (λ ps.
+        (kinds : Declared) → IfSome assign.now (Assigns kinds)
+        → ps ≡ role_or people.now (sight kinds env.now) (option_map shown assign.now)
+        (option_map_or (λ p. p.now) inherited.entry [])) }
 {
     match assign {
         Some(assign) => found(alloc, people, env, assign),

@@ -33,7 +33,8 @@ pub(crate) fn exchange(queue: &mut DueQueue, gone: &[Due], news: &[Due])
 
 // Those that come again stay.
 fn take_out(queue: &mut DueQueue, gone: &[Due], news: &[Due])
-    ensures dues { queue.new.dues ≡ fold without queue.old.dues (filter (λ due. not (has due news.now)) gone.now) }
+    ensures dues { queue.new.dues ≡ fold without queue.old.dues
+        (filter (λ due. not (has due news.now)) gone.now) }
     ensures spare { queue.old.spare ≤ queue.new.spare }
 {
     for due in gone {
@@ -48,7 +49,8 @@ fn put_in(queue: &mut DueQueue, gone: &[Due], news: &[Due])
     requires spare { length news.now ≤ queue.old.spare }
     requires news { Ascends news.now }
     requires absent { AreNew news.now gone.now queue.old.dues }
-    ensures { queue.new.dues ≡ fold put_due queue.old.dues (filter (λ due. not (has due gone.now)) news.now) }
+    ensures { queue.new.dues ≡ fold put_due queue.old.dues
+        (filter (λ due. not (has due gone.now)) news.now) }
 {
     for due in news {
         if !is_among(*due, gone) {

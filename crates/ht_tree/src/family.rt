@@ -18,7 +18,9 @@ pub fn sub_tasks(
 ) -> Result<Vec<TaskId>, Memory>
     requires plan { IsPlanOf tables.now.tables plan.now }
     requires sound { IsSound (planned tables.now.tables plan.now) }
-    ensures { IfOk result (λ ids. ids.items ≡ map (λ r. r.task) (spec.sub_tasks task.0 (planned tables.now.tables plan.now).rows)) }
+    ensures { IfOk result (λ ids.
+        ids.items
+        ≡ map (λ r. r.task) (spec.sub_tasks task.0 (planned tables.now.tables plan.now).rows)) }
 {
     let most = most_subs(tables, plan, task);
     let mut found = Vec::new(alloc);

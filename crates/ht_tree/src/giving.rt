@@ -79,7 +79,8 @@ fn unfit(people: &Directory, required: bool, parts: &[Part], given: &Parts) -> O
 }
 
 fn is_unfit(people: &Directory, required: bool, part: &Part, scalar: Option<&Scalar>) -> bool
-    ensures { result ≡ spec.is_unfit people.now required part.now (option_map (λ s. s.now) scalar.entry) }
+    ensures { result ≡ spec.is_unfit people.now required part.now
+        (option_map (λ s. s.now) scalar.entry) }
 {
     match scalar {
         None => required && !part.optional,

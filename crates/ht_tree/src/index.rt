@@ -65,7 +65,8 @@ impl Index {
 
     /// Takes the last one. It takes no memory.
     pub(crate) fn pop(&mut self) -> Option<TaskId>
-        ensures { MatchOption result ((self.old ≡ []) × (self.new ≡ [])) (λ task. self.old ≡ self.new ++ task.0 ∷ []) }
+        ensures { MatchOption result ((self.old ≡ []) × (self.new ≡ []))
+            (λ task. self.old ≡ self.new ++ task.0 ∷ []) }
     {
         let Put { task, before } = self.puts.pop()?;
         match before {

@@ -16,7 +16,8 @@ use ht_models::{Deadline, Models};
 /// takes no memory.
 pub fn least_changed(tables: &Tables, plan: &Plan) -> Option<Due>
     requires { IsPlanOf tables.now.tables plan.now }
-    ensures { result ≡ slice_get (spec.changed_dues tables.now.tables.models (planned tables.now.tables plan.now).rows plan.now.changes.rows) 0 }
+    ensures { result ≡ slice_get (spec.changed_dues tables.now.tables.models
+        (planned tables.now.tables plan.now).rows plan.now.changes.rows) 0 }
 {
     let mut least = None;
     for put in plan.puts() {
@@ -28,7 +29,9 @@ pub fn least_changed(tables: &Tables, plan: &Plan) -> Option<Due>
 
 fn least_of(models: &Models, row: Option<&Row>) -> Option<Due>
     requires { IfSome row (λ r. r.now.model < length models.now) }
-    ensures { result ≡ dues.least_of (option_map_or (spec.row_dues models.now) (option_map (λ r. r.now) row.entry) []) }
+    ensures { result
+        ≡ dues.least_of
+        (option_map_or (spec.row_dues models.now) (option_map (λ r. r.now) row.entry) []) }
 {
     match row {
         Some(row) => least_due(models, row),
@@ -49,7 +52,8 @@ fn least_due(models: &Models, row: &Row) -> Option<Due>
 
 fn least_deadline(row: &Row, deadlines: &[Deadline]) -> Option<Due>
     requires { length deadlines.now ≤ 2 * MOST_DEADLINES }
-    ensures { result ≡ dues.least_of (spec.deadline_dues row.now 0 (map shown.deadline_of deadlines.now)) }
+    ensures { result
+        ≡ dues.least_of (spec.deadline_dues row.now 0 (map shown.deadline_of deadlines.now)) }
 {
     let mut least = None;
     for (place, deadline) in deadlines.iter().enumerate() {
@@ -59,7 +63,8 @@ fn least_deadline(row: &Row, deadlines: &[Deadline]) -> Option<Due>
 }
 
 fn deadline_due(row: &Row, place: u32, deadline: &Deadline) -> Option<Due>
-    ensures { result ≡ dues.least_of (spec.deadline_due row.now place (shown.deadline_of deadline.now)) }
+    ensures { result
+        ≡ dues.least_of (spec.deadline_due row.now place (shown.deadline_of deadline.now)) }
 {
     let at = open_moment(row, place, deadline);
     due_at(row, kind_of(deadline.kind), place, at)

@@ -79,7 +79,8 @@ impl Plan {
     /// The row of a task as it would be after the plan.
     pub fn row<'a>(&'a self, tables: &'a Tables, id: TaskId) -> Option<&'a Row>
         requires { IsPlanOf tables.now.tables self.now }
-        ensures value { option_map (λ r. r.now) result ≡ task_row (planned tables.now.tables self.now) id.0 }
+        ensures value { option_map (λ r. r.now) result
+            ≡ task_row (planned tables.now.tables self.now) id.0 }
         ensures fits { IfSome result (λ r. Fits tables.now.tables r.now) }
     {
         match self.puts.last(id) {
@@ -110,7 +111,9 @@ impl Plan {
         requires next { IsNext (planned tables.now.tables self.old).rows row }
         requires file { KeepsFile (planned tables.now.tables self.old).rows row }
         requires fits { Fits tables.now.tables row }
-        ensures goes { OnOk result (Goes tables.now.tables self.old self.new (planned tables.now.tables self.old) (with_row (planned tables.now.tables self.old) row)) }
+        ensures goes { OnOk result (Goes tables.now.tables self.old self.new
+            (planned tables.now.tables self.old)
+            (with_row (planned tables.now.tables self.old) row)) }
         ensures err { OnErr result (self.new ≡ self.old) }
     {
         let totals = self.totals_with(tables, &row);
@@ -124,7 +127,8 @@ impl Plan {
     pub fn take(&mut self, alloc: Global, tables: &Tables, id: TaskId) -> Result<Row, Memory>
         requires plan { IsPlanOf tables.now.tables self.old }
         requires there { IsSome (task_row (planned tables.now.tables self.old) id.0) }
-        ensures row { IfOk result (λ row. task_row (planned tables.now.tables self.old) id.0 ≡ Some row) }
+        ensures row { IfOk result
+            (λ row. task_row (planned tables.now.tables self.old) id.0 ≡ Some row) }
         ensures fits { IfOk result (λ row. Fits tables.now.tables row) }
         ensures lends { OnOk result (Lends tables.now.tables self.old self.new id.0) }
         ensures err { OnErr result (self.new ≡ self.old) }
@@ -156,8 +160,11 @@ impl Plan {
         requires plan { IsPlanOf tables.now.tables self.old }
         requires sound { IsSound (planned tables.now.tables self.old) }
         requires there { IsSome (task_row (planned tables.now.tables self.old) id.0) }
-        requires fits { IfSome (task_row (planned tables.now.tables self.old) id.0) (λ row. Fits tables.now.tables (activated_to state owner row)) }
-        ensures goes { OnOk result (IfSome (task_row (planned tables.now.tables self.old) id.0) (λ row. Goes tables.now.tables self.old self.new (planned tables.now.tables self.old) (with_row (planned tables.now.tables self.old) (activated_to state owner row)))) }
+        requires fits { IfSome (task_row (planned tables.now.tables self.old) id.0)
+            (λ row. Fits tables.now.tables (activated_to state owner row)) }
+        ensures goes { OnOk result (IfSome (task_row (planned tables.now.tables self.old) id.0)
+            (λ row. Goes tables.now.tables self.old self.new (planned tables.now.tables self.old)
+            (with_row (planned tables.now.tables self.old) (activated_to state owner row)))) }
         ensures err { OnErr result (self.new ≡ self.old) }
     {
         // The check takes an owner that was passed on for moved.
@@ -171,7 +178,11 @@ impl Plan {
 
     // Activates the row in its place, where it was put behind the mark, and tells whether it did.
     fn activate_put(&mut self, id: TaskId, state: State, owner: Option<Person>) -> bool
-        ensures goes { IsTrue result → (t : TablesOf) → IsPlanOf t self.old → IfSome (task_row (planned t self.old) id.0) (λ row. Fits t (activated_to state owner row) → Goes t self.old self.new (planned t self.old) (with_row (planned t self.old) (activated_to state owner row))) }
+        ensures goes { IsTrue result → (t : TablesOf) → IsPlanOf t self.old
+            → IfSome (task_row (planned t self.old) id.0) (λ row.
+            Fits t (activated_to state owner row)
+            → Goes t self.old self.new (planned t self.old)
+            (with_row (planned t self.old) (activated_to state owner row))) }
         ensures other { result ≡ false → self.new ≡ self.old }
     {
         self.puts.activate(self.mark, id, state, owner)
@@ -189,8 +200,11 @@ impl Plan {
         requires plan { IsPlanOf tables.now.tables self.old }
         requires sound { IsSound (planned tables.now.tables self.old) }
         requires there { IsSome (task_row (planned tables.now.tables self.old) id.0) }
-        requires fits { IfSome (task_row (planned tables.now.tables self.old) id.0) (λ row. Fits tables.now.tables (activated_to state owner row)) }
-        ensures goes { OnOk result (IfSome (task_row (planned tables.now.tables self.old) id.0) (λ row. Goes tables.now.tables self.old self.new (planned tables.now.tables self.old) (with_row (planned tables.now.tables self.old) (activated_to state owner row)))) }
+        requires fits { IfSome (task_row (planned tables.now.tables self.old) id.0)
+            (λ row. Fits tables.now.tables (activated_to state owner row)) }
+        ensures goes { OnOk result (IfSome (task_row (planned tables.now.tables self.old) id.0)
+            (λ row. Goes tables.now.tables self.old self.new (planned tables.now.tables self.old)
+            (with_row (planned tables.now.tables self.old) (activated_to state owner row)))) }
         ensures err { OnErr result (self.new ≡ self.old) }
     {
         let Some(row) = self.row(tables, id) else {
@@ -241,7 +255,8 @@ impl Plan {
         requires plan { IsPlanOf tables.now.tables self.now }
         requires row { IsSome (task_row (planned tables.now.tables self.now) id.0) }
         requires person { person < length tables.now.tables.people.persons }
-        ensures { IfSome (task_row (planned tables.now.tables self.now) id.0) (λ row. result ≡ spec.roles_in (planned tables.now.tables self.now) row person) }
+        ensures { IfSome (task_row (planned tables.now.tables self.now) id.0)
+            (λ row. result ≡ spec.roles_in (planned tables.now.tables self.now) row person) }
     {
         match self.row(tables, id) {
             Some(row) => roles_in(tables, row, person),
@@ -252,7 +267,8 @@ impl Plan {
     /// The tasks of the trees of all top tasks that there would be after the plan.
     pub(crate) fn size(&self, tables: &Tables) -> u128
         requires { IsPlanOf tables.now.tables self.now }
-        ensures value { result ≡ total_size tables.now.tables.models (planned tables.now.tables self.now).rows }
+        ensures value { result ≡ total_size tables.now.tables.models
+            (planned tables.now.tables self.now).rows }
         ensures small { result < 2 ^ 100 }
     {
         self.totals(tables).size
@@ -321,7 +337,8 @@ impl Plan {
         requires plan { IsPlanOf tables.now.tables self.now }
         requires next { IsNext (planned tables.now.tables self.now).rows row.now }
         requires fits { Fits tables.now.tables row.now }
-        ensures { AreTotals tables.now.tables (put_in (planned tables.now.tables self.now).rows row.now) result }
+        ensures { AreTotals tables.now.tables
+            (put_in (planned tables.now.tables self.now).rows row.now) result }
     {
         let Totals { rows, size } = self.totals(tables);
         let before = self.row(tables, row.task);

@@ -122,7 +122,8 @@ impl Puts {
 
     /// Takes the row of a task, where it is the only one behind the mark.
     pub(crate) fn take_only(&mut self, mark: usize, task: TaskId) -> Option<Row>
-        ensures { MatchOption result (self.new ≡ self.old) (λ row. IsOnly mark self.old self.new task.0 row) }
+        ensures { MatchOption result (self.new ≡ self.old)
+            (λ row. IsOnly mark self.old self.new task.0 row) }
     {
         let last = self.rows.len().checked_sub(1)?;
         if last == mark && self.rows[last].task == task {
@@ -134,7 +135,8 @@ impl Puts {
 
     /// Takes the last row of a task, where it is not before the mark. A bare one is left in its place.
     pub(crate) fn lend(&mut self, alloc: Global, mark: usize, task: TaskId) -> Option<Row>
-        ensures { MatchOption result (self.new ≡ self.old) (λ row. IsLent mark self.old self.new task.0 row) }
+        ensures { MatchOption result (self.new ≡ self.old)
+            (λ row. IsLent mark self.old self.new task.0 row) }
     {
         match self.place(task) {
             Some(place) if place >= mark => {
@@ -154,7 +156,9 @@ impl Puts {
         state: State,
         owner: Option<Person>,
     ) -> bool
-        ensures there { IsTrue result → (row : Row) × (last_of task.0 self.old ≡ Some row) × (self.new ≡ put_past mark self.old (activated_to state owner row)) }
+        ensures there { IsTrue result
+            → (row : Row) × (last_of task.0 self.old ≡ Some row)
+            × (self.new ≡ put_past mark self.old (activated_to state owner row)) }
         ensures other { result ≡ false → self.new ≡ self.old }
     {
         match self.place(task) {
@@ -168,7 +172,8 @@ impl Puts {
 
     fn activate_at(&mut self, place: usize, state: State, owner: Option<Person>)
         requires { place < length self.old }
-        ensures { (row : Row) × (slice_get self.old place ≡ Some row) × (self.new ≡ slice_set self.old place (activated_to state owner row)) }
+        ensures { (row : Row) × (slice_get self.old place ≡ Some row)
+            × (self.new ≡ slice_set self.old place (activated_to state owner row)) }
     {
         activate_row(&mut self.rows[place], state, owner);
     }
@@ -193,7 +198,8 @@ impl Puts {
     }
 
     fn pop(&mut self) -> Option<Row>
-        ensures { MatchOption result ((self.old ≡ []) × (self.new ≡ [])) (λ row. self.old ≡ self.new ++ row ∷ []) }
+        ensures { MatchOption result ((self.old ≡ []) × (self.new ≡ []))
+            (λ row. self.old ≡ self.new ++ row ∷ []) }
     {
         let row = self.rows.pop()?;
         let _ = self.others.pop();

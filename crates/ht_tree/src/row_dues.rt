@@ -42,7 +42,8 @@ fn add_due(
 
 // A due's place has 32 bits. A model with more deadlines is beyond any memory.
 fn add_deadlines(row: &Row, deadlines: &[Deadline], dues: &mut Vec<Due>) -> Result<(), Memory>
-    ensures { OnOk result (dues.new.items ≡ dues.old.items ++ spec.deadline_dues row.now 0 (map shown.deadline_of deadlines.now)) }
+    ensures { OnOk result (dues.new.items
+        ≡ dues.old.items ++ spec.deadline_dues row.now 0 (map shown.deadline_of deadlines.now)) }
 {
     for (place, deadline) in deadlines.iter().enumerate() {
         if place > u32::MAX as usize {
@@ -59,7 +60,8 @@ fn add_deadline(
     deadline: &Deadline,
     dues: &mut Vec<Due>,
 ) -> Result<(), Memory>
-    ensures { OnOk result (dues.new.items ≡ dues.old.items ++ spec.deadline_due row.now place (shown.deadline_of deadline.now)) }
+    ensures { OnOk result (dues.new.items
+        ≡ dues.old.items ++ spec.deadline_due row.now place (shown.deadline_of deadline.now)) }
 {
     let at = open_moment(row, place, deadline);
     add_due(row, kind_of(deadline.kind), place, at, dues)
@@ -95,7 +97,8 @@ fn moment_as(models: &Models, row: &Row, kind: u8, place: u32) -> Option<Moment>
 }
 
 fn deadline_as(row: &Row, kind: u8, place: u32, deadline: Option<&Deadline>) -> Option<Moment>
-    ensures { result ≡ spec.deadline_as row.now kind place (option_map (λ d. shown.deadline_of d.now) deadline.entry) }
+    ensures { result ≡ spec.deadline_as row.now kind place
+        (option_map (λ d. shown.deadline_of d.now) deadline.entry) }
 {
     let deadline = deadline?;
     if kind != kind_of(deadline.kind) {

@@ -21,9 +21,11 @@ pub(crate) fn top_size(models: &Models, row: &Row) -> u64
 /// through more tasks than the tables ever hold.
 pub(crate) fn resized(models: &Models, total: u128, before: Option<&Row>, row: &Row) -> u128
     requires row { row.now.model < length models.now }
-    requires before { IfSome before (λ r. (r.now.model < length models.now) × (spec.top_size models.now r.now ≤ total)) }
+    requires before { IfSome before
+        (λ r. (r.now.model < length models.now) × (spec.top_size models.now r.now ≤ total)) }
     requires total { total < 2 ^ 100 }
-    ensures resized { IsResized models.now total row.now (option_map (λ r. r.now) before.entry) result }
+    ensures resized { IsResized models.now total row.now (option_map (λ r. r.now) before.entry)
+        result }
     ensures small { spec.top_size models.now row.now < 2 ^ 32 }
 {
     let rest = match before {

@@ -38,7 +38,8 @@ fn planned(
 ) -> Result<TaskId, CreateRefusal>
     requires { IsPlanOf tables.now.tables plan.old }
     ensures fits { OnOk result (IsPlanOf tables.now.tables plan.new) }
-    ensures sound { OnOk result (parent ≡ None → KeepsSound (planned tables.now.tables plan.old) (planned tables.now.tables plan.new)) }
+    ensures sound { OnOk result (parent ≡ None
+        → KeepsSound (planned tables.now.tables plan.old) (planned tables.now.tables plan.new)) }
 {
     assert!(rt; model < tables.models().count());
     assert!(rt; DAN.0 < tables.people().persons());

@@ -47,7 +47,8 @@ pub(crate) fn body_length(bytes: &[u8], headers: &[HeaderSpan], bare: bool) -> R
 // What the fields of this name say, of which several must be the same text.
 fn length_said(bytes: &[u8], headers: &[HeaderSpan], name: &[u8]) -> Option<u64>
     requires { All (IsHeaderWithin (length bytes.now)) headers.now }
-    ensures { result ≡ spec.length_said (values_of name.now (map (header_bytes bytes.now) headers.now)) }
+    ensures { result
+        ≡ spec.length_said (values_of name.now (map (header_bytes bytes.now) headers.now)) }
 {
     for (place, header) in headers.iter().enumerate() {
         if same_text(header.name.of(bytes), name) {
@@ -64,7 +65,8 @@ fn length_said(bytes: &[u8], headers: &[HeaderSpan], name: &[u8]) -> Option<u64>
 // Whether each field of this name has this value.
 fn all_say(bytes: &[u8], headers: &[HeaderSpan], name: &[u8], value: &[u8]) -> bool
     requires { All (IsHeaderWithin (length bytes.now)) headers.now }
-    ensures { result ≡ list_all (bytes_eq value.now) (values_of name.now (map (header_bytes bytes.now) headers.now)) }
+    ensures { result ≡ list_all (bytes_eq value.now)
+        (values_of name.now (map (header_bytes bytes.now) headers.now)) }
 {
     for header in headers {
         if same_text(header.name.of(bytes), name) && value != header.value.of(bytes) {

@@ -104,11 +104,14 @@ impl Buffer {
     /// bytes at most. 0 is the end.
     pub(crate) fn fill<L: Link>(&mut self, link: &mut L, most: usize) -> Result<usize, FillFault>
         requires { length self.old < most }
-        ensures bytes { Fills (L.Source.source_state link.old).flow (L.Source.source_state link.new).flow self.old self.new result }
-        ensures last { IsReadOrNone (L.Source.source_state link.old).flow (L.Source.source_state link.new).flow }
+        ensures bytes { Fills (L.Source.source_state link.old).flow
+            (L.Source.source_state link.new).flow self.old self.new result }
+        ensures last { IsReadOrNone (L.Source.source_state link.old).flow
+            (L.Source.source_state link.new).flow }
         ensures beside { L.Sink.sink_state link.new ≡ L.Sink.sink_state link.old }
         ensures same { L.same link.old link.new }
-        ensures cause { RoseWhere (result ≡ Err fault.Failed) (L.Source.source_state link.old).faults (L.Source.source_state link.new).faults }
+        ensures cause { RoseWhere (result ≡ Err fault.Failed)
+            (L.Source.source_state link.old).faults (L.Source.source_state link.new).faults }
     {
         make_room(&mut self.bytes, &mut self.start, &mut self.end, most)?;
         let count = read_behind(link, &mut self.bytes, self.end)?;
@@ -177,13 +180,16 @@ fn make_room(
 // Reads to the bytes behind `at`.
 fn read_behind<L: Link>(link: &mut L, bytes: &mut Vec<u8>, at: usize) -> Result<usize, Failed>
     requires { at ≤ length bytes.old.items }
-    ensures bytes { ReadTakes (L.Source.source_state link.old).flow (L.Source.source_state link.new).flow result (drop at bytes.new.items) }
-    ensures last { IsLastRead (L.Source.source_state link.old).flow (L.Source.source_state link.new).flow }
+    ensures bytes { ReadTakes (L.Source.source_state link.old).flow
+        (L.Source.source_state link.new).flow result (drop at bytes.new.items) }
+    ensures last { IsLastRead (L.Source.source_state link.old).flow
+        (L.Source.source_state link.new).flow }
     ensures before { take at bytes.new.items ≡ take at bytes.old.items }
     ensures size { length bytes.new.items ≡ length bytes.old.items }
     ensures beside { L.Sink.sink_state link.new ≡ L.Sink.sink_state link.old }
     ensures same { L.same link.old link.new }
-    ensures cause { HasCause (L.Source.source_state link.old).faults (L.Source.source_state link.new).faults result }
+    ensures cause { HasCause (L.Source.source_state link.old).faults
+        (L.Source.source_state link.new).faults result }
 {
     link.read(&mut bytes[at..])
 }

@@ -21,7 +21,8 @@ pub(crate) struct Said<'b> {
 
 pub(crate) fn said_in<'b>(bytes: &'b [u8], headers: &[HeaderSpan]) -> Said<'b>
     requires { All (IsHeaderWithin (length bytes.now)) headers.now }
-    ensures person { option_map (λ v. v.now) result.person ≡ only (values_of (codes "x-person") (map (header_bytes bytes.now) headers.now)) }
+    ensures person { option_map (λ v. v.now) result.person
+        ≡ only (values_of (codes "x-person") (map (header_bytes bytes.now) headers.now)) }
     ensures close { result.close ≡ list_any is_close (map (header_bytes bytes.now) headers.now) }
     ensures bare { IsTrue result.bare → IsBare (map (header_bytes bytes.now) headers.now) }
 {
@@ -47,7 +48,8 @@ pub(crate) fn said_in<'b>(bytes: &'b [u8], headers: &[HeaderSpan]) -> Said<'b>
 
 // The first value of a person: this one, where it is one and none came before.
 fn kept<'b>(first: Option<&'b [u8]>, is_person: bool, value: &'b [u8]) -> Option<&'b [u8]>
-    ensures { option_map (λ v. v.now) result ≡ spec.kept (option_map (λ v. v.now) first.entry) is_person value.now }
+    ensures { option_map (λ v. v.now) result
+        ≡ spec.kept (option_map (λ v. v.now) first.entry) is_person value.now }
 {
     if is_person && first.is_none() {
         return Some(value);
@@ -56,7 +58,8 @@ fn kept<'b>(first: Option<&'b [u8]>, is_person: bool, value: &'b [u8]) -> Option
 }
 
 fn alone(first: Option<&[u8]>, several: bool) -> Option<&[u8]>
-    ensures { option_map (λ v. v.now) result ≡ only_after several (option_map (λ v. v.now) first.entry) [] }
+    ensures { option_map (λ v. v.now) result
+        ≡ only_after several (option_map (λ v. v.now) first.entry) [] }
 {
     if several {
         return None;

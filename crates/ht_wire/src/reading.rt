@@ -53,11 +53,13 @@ pub enum Next {
 /// with 400, and a transfer coding with 501. It reads only where more
 /// bytes are needed.
 pub fn next_request<L: Link>(alloc: Global, link: &mut L, buffer: &mut Buffer) -> Next
-    ensures reads { Reads (L.Source.source_state link.old).flow (L.Source.source_state link.new).flow buffer.old buffer.new result }
+    ensures reads { Reads (L.Source.source_state link.old).flow
+        (L.Source.source_state link.new).flow buffer.old buffer.new result }
     ensures buffered { (IsUnfinished buffer.old → ⊥) → link.new ≡ link.old }
     ensures beside { L.Sink.sink_state link.new ≡ L.Sink.sink_state link.old }
     ensures same { L.same link.old link.new }
-    ensures cause { RoseWhere (result ≡ Next.ReadFault) (L.Source.source_state link.old).faults (L.Source.source_state link.new).faults }
+    ensures cause { RoseWhere (result ≡ Next.ReadFault) (L.Source.source_state link.old).faults
+        (L.Source.source_state link.new).faults }
 {
     let Ok(mut room) = buffer.take_room(alloc) else {
         return Next::Memory;
@@ -74,11 +76,13 @@ fn next_within<L: Link>(
     buffer: &mut Buffer,
     headers: &mut [HeaderSpan; MOST_FIELDS],
 ) -> Next
-    ensures reads { Reads (L.Source.source_state link.old).flow (L.Source.source_state link.new).flow buffer.old buffer.new result }
+    ensures reads { Reads (L.Source.source_state link.old).flow
+        (L.Source.source_state link.new).flow buffer.old buffer.new result }
     ensures buffered { (IsUnfinished buffer.old → ⊥) → link.new ≡ link.old }
     ensures beside { L.Sink.sink_state link.new ≡ L.Sink.sink_state link.old }
     ensures same { L.same link.old link.new }
-    ensures cause { RoseWhere (result ≡ Next.ReadFault) (L.Source.source_state link.old).faults (L.Source.source_state link.new).faults }
+    ensures cause { RoseWhere (result ≡ Next.ReadFault) (L.Source.source_state link.old).faults
+        (L.Source.source_state link.new).faults }
 {
     match next_head(link, buffer, headers) {
         Ok(head) => give_out(alloc, link, buffer, headers, &head),
@@ -92,11 +96,16 @@ fn next_head<L: Link>(
     buffer: &mut Buffer,
     headers: &mut [HeaderSpan; MOST_FIELDS],
 ) -> Result<RequestSpans, Next>
-    ensures finds { FindsHead (L.Source.source_state link.old).flow (L.Source.source_state link.new).flow buffer.old buffer.new headers.new result }
+    ensures finds { FindsHead (L.Source.source_state link.old).flow
+        (L.Source.source_state link.new).flow buffer.old buffer.new headers.new result }
     ensures buffered { ReadsWhereNeeded link.old link.new buffer.old buffer.new }
     ensures beside { L.Sink.sink_state link.new ≡ L.Sink.sink_state link.old }
     ensures same { L.same link.old link.new }
-    ensures cause { MatchResult result (λ _. (L.Source.source_state link.old).faults ≤ (L.Source.source_state link.new).faults) (λ next. RoseWhere (next ≡ Next.ReadFault) (L.Source.source_state link.old).faults (L.Source.source_state link.new).faults) }
+    ensures cause { MatchResult result
+        (λ _. (L.Source.source_state link.old).faults ≤ (L.Source.source_state link.new).faults)
+        (λ next.
+        RoseWhere (next ≡ Next.ReadFault) (L.Source.source_state link.old).faults
+        (L.Source.source_state link.new).faults) }
 {
     for _ in 0..LOOKS {
         match look(buffer.front(), headers) {
@@ -120,11 +129,16 @@ fn next_head<L: Link>(
 
 // Reads until so many bytes are there, or says why they aren't.
 fn read_to<L: Link>(link: &mut L, buffer: &mut Buffer, end: usize) -> Option<Next>
-    ensures finds { FindsBody end (L.Source.source_state link.old).flow (L.Source.source_state link.new).flow buffer.old buffer.new result }
+    ensures finds { FindsBody end (L.Source.source_state link.old).flow
+        (L.Source.source_state link.new).flow buffer.old buffer.new result }
     ensures still { end ≤ length buffer.old → link.new ≡ link.old }
     ensures beside { L.Sink.sink_state link.new ≡ L.Sink.sink_state link.old }
     ensures same { L.same link.old link.new }
-    ensures cause { MatchOption result ((L.Source.source_state link.old).faults ≤ (L.Source.source_state link.new).faults) (λ next. RoseWhere (next ≡ Next.ReadFault) (L.Source.source_state link.old).faults (L.Source.source_state link.new).faults) }
+    ensures cause { MatchOption result
+        ((L.Source.source_state link.old).faults ≤ (L.Source.source_state link.new).faults)
+        (λ next.
+        RoseWhere (next ≡ Next.ReadFault) (L.Source.source_state link.old).faults
+        (L.Source.source_state link.new).faults) }
 {
     while buffer.pending().len() < end {
         match buffer.fill(link, end.max(LONGEST_HEAD)) {
@@ -155,11 +169,14 @@ fn give_out<L: Link>(
 ) -> Next
     requires within { IsRequestWithin (front buffer.old) headers.now head.now }
     requires token { IsToken (span_bytes (front buffer.old) head.now.method) }
-    ensures gives { GivesOut (L.Source.source_state link.old).flow (L.Source.source_state link.new).flow buffer.old headers.now head.now buffer.new result }
-    ensures still { (IsCutShort (fields_at (front buffer.old) headers.now head.now) (drop head.now.len buffer.old) → ⊥) → link.new ≡ link.old }
+    ensures gives { GivesOut (L.Source.source_state link.old).flow
+        (L.Source.source_state link.new).flow buffer.old headers.now head.now buffer.new result }
+    ensures still { (IsCutShort (fields_at (front buffer.old) headers.now head.now)
+        (drop head.now.len buffer.old) → ⊥) → link.new ≡ link.old }
     ensures beside { L.Sink.sink_state link.new ≡ L.Sink.sink_state link.old }
     ensures same { L.same link.old link.new }
-    ensures cause { RoseWhere (result ≡ Next.ReadFault) (L.Source.source_state link.old).faults (L.Source.source_state link.new).faults }
+    ensures cause { RoseWhere (result ≡ Next.ReadFault) (L.Source.source_state link.old).faults
+        (L.Source.source_state link.new).faults }
 {
     let front = buffer.front();
     let fields = &headers[..head.headers];

@@ -19,10 +19,12 @@ pub fn write_reply<L: Link>(
     last: bool,
 ) -> Result<(), Failed>
     requires { IsReplyStatus status }
-    ensures written { WriteGrows (L.Sink.sink_state link.old).written (L.Sink.sink_state link.new).written result (reply_bytes status body.now last) }
+    ensures written { WriteGrows (L.Sink.sink_state link.old).written
+        (L.Sink.sink_state link.new).written result (reply_bytes status body.now last) }
     ensures beside { L.Source.source_state link.new ≡ L.Source.source_state link.old }
     ensures same { L.same link.old link.new }
-    ensures cause { HasCause (L.Sink.sink_state link.old).faults (L.Sink.sink_state link.new).faults result }
+    ensures cause { HasCause (L.Sink.sink_state link.old).faults (L.Sink.sink_state link.new).faults
+        result }
 {
     let mut piece = Piece::new();
     put_head(status, body.len(), last, &mut piece);
@@ -35,10 +37,12 @@ pub fn write_reply<L: Link>(
 
 // By two writes.
 fn write_both<L: Link>(link: &mut L, first: &[u8], second: &[u8]) -> Result<(), Failed>
-    ensures written { WriteGrows (L.Sink.sink_state link.old).written (L.Sink.sink_state link.new).written result (first.now ++ second.now) }
+    ensures written { WriteGrows (L.Sink.sink_state link.old).written
+        (L.Sink.sink_state link.new).written result (first.now ++ second.now) }
     ensures beside { L.Source.source_state link.new ≡ L.Source.source_state link.old }
     ensures same { L.same link.old link.new }
-    ensures cause { HasCause (L.Sink.sink_state link.old).faults (L.Sink.sink_state link.new).faults result }
+    ensures cause { HasCause (L.Sink.sink_state link.old).faults (L.Sink.sink_state link.new).faults
+        result }
 {
     link.write(first)?;
     link.write(second)

@@ -25,7 +25,8 @@ impl Source for Drip {
     ghost source_state = { λ s. record { flow = Some s.source.flow; faults = s.source.faults } };
 
     fn read(&mut self, into: &mut [u8]) -> Result<usize, Failed>
-        ensures bytes { ReadTakes (Some self.old.source.flow) (Some self.new.source.flow) result into.new }
+        ensures bytes { ReadTakes (Some self.old.source.flow) (Some self.new.source.flow) result
+            into.new }
         ensures last { self.new.source.flow.before ≡ self.old.source.flow.taken }
         ensures cause { HasCause self.old.source.faults self.new.source.faults result }
     {
