@@ -1,7 +1,7 @@
 mod Complaining
 mod Folded
 mod Grammar
-mod Inputs
+mod InputStatus
 mod OneOutput
 mod Opened
 mod Options

@@ -1,5 +1,5 @@
 -- What is written is a function of the bytes read, of the texts and of the words.
-use Rattle.std.proofs.Common.{◌≡◌, ◌≢◌, ◌⊎◌, inl, inr, ℕ, ◌+◌, ◌-◌, ◌≤◌, ◌<◌, ◌^◌, Bool, true, false, List, [], ◌∷◌, ◌++◌, length, append_assoc, append-nil, refl, sym, ap, subst, ◌∙◌, arith, Option, Some, None, Result, Ok, Err, codes, decimal}
+use Rattle.std.proofs.Common.{◌≡◌, ◌≢◌, ◌⊎◌, inl, inr, ℕ, ◌+◌, ◌-◌, ◌≤◌, ◌<◌, Bool, true, false, List, [], ◌∷◌, ◌++◌, length, append_assoc, append-nil, refl, sym, ap, subst, ◌∙◌, arith, Option, Some, None, Result, Ok, Err, codes, decimal}
 use Rattle.ht_base.specs.declared.event.Event.{Event}
 use Rattle.ht_base.specs.declared.record.Record.{Record}
 use Rattle.ht_base.specs.declared.reply.Answer.TheVariants.{Refused}
@@ -30,11 +30,11 @@ use Rattle.ht_api.specs.Statuses.{refusal_status}
 use Rattle.ht_outside.specs.Clocks.{moment_of}
 use Rattle.ht_serve.specs.Texts.{refusal_bytes, reply_status}
 use Rattle.ht_program.specs.Folding.{AreAll, Decided, Folds, IsBehind, IsOutput, IsOutputOf, IsRefusedOneWay, RepliesTo}
-use Rattle.ht_program.specs.Inputs.{budget}
+use Rattle.ht_program.specs.Inputs.{budget, lasts}
 use Rattle.ht_program.specs.Opening.{Judges, Opens, OpensText}
 use Rattle.ht_program.specs.Words.{IsRun, value_of}
 use Rattle.ht_program.proofs.Grammar.{same_number}
-use Rattle.ht_program.proofs.Inputs.{ends_later}
+use Rattle.ht_serve.proofs.PublicLaws.{over_later}
 use Rattle.ht_program.proofs.Statuses.{one_reading, same_rest}
 
 -- ---- one request, read twice
@@ -78,7 +78,7 @@ one_tail n s a b (inr x) (inr y) one_way = by_code (one_reason s x.2.0 y.2.0 (x.
 
 -- what is behind requests is behind those that follow the first
 behind_first : (n : ℕ) (q : Request) (qs : List Request) (rest tail : List ℕ) → q.last ≡ false → IsBehind n (q ∷ qs) rest tail → IsBehind (n - 1) qs rest tail
-behind_first n q qs rest tail going (inl (none, inl ends)) = inl (none, inl ((let few = ends.0 in omega (arith, few)), ends_later q qs rest (λ last. absurd (cc)) ends.1))
+behind_first n q qs rest tail going (inl (none, inl ends)) = inl (none, inl ((let few = ends.0 in omega (arith, few)), over_later q.last (lasts qs) rest (λ last. absurd (cc)) ends.1))
 behind_first n q qs rest tail going (inl (none, inr all)) = inl (none, inr (all.0.1, (let count = all.1 in omega (arith, count))))
 behind_first n q qs rest tail going (inr refused) = inr (refused.0.1, (let few = refused.1 in omega (arith, few)), refused.2)
 

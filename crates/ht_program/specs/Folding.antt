@@ -9,7 +9,6 @@ use Rattle.ht_machine.specs.Deciding.{Decides}
 use Rattle.ht_outside.specs.Clocks.{moment_of}
 use Rattle.ht_tree.specs.Tables.{RoomyTables, TablesOf}
 use Rattle.ht_wire.specs.declared.request.Request.{Request}
-use Rattle.ht_wire.specs.Heads.{IsEnd}
 use Rattle.ht_wire.specs.Replies.{reply_bytes}
 use Rattle.ht_wire.specs.Requests.{AreRequests, IsRefused}
 use Rattle.ht_api.specs.declared.refusal.ApiRefusal.{ApiRefusal}
@@ -17,7 +16,8 @@ use Rattle.ht_api.specs.Events.{event_due}
 use Rattle.ht_api.specs.Refusals.{refusal_of}
 use Rattle.ht_api.specs.Replies.{answer_text}
 use Rattle.ht_api.specs.Statuses.{refusal_status}
-use Rattle.ht_serve.specs.Closing.{Close, GoOn}
+use Rattle.ht_serve.specs.Closing.{GoOn}
+use Rattle.ht_serve.specs.Inputs.{AreOver}
 use Rattle.ht_serve.specs.Texts.{refusal_bytes, reply_status}
 use Rattle.ht_program.specs.Inputs.{budget, lasts}
 use Rattle.ht_program.specs.Opening.{Opens}
@@ -57,7 +57,7 @@ module _ {S : Type 0} (Step : S → Event → Reply → S → Type 0) where
 -- are as many as may be. Nothing is written behind their replies.
 abbrev pub AreAll : ℕ → List Request → List ℕ → Type 0
 AreAll most asked rest =
-    ((length asked ≤ most) × (Close (lasts asked) ⊎ (GoOn (lasts asked) × IsEnd rest))) ⊎ (GoOn (lasts asked) × (length asked ≡ most))
+    ((length asked ≤ most) × AreOver (lasts asked) rest) ⊎ (GoOn (lasts asked) × (length asked ≡ most))
 
 -- or the rest is refused, and its refusal is written
 abbrev pub IsBehind : ℕ → List Request → List ℕ → List ℕ → Type 0

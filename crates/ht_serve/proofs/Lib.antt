@@ -1,4 +1,5 @@
 mod Continuing
 mod Exchanging
+mod InputEndings
 pub mod PublicLaws
 mod Standing

@@ -4,5 +4,6 @@ pub mod Calls
 pub mod Closing
 pub mod Examples
 pub mod Exchanges
+pub mod Inputs
 pub mod Serving
 pub mod Texts

@@ -1,5 +1,6 @@
-ghost use Rattle.std.specs.Prelude.{◌≡◌, ◌+◌, ◌<◌, ◌≤◌, [], MatchOption};
+ghost use Rattle.std.specs.Prelude.{◌≡◌, ◌≢◌, ◌+◌, ◌<◌, ◌≤◌, [], MatchOption};
 ghost use Rattle.ht_serve.specs.Closing as spec;
+ghost use Rattle.ht_serve.specs.Inputs.{IsEndingOf};
 ghost use Rattle.ht_serve.specs.Serving.{Follows, Goes, Served, sides};
 
 use crate::answering::{Buffers, reply_to};
@@ -28,6 +29,8 @@ pub fn serve_connection<Q: Caller, L: Link, C: Clock, G: Gate>(
         (sides (L.Source.source_state link.old) (L.Sink.sink_state link.old) (C.moments clock.old))
         (sides (L.Source.source_state link.new) (L.Sink.sink_state link.new) (C.moments clock.new))
         [] result }
+    ensures exact { result ≢ Ending.ReadFault → result ≢ Ending.WriteFault → result ≢ Ending.Memory
+        → IsEndingOf closing budget (L.Source.source_state link.old).flow result }
     ensures kept { Q.spent caller.old → Q.spent caller.new }
     ensures stands { Q.stands caller.new }
     ensures same_caller { Q.same caller.old caller.new }

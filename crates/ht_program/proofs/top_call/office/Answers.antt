@@ -2,7 +2,7 @@ use Rattle.std.proofs.Common.{◌≡◌, ℕ, List, Option, Some, None, Ok, Err,
 use Rattle.ht_program.specs.Named.{pair_of}
 use Rattle.ht_program.specs.Opening.{Opens}
 use Rattle.ht_program.specs.Words.{IsRun}
-use Rattle.ht_program.proofs.Inputs.{status_of_input}
+use Rattle.ht_program.proofs.InputStatus.{status_of_input}
 use Rattle.ht_program.proofs.Options.{bytes_of}
 use Rattle.ht_program.proofs.Statuses.{answered, broke, built_in_fault, failed_right, fault_answered, no_names, same_names, served_right}
 use Rattle.ht_program.proofs.top_call.office.Goals as goal
@@ -26,7 +26,7 @@ returns-in-Ok-clause-built_in g c = λ from step is.
     (c.status_of.ensures.served.1, c.status_of.ensures.served.2, no_names c.in-Some.words.texts _ (same_names _ _ c.in-Some.words _ _ _ c.deref.ensures.value c.in-Some.ensures.some is) c.open.ensures.built_in)
 
 pub returns-in-Ok-clause-exact : goal.returns-in-Ok-clause-exact
-returns-in-Ok-clause-exact g c = λ two three four seven eight. status_of_input _ _ _ _ _ _ _ _ _ c.serve-ending.ensures c.status_of.ensures.value seven eight
+returns-in-Ok-clause-exact g c = λ two three four seven eight. status_of_input _ _ _ _ _ _ _ c.serve-ending.ensures c.status_of.ensures.value seven eight
 
 pub returns-in-Ok-clause-complete : goal.returns-in-Ok-clause-complete
 returns-in-Ok-clause-complete g c = λ from step names is texts reads writes. answered _ _ _ _ _ c.serve-ending.result c.status_of.result.0 c.status_of.ensures.value c.serve-ending.ensures reads writes
