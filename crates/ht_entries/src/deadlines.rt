@@ -2,7 +2,8 @@ use crate::label::Label;
 use crate::times::{Instant, Period};
 use ht_base::{Name, Txt};
 use ht_toml::{
-    Misfit, Shape, TableShape, exactly_one, has_only, list, optional, required, table_shape, word,
+    Misfit, Named, Shape, TableShape, exactly_one, has_only, list, optional, required, table_shape,
+    word,
 };
 use std::alloc::{AllocError, Global};
 use std::marker::Model;
@@ -28,6 +29,14 @@ pub struct EscalationText {
     pub when: Option<Txt>,
     pub notify: Option<Txt>,
     pub reassign: Option<Txt>,
+}
+
+impl Named for EscalationText {
+    ghost name_of = { λ e. e.name };
+
+    fn name(&self) -> Name {
+        self.name
+    }
 }
 
 impl Model for EscalationText {
@@ -84,6 +93,14 @@ pub struct DeadlineText {
     /// The input part that says when.
     pub part: Option<Label>,
     pub escalations: Vec<EscalationText>,
+}
+
+impl Named for DeadlineText {
+    ghost name_of = { λ d. d.name };
+
+    fn name(&self) -> Name {
+        self.name
+    }
 }
 
 impl Model for DeadlineText {

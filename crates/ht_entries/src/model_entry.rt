@@ -9,7 +9,7 @@ use crate::parts::Part;
 use crate::sub_entries::SubEntry;
 use ht_base::{Name, Txt};
 use ht_toml::{
-    Misfit, Shape, TableShape, has_only, list, optional, otherwise, required, table_shape,
+    Misfit, Named, Shape, TableShape, has_only, list, optional, otherwise, required, table_shape,
     word_if_any, word_or,
 };
 use std::alloc::{AllocError, Global};
@@ -76,6 +76,14 @@ pub struct ModelEntry {
     pub subs: Vec<SubEntry>,
     pub deadlines: Vec<DeadlineText>,
     pub finishes: Vec<FinishText>,
+}
+
+impl Named for ModelEntry {
+    ghost name_of = { λ m. m.name };
+
+    fn name(&self) -> Name {
+        self.name
+    }
 }
 
 impl Model for ModelEntry {

@@ -1,6 +1,6 @@
 use crate::label::Label;
 use ht_base::{Kind, Name};
-use ht_toml::{Misfit, Shape, TableShape, has_only, otherwise, required, table_shape, word};
+use ht_toml::{Misfit, Named, Shape, TableShape, has_only, otherwise, required, table_shape, word};
 use std::alloc::{AllocError, Global};
 use std::marker::Model;
 use toml::{Table, Value};
@@ -20,6 +20,14 @@ pub struct Part {
     pub kind: Kind,
     /// Whether it may stay without a value.
     pub optional: bool,
+}
+
+impl Named for Part {
+    ghost name_of = { λ p. p.name };
+
+    fn name(&self) -> Name {
+        self.name
+    }
 }
 
 impl Model for Part {

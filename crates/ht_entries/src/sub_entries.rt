@@ -9,7 +9,7 @@ ghost use Rattle.ht_entries.specs.Labels.{label, label_of};
 
 use crate::label::Label;
 use ht_base::Name;
-use ht_toml::{Misfit, Shape, TableShape, has_only, pairs, required, table_shape};
+use ht_toml::{Misfit, Named, Shape, TableShape, has_only, pairs, required, table_shape};
 use std::alloc::{AllocError, Global};
 use std::marker::Model;
 use toml::{Table, Value};
@@ -23,6 +23,14 @@ pub struct SubEntry {
     /// Input parts of the sub task, each beside the input part of the composite task from which it
     /// takes its value, in the order of their names.
     pub input: Vec<(Label, Label)>,
+}
+
+impl Named for SubEntry {
+    ghost name_of = { λ s. s.name };
+
+    fn name(&self) -> Name {
+        self.name
+    }
 }
 
 impl Model for SubEntry {

@@ -1,6 +1,6 @@
 -- The value of an expression is of the expression's kind.
 use Rattle.std.proofs.Common.{◌≡◌, ℕ, Bool, true, false, List, [], ◌∷◌, Option, Some, None, refl, ap, sym, ◌∙◌}
-use Rattle.std.specs.Prelude.{if◌then◌else◌, option_map, ℤ, bytes_eq}
+use Rattle.std.specs.Prelude.{if◌then◌else◌, option_map, ℤ, bytes_eq, find}
 use Rattle.std.proofs.lemmas.Bool.{and_parts}
 use Rattle.std.proofs.lemmas.Slice.Eq.{bytes_eq-Decides}
 use Rattle.ht_base.specs.declared.kind.Kind.{Kind}
@@ -13,7 +13,8 @@ use Rattle.ht_expr.specs.declared.kinds.Side.TheVariants.{Input, Output}
 use Rattle.ht_expr.specs.declared.operator.Operator.{Operator}
 use Rattle.ht_expr.specs.declared.operator.Operator.TheVariants as operator
 use Rattle.ht_base.specs.Kinds.{kind_of_value}
-use Rattle.ht_expr.specs.Environment.{given, has_parts, may_be, value_at, values_fit}
+use Rattle.ht_base.specs.Values.{value_of}
+use Rattle.ht_expr.specs.Environment.{given, has_parts, may_be, values_fit}
 use Rattle.ht_expr.specs.KindTable.{common_kind, is_of_kind, kind_of, operated_kind, same_kind}
 use Rattle.ht_expr.specs.Kinds.{Declared, declared_kind}
 use Rattle.ht_expr.specs.Trees.{Tree, integer, text, truth, priority, initiator, part, is_set, count, count_text, count_true, brackets, negative, opposite, binary, choice}
@@ -43,13 +44,13 @@ common_is None b k h = absurd (cc)
 -- ---- parts
 
 fitting_at : (kinds : Declared) (side : Side) (w : List ℕ × Value) (ws : List (List ℕ × Value)) (name : List ℕ) (v : Value) (b : Bool) → bytes_eq w.0 name ≡ b → may_be (declared_kind kinds side w.0) w.1 ≡ true
-    → (value_at name ws ≡ Some v → may_be (declared_kind kinds side name) v ≡ true) → (if b then Some w.1 else value_at name ws) ≡ Some v → may_be (declared_kind kinds side name) v ≡ true
+    → (value_of name ws ≡ Some v → may_be (declared_kind kinds side name) v ≡ true) → option_map (λ u. u.1) (if b then Some w else find (λ u. bytes_eq u.0 name) ws) ≡ Some v → may_be (declared_kind kinds side name) v ≡ true
 fitting_at kinds side w ws name v true same here behind found =
     let e : w.1 ≡ v = cc in
     ap (λ n. may_be (declared_kind kinds side n) v) (sym ((bytes_eq-Decides w.0 name).0 same)) ∙ ap (may_be (declared_kind kinds side w.0)) (sym e) ∙ here
 fitting_at kinds side w ws name v false other here behind found = behind found
 
-fitting : (kinds : Declared) (side : Side) (vs : List (List ℕ × Value)) (name : List ℕ) (v : Value) → values_fit kinds side vs ≡ true → value_at name vs ≡ Some v → may_be (declared_kind kinds side name) v ≡ true
+fitting : (kinds : Declared) (side : Side) (vs : List (List ℕ × Value)) (name : List ℕ) (v : Value) → values_fit kinds side vs ≡ true → value_of name vs ≡ Some v → may_be (declared_kind kinds side name) v ≡ true
 fitting kinds side [] name v fits is = absurd (cc)
 fitting kinds side (w ∷ ws) name v fits is =
     let parts = and_parts (may_be (declared_kind kinds side w.0) w.1) (values_fit kinds side ws) fits in

@@ -1,5 +1,5 @@
 -- What an expression looks at: the values of a task's parts, its priority, its initiator and its sub tasks.
-use Rattle.std.specs.Prelude.{ℕ, Bool, true, false, ◌&&◌, List, [], ◌∷◌, length, count_by, bytes_eq, if◌then◌else◌, Option, Some, None}
+use Rattle.std.specs.Prelude.{ℕ, Bool, true, false, ◌&&◌, List, length, count_by, bytes_eq, Option, Some, None}
 use Rattle.std.specs.List.{list_all}
 use Rattle.ht_base.specs.declared.kind.Kind.{Kind}
 use Rattle.ht_base.specs.declared.state.State.{State}
@@ -7,6 +7,7 @@ use Rattle.ht_base.specs.declared.value.Value.{Value}
 use Rattle.ht_base.specs.declared.value.Value.TheVariants as values
 use Rattle.ht_base.specs.Kinds.{kind_of_value}
 use Rattle.ht_base.specs.State.{is_completed, is_final}
+use Rattle.ht_base.specs.Values.{value_of}
 use Rattle.ht_expr.specs.declared.environment.Env.{Env}
 use Rattle.ht_expr.specs.declared.kinds.Side.{Side}
 use Rattle.ht_expr.specs.declared.kinds.Side.TheVariants.{Input, Output}
@@ -17,14 +18,10 @@ use Rattle.ht_expr.specs.KindTable.{same_kind}
 
 -- ---- parts
 
-abbrev pub value_at : List ℕ → List (List ℕ × Value) → Option Value
-value_at name [] = None
-value_at name (v ∷ vs) = if bytes_eq v.0 name then Some v.1 else value_at name vs
-
 -- the value of a part, if it has one
 abbrev pub given : Env → Side → List ℕ → Option Value
-given env Input name = value_at name env.input
-given env Output name = value_at name env.output
+given env Input name = value_of name env.input
+given env Output name = value_of name env.output
 
 -- the value is of the kind that is declared, if one is
 abbrev pub may_be : Option Kind → Value → Bool
@@ -58,8 +55,8 @@ is_true _ = false
 
 -- completed sub tasks whose output part of this name is set, of kind text, and equal to the text
 abbrev pub text_count : List ℕ → List ℕ → List SubTask → ℕ
-text_count p x subs = count_by (λ s. is_completed s.0 && is_text x (value_at p s.1)) subs
+text_count p x subs = count_by (λ s. is_completed s.0 && is_text x (value_of p s.1)) subs
 
 -- completed sub tasks whose output part of this name is set and true
 abbrev pub true_count : List ℕ → List SubTask → ℕ
-true_count p subs = count_by (λ s. is_completed s.0 && is_true (value_at p s.1)) subs
+true_count p subs = count_by (λ s. is_completed s.0 && is_true (value_of p s.1)) subs

@@ -7,6 +7,7 @@ use Rattle.ht_expr.specs.declared.expected.Symbol.{Symbol}
 use Rattle.ht_expr.specs.declared.expected.Symbol.TheVariants as symbol
 use Rattle.ht_expr.specs.declared.keyword.Keyword.{Keyword}
 use Rattle.ht_expr.specs.declared.keyword.Keyword.TheVariants as keyword
+use Rattle.ht_expr.specs.declared.levels.TheConstants as levels
 use Rattle.ht_expr.specs.declared.operator.Operator.{Operator}
 use Rattle.ht_expr.specs.declared.operator.Operator.TheVariants as operator
 use Rattle.ht_expr.specs.declared.refusal.ExprRefusal.{ExprRefusal}
@@ -62,38 +63,38 @@ abbrev pub opens : ℕ → ℕ → Behind → Option Opening
 opens low high b = Some (record { least = low; most = high; behind = b })
 
 abbrev pub opening_of_word : Keyword → Option Opening
-opening_of_word keyword.If = opens 0 0 behind.Choice
-opening_of_word keyword.Not = opens 0 3 behind.Negated
-opening_of_word keyword.True = opens 0 8 behind.Nothing
-opening_of_word keyword.False = opens 0 8 behind.Nothing
-opening_of_word keyword.Priority = opens 0 8 behind.Nothing
-opening_of_word keyword.Initiator = opens 0 9 behind.Nothing
-opening_of_word keyword.In = opens 0 9 behind.Name
-opening_of_word keyword.Out = opens 0 8 behind.Name
-opening_of_word keyword.Set = opens 0 8 behind.Part
-opening_of_word keyword.Made = opens 0 8 behind.Brackets
-opening_of_word keyword.Finished = opens 0 8 behind.Brackets
-opening_of_word keyword.Done = opens 0 8 behind.Brackets
-opening_of_word keyword.CountText = opens 0 8 behind.Texts
-opening_of_word keyword.CountTrue = opens 0 8 behind.Text
-opening_of_word keyword.Nobody = opens 9 9 behind.Nothing
-opening_of_word keyword.Everybody = opens 9 9 behind.Nothing
-opening_of_word keyword.User = opens 9 9 behind.Text
-opening_of_word keyword.Group = opens 9 9 behind.Text
-opening_of_word keyword.Union = opens 9 9 behind.Operands
-opening_of_word keyword.Intersect = opens 9 9 behind.Operands
-opening_of_word keyword.Except = opens 9 9 behind.Operands
-opening_of_word keyword.When = opens 9 9 behind.Branches
+opening_of_word keyword.If = opens levels.EXPRESSION levels.EXPRESSION behind.Choice
+opening_of_word keyword.Not = opens levels.EXPRESSION levels.NOT behind.Negated
+opening_of_word keyword.True = opens levels.EXPRESSION levels.ATOM behind.Nothing
+opening_of_word keyword.False = opens levels.EXPRESSION levels.ATOM behind.Nothing
+opening_of_word keyword.Priority = opens levels.EXPRESSION levels.ATOM behind.Nothing
+opening_of_word keyword.Initiator = opens levels.EXPRESSION levels.ASSIGNMENT behind.Nothing
+opening_of_word keyword.In = opens levels.EXPRESSION levels.ASSIGNMENT behind.Name
+opening_of_word keyword.Out = opens levels.EXPRESSION levels.ATOM behind.Name
+opening_of_word keyword.Set = opens levels.EXPRESSION levels.ATOM behind.Part
+opening_of_word keyword.Made = opens levels.EXPRESSION levels.ATOM behind.Brackets
+opening_of_word keyword.Finished = opens levels.EXPRESSION levels.ATOM behind.Brackets
+opening_of_word keyword.Done = opens levels.EXPRESSION levels.ATOM behind.Brackets
+opening_of_word keyword.CountText = opens levels.EXPRESSION levels.ATOM behind.Texts
+opening_of_word keyword.CountTrue = opens levels.EXPRESSION levels.ATOM behind.Text
+opening_of_word keyword.Nobody = opens levels.ASSIGNMENT levels.ASSIGNMENT behind.Nothing
+opening_of_word keyword.Everybody = opens levels.ASSIGNMENT levels.ASSIGNMENT behind.Nothing
+opening_of_word keyword.User = opens levels.ASSIGNMENT levels.ASSIGNMENT behind.Text
+opening_of_word keyword.Group = opens levels.ASSIGNMENT levels.ASSIGNMENT behind.Text
+opening_of_word keyword.Union = opens levels.ASSIGNMENT levels.ASSIGNMENT behind.Operands
+opening_of_word keyword.Intersect = opens levels.ASSIGNMENT levels.ASSIGNMENT behind.Operands
+opening_of_word keyword.Except = opens levels.ASSIGNMENT levels.ASSIGNMENT behind.Operands
+opening_of_word keyword.When = opens levels.ASSIGNMENT levels.ASSIGNMENT behind.Branches
 opening_of_word _ = None
 
 abbrev pub opening_of_mark : Mark → Option Opening
-opening_of_mark Open = opens 0 8 behind.Bracketed
-opening_of_mark Minus = opens 0 7 behind.Negative
+opening_of_mark Open = opens levels.EXPRESSION levels.ATOM behind.Bracketed
+opening_of_mark Minus = opens levels.EXPRESSION levels.UNARY behind.Negative
 opening_of_mark _ = None
 
 abbrev pub opening_in : Token → Option Opening
-opening_in (number n) = opens 0 8 behind.Nothing
-opening_in (quoted x) = opens 0 8 behind.Nothing
+opening_in (number n) = opens levels.EXPRESSION levels.ATOM behind.Nothing
+opening_in (quoted x) = opens levels.EXPRESSION levels.ATOM behind.Nothing
 opening_in (word w) = if_some (keyword_in w) opening_of_word
 opening_in (mark m) = opening_of_mark m
 
@@ -105,13 +106,13 @@ symbols behind.Name = symbol.Sign Dot ∷ symbol.Word ∷ []
 symbols behind.Part = symbol.Sign Open ∷ symbol.Part ∷ symbol.Sign Close ∷ []
 symbols behind.Text = symbol.Sign Open ∷ symbol.Text ∷ symbol.Sign Close ∷ []
 symbols behind.Texts = symbol.Sign Open ∷ symbol.Text ∷ symbol.Sign Comma ∷ symbol.Text ∷ symbol.Sign Close ∷ []
-symbols behind.Bracketed = symbol.Tree 0 ∷ symbol.Sign Close ∷ []
-symbols behind.Negated = symbol.Tree 3 ∷ []
-symbols behind.Negative = symbol.Tree 7 ∷ []
-symbols behind.Choice = symbol.Tree 0 ∷ symbol.Then ∷ symbol.Tree 0 ∷ symbol.Else ∷ symbol.Tree 0 ∷ []
-symbols behind.Operands = symbol.Sign Open ∷ symbol.Tree 9 ∷ symbol.Sign Comma ∷ symbol.Tree 9 ∷ symbol.Sign Close ∷ []
+symbols behind.Bracketed = symbol.Tree levels.EXPRESSION ∷ symbol.Sign Close ∷ []
+symbols behind.Negated = symbol.Tree levels.NOT ∷ []
+symbols behind.Negative = symbol.Tree levels.UNARY ∷ []
+symbols behind.Choice = symbol.Tree levels.EXPRESSION ∷ symbol.Then ∷ symbol.Tree levels.EXPRESSION ∷ symbol.Else ∷ symbol.Tree levels.EXPRESSION ∷ []
+symbols behind.Operands = symbol.Sign Open ∷ symbol.Tree levels.ASSIGNMENT ∷ symbol.Sign Comma ∷ symbol.Tree levels.ASSIGNMENT ∷ symbol.Sign Close ∷ []
 symbols behind.Branches =
-    symbol.Sign Open ∷ symbol.Tree 0 ∷ symbol.Sign Comma ∷ symbol.Tree 9 ∷ symbol.Sign Comma ∷ symbol.Tree 9 ∷ symbol.Sign Close ∷ []
+    symbol.Sign Open ∷ symbol.Tree levels.EXPRESSION ∷ symbol.Sign Comma ∷ symbol.Tree levels.ASSIGNMENT ∷ symbol.Sign Comma ∷ symbol.Tree levels.ASSIGNMENT ∷ symbol.Sign Close ∷ []
 
 -- a tree, and then operators that may follow it
 abbrev pub on_opening : ℕ → List Symbol → Opening → Option (List Symbol)

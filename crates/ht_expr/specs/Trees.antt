@@ -7,6 +7,7 @@ use Rattle.ht_expr.specs.declared.keyword.Keyword.{Keyword}
 use Rattle.ht_expr.specs.declared.keyword.Keyword.TheVariants as keyword
 use Rattle.ht_expr.specs.declared.kinds.Side.{Side}
 use Rattle.ht_expr.specs.declared.kinds.Side.TheVariants.{Input, Output}
+use Rattle.ht_expr.specs.declared.levels.TheConstants as levels
 use Rattle.ht_expr.specs.declared.operator.Operator.{Operator}
 use Rattle.ht_expr.specs.declared.operator.Operator.TheVariants as operator
 use Rattle.ht_expr.specs.declared.token.Mark.TheVariants.{Open, Close, Comma, Dot, Plus, Minus, Times, Equal, NotEqual, Less, LessOrEqual, Greater, GreaterOrEqual}
@@ -101,42 +102,42 @@ tokens_of (when c a b) = said keyword.When ∷ mark Open ∷ (tokens_of c ++ (ma
 
 -- ---- where a tree may stand
 
--- The levels of the grammar: 0 expr, 1 or, 2 and, 3 not, 4 cmp, 5 sum, 6 prod, 7 unary, 8 atom. Where one of these is
--- asked for, a tree of a higher one of them may stand. 9 is assign.
+-- The levels of the grammar have the names of its rules. Where a level of expressions is asked for, a tree of a higher
+-- one of them may stand.
 abbrev pub an_expression : ℕ
-an_expression = 0
+an_expression = levels.EXPRESSION
 
 abbrev pub an_assignment : ℕ
-an_assignment = 9
+an_assignment = levels.ASSIGNMENT
 
 -- an operator's own level, and the one that its left operand has at least. The right operand has more than the
 -- operator's own, so operators of one level lean left
 abbrev pub level : Operator → ℕ
-level operator.Or = 1
-level operator.And = 2
-level operator.Equal = 4
-level operator.NotEqual = 4
-level operator.Less = 4
-level operator.LessOrEqual = 4
-level operator.Greater = 4
-level operator.GreaterOrEqual = 4
-level operator.Plus = 5
-level operator.Minus = 5
-level operator.Times = 6
+level operator.Or = levels.OR
+level operator.And = levels.AND
+level operator.Equal = levels.COMPARISON
+level operator.NotEqual = levels.COMPARISON
+level operator.Less = levels.COMPARISON
+level operator.LessOrEqual = levels.COMPARISON
+level operator.Greater = levels.COMPARISON
+level operator.GreaterOrEqual = levels.COMPARISON
+level operator.Plus = levels.SUM
+level operator.Minus = levels.SUM
+level operator.Times = levels.PRODUCT
 
 -- comparisons make no chains
 abbrev pub left : Operator → ℕ
-left operator.Or = 1
-left operator.And = 2
-left operator.Equal = 5
-left operator.NotEqual = 5
-left operator.Less = 5
-left operator.LessOrEqual = 5
-left operator.Greater = 5
-left operator.GreaterOrEqual = 5
-left operator.Plus = 5
-left operator.Minus = 5
-left operator.Times = 6
+left operator.Or = levels.OR
+left operator.And = levels.AND
+left operator.Equal = levels.SUM
+left operator.NotEqual = levels.SUM
+left operator.Less = levels.SUM
+left operator.LessOrEqual = levels.SUM
+left operator.Greater = levels.SUM
+left operator.GreaterOrEqual = levels.SUM
+left operator.Plus = levels.SUM
+left operator.Minus = levels.SUM
+left operator.Times = levels.PRODUCT
 
 -- it is no expression
 abbrev pub only_assigns : Tree → Bool
@@ -152,48 +153,48 @@ only_assigns _ = false
 
 -- the lowest and the highest level that is asked for where it stands
 abbrev pub least : Tree → ℕ
-least e = if only_assigns e then 9 else 0
+least e = if only_assigns e then levels.ASSIGNMENT else levels.EXPRESSION
 
 abbrev pub most : Tree → ℕ
-most (integer n) = 8
-most (text x) = 8
-most (truth b) = 8
-most priority = 8
-most initiator = 9
-most (part Input w) = 9
-most (part Output w) = 8
-most (is_set side w) = 8
-most (count c) = 8
-most (count_text p x) = 8
-most (count_true p) = 8
-most (brackets e) = 8
-most (negative e) = 7
-most (opposite e) = 3
+most (integer n) = levels.ATOM
+most (text x) = levels.ATOM
+most (truth b) = levels.ATOM
+most priority = levels.ATOM
+most initiator = levels.ASSIGNMENT
+most (part Input w) = levels.ASSIGNMENT
+most (part Output w) = levels.ATOM
+most (is_set side w) = levels.ATOM
+most (count c) = levels.ATOM
+most (count_text p x) = levels.ATOM
+most (count_true p) = levels.ATOM
+most (brackets e) = levels.ATOM
+most (negative e) = levels.UNARY
+most (opposite e) = levels.NOT
 most (binary o l r) = level o
-most (choice c a b) = 0
-most nobody = 9
-most everybody = 9
-most (user x) = 9
-most (group x) = 9
-most (union a b) = 9
-most (intersect a b) = 9
-most (except a b) = 9
-most (when c a b) = 9
+most (choice c a b) = levels.EXPRESSION
+most nobody = levels.ASSIGNMENT
+most everybody = levels.ASSIGNMENT
+most (user x) = levels.ASSIGNMENT
+most (group x) = levels.ASSIGNMENT
+most (union a b) = levels.ASSIGNMENT
+most (intersect a b) = levels.ASSIGNMENT
+most (except a b) = levels.ASSIGNMENT
+most (when c a b) = levels.ASSIGNMENT
 
 abbrev pub Stands : ℕ → Tree → Type 0 → Type 0
 Stands p e Holds = (least e ≤ p) × (p ≤ most e) × Holds
 
 -- what it holds stands where it may
 abbrev pub Holds : Tree → Type 0
-Holds (brackets e) = Stands 0 e (Holds e)
-Holds (negative e) = Stands 7 e (Holds e)
-Holds (opposite e) = Stands 3 e (Holds e)
+Holds (brackets e) = Stands levels.EXPRESSION e (Holds e)
+Holds (negative e) = Stands levels.UNARY e (Holds e)
+Holds (opposite e) = Stands levels.NOT e (Holds e)
 Holds (binary o l r) = Stands (left o) l (Holds l) × Stands (level o + 1) r (Holds r)
-Holds (choice c a b) = Stands 0 c (Holds c) × Stands 0 a (Holds a) × Stands 0 b (Holds b)
-Holds (union a b) = Stands 9 a (Holds a) × Stands 9 b (Holds b)
-Holds (intersect a b) = Stands 9 a (Holds a) × Stands 9 b (Holds b)
-Holds (except a b) = Stands 9 a (Holds a) × Stands 9 b (Holds b)
-Holds (when c a b) = Stands 0 c (Holds c) × Stands 9 a (Holds a) × Stands 9 b (Holds b)
+Holds (choice c a b) = Stands levels.EXPRESSION c (Holds c) × Stands levels.EXPRESSION a (Holds a) × Stands levels.EXPRESSION b (Holds b)
+Holds (union a b) = Stands levels.ASSIGNMENT a (Holds a) × Stands levels.ASSIGNMENT b (Holds b)
+Holds (intersect a b) = Stands levels.ASSIGNMENT a (Holds a) × Stands levels.ASSIGNMENT b (Holds b)
+Holds (except a b) = Stands levels.ASSIGNMENT a (Holds a) × Stands levels.ASSIGNMENT b (Holds b)
+Holds (when c a b) = Stands levels.EXPRESSION c (Holds c) × Stands levels.ASSIGNMENT a (Holds a) × Stands levels.ASSIGNMENT b (Holds b)
 Holds _ = ⊤
 
 -- the tree may stand where this level is asked for

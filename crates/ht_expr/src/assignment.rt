@@ -6,7 +6,7 @@ ghost use Rattle.ht_expr.specs.Shown.{shown, shown_answer, AreDeclared};
 ghost use Rattle.ht_expr.specs.Trees.{an_assignment};
 
 use crate::kinding::{is_of_kind, kind_of};
-use crate::{Expr, ExprRefusal, Kinds, Side, building, expected};
+use crate::{Expr, ExprRefusal, Kinds, Side, building, expected, levels};
 use ht_base::{Kind, Txt};
 use std::alloc::Global;
 
@@ -47,7 +47,7 @@ impl Assign {
         ensures exact { IsOnly kinds.now an_assignment text.now (shown_answer result) }
         ensures kinds { IfOk result (AreDeclared kinds.now) }
     {
-        let tokens = expected::whole_tokens(alloc, text, 9)?;
+        let tokens = expected::whole_tokens(alloc, text, levels::ASSIGNMENT)?;
         let assign = building::assignment_of(alloc, &tokens, kinds)?;
         if assign.kinds_fit(kinds) {
             Ok(assign)

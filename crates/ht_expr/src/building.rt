@@ -3,6 +3,7 @@ ghost use Rattle.std.specs.Prelude.{◌≡◌, ◌+◌, ◌≤◌, [], ◌∷◌
 ghost use Rattle.ht_expr.specs.Building.{IsAt, ReadsAssignment, ReadsExpression, ReadsOperands, Spans, all};
 ghost use Rattle.ht_expr.specs.Keywords.{said};
 ghost use Rattle.ht_expr.specs.declared.keyword.Keyword.TheVariants as keyword;
+ghost use Rattle.ht_expr.specs.declared.levels.TheConstants as levels;
 ghost use Rattle.ht_expr.specs.declared.token.Mark.TheVariants.{Open, Close, Dot};
 ghost use Rattle.ht_expr.specs.Scanning.{seen};
 ghost use Rattle.ht_expr.specs.Nodes.{shown_node};
@@ -14,7 +15,7 @@ use crate::expected::{is_said, is_sign, operator_for};
 use crate::keyword::Keyword;
 use crate::node::Node;
 use crate::token::{Mark, Placed, Token};
-use crate::{Assign, Count, Expr, Kinds, Side};
+use crate::{Assign, Count, Expr, Kinds, Side, levels};
 use ht_base::{Memory, Txt};
 use std::alloc::Global;
 
@@ -22,7 +23,7 @@ use std::alloc::Global;
 pub(crate) fn expression_of(alloc: Global, tokens: &[Placed<'_>]) -> Result<Node, Memory>
     ensures { IfOk result (λ e. AreTree an_expression (all tokens.now) (shown_node e)) }
 {
-    let read = expression(alloc, tokens, 0, 0)?;
+    let read = expression(alloc, tokens, 0, levels::EXPRESSION)?;
     if read.next < tokens.len() {
         return Err(Memory);
     }
@@ -78,7 +79,7 @@ impl ReadAssign {
 // An operand, and operators of this level or more with their right operands.
 #[cycle(expressions)]
 fn expression(alloc: Global, tokens: &[Placed<'_>], at: usize, level: u8) -> Result<Read, Memory>
-    requires { level ≤ 7 }
+    requires { level ≤ levels.UNARY }
     ensures { IfOk result (λ r. ReadsExpression tokens.now at level r) }
 {
     let mut read = operand(alloc, tokens, at, level)?;
@@ -100,32 +101,36 @@ fn expression(alloc: Global, tokens: &[Placed<'_>], at: usize, level: u8) -> Res
 
 #[cycle(expressions)]
 fn operand(alloc: Global, tokens: &[Placed<'_>], at: usize, level: u8) -> Result<Read, Memory>
-    requires { level ≤ 7 }
+    requires { level ≤ levels.UNARY }
     ensures { IfOk result (λ r. ReadsExpression tokens.now at level r) }
 {
     let Some(first) = token_at(tokens, at) else {
         return Err(Memory);
     };
     match first {
-        Token::Number(number) => Ok(Read::new(Node::Number(number), 8, at + 1)),
-        Token::Quoted(text) => Ok(Read::new(Node::Text(Txt::of(alloc, text)?), 8, at + 1)),
+        Token::Number(number) => Ok(Read::new(Node::Number(number), levels::ATOM, at + 1)),
+        Token::Quoted(text) => Ok(Read::new(
+            Node::Text(Txt::of(alloc, text)?),
+            levels::ATOM,
+            at + 1,
+        )),
         Token::Word(text) => match Keyword::of(text) {
             Some(keyword) => worded(alloc, tokens, at, level, keyword),
             None => Err(Memory),
         },
         Token::Mark(Mark::Minus) => {
-            let operand = expression(alloc, tokens, at + 1, 7)?;
+            let operand = expression(alloc, tokens, at + 1, levels::UNARY)?;
             Ok(Read::new(
                 Node::Negative(Box::new(alloc, operand.node)?),
-                7,
+                levels::UNARY,
                 operand.next,
             ))
         }
         Token::Mark(Mark::Open) => {
-            let inner = expression(alloc, tokens, at + 1, 0)?;
+            let inner = expression(alloc, tokens, at + 1, levels::EXPRESSION)?;
             Ok(Read::new(
                 Node::Brackets(Box::new(alloc, inner.node)?),
-                8,
+                levels::ATOM,
                 sign(tokens, inner.next, Mark::Close)?,
             ))
         }
@@ -142,20 +147,24 @@ fn worded(
     level: u8,
     keyword: Keyword,
 ) -> Result<Read, Memory>
-    requires level { level ≤ 7 }
+    requires level { level ≤ levels.UNARY }
     requires word { IsAt tokens.now at (said keyword) }
     ensures { IfOk result (λ r. ReadsExpression tokens.now at level r) }
 {
     match keyword {
         Keyword::Not => {
-            if 3 < level {
+            if levels::NOT < level {
                 return Err(Memory);
             }
-            let operand = expression(alloc, tokens, at + 1, 3)?;
-            Ok(Read::new(Node::Not(Box::new(alloc, operand.node)?), 3, operand.next))
+            let operand = expression(alloc, tokens, at + 1, levels::NOT)?;
+            Ok(Read::new(
+                Node::Not(Box::new(alloc, operand.node)?),
+                levels::NOT,
+                operand.next,
+            ))
         }
         Keyword::If => {
-            if 0 < level {
+            if levels::EXPRESSION < level {
                 return Err(Memory);
             }
             conditional(alloc, tokens, at)
@@ -168,35 +177,35 @@ fn worded(
 #[cycle(expressions)]
 fn conditional(alloc: Global, tokens: &[Placed<'_>], at: usize) -> Result<Read, Memory>
     requires { IsAt tokens.now at (said keyword.If) }
-    ensures { IfOk result (λ r. ReadsExpression tokens.now at 0 r) }
+    ensures { IfOk result (λ r. ReadsExpression tokens.now at levels.EXPRESSION r) }
 {
-    let test = expression(alloc, tokens, at + 1, 0)?;
+    let test = expression(alloc, tokens, at + 1, levels::EXPRESSION)?;
     let next = behind(tokens, test.next, "then")?;
-    let then = expression(alloc, tokens, next, 0)?;
+    let then = expression(alloc, tokens, next, levels::EXPRESSION)?;
     let next = behind(tokens, then.next, "else")?;
-    let other = expression(alloc, tokens, next, 0)?;
+    let other = expression(alloc, tokens, next, levels::EXPRESSION)?;
     let node = Node::conditional(alloc, test.node, then.node, other.node)?;
-    Ok(Read::new(node, 0, other.next))
+    Ok(Read::new(node, levels::EXPRESSION, other.next))
 }
 
 // An operand that begins with a keyword and holds no other.
 fn atom(alloc: Global, tokens: &[Placed<'_>], at: usize, keyword: Keyword) -> Result<Read, Memory>
     requires { IsAt tokens.now at (said keyword) }
-    ensures { IfOk result (λ r. ReadsExpression tokens.now at 7 r) }
+    ensures { IfOk result (λ r. ReadsExpression tokens.now at levels.UNARY r) }
 {
     let next = at + 1;
     match keyword {
-        Keyword::True => Ok(Read::new(Node::Truth(true), 8, next)),
-        Keyword::False => Ok(Read::new(Node::Truth(false), 8, next)),
-        Keyword::Priority => Ok(Read::new(Node::Priority, 8, next)),
-        Keyword::Initiator => Ok(Read::new(Node::Initiator, 9, next)),
+        Keyword::True => Ok(Read::new(Node::Truth(true), levels::ATOM, next)),
+        Keyword::False => Ok(Read::new(Node::Truth(false), levels::ATOM, next)),
+        Keyword::Priority => Ok(Read::new(Node::Priority, levels::ATOM, next)),
+        Keyword::Initiator => Ok(Read::new(Node::Initiator, levels::ASSIGNMENT, next)),
         Keyword::In => {
             let (name, next) = name(alloc, tokens, next)?;
-            Ok(Read::new(Node::Part(Side::Input, name), 9, next))
+            Ok(Read::new(Node::Part(Side::Input, name), levels::ASSIGNMENT, next))
         }
         Keyword::Out => {
             let (name, next) = name(alloc, tokens, next)?;
-            Ok(Read::new(Node::Part(Side::Output, name), 8, next))
+            Ok(Read::new(Node::Part(Side::Output, name), levels::ATOM, next))
         }
         Keyword::Set => is_set(alloc, tokens, at),
         Keyword::Made => counted(tokens, at, Count::Made),
@@ -205,7 +214,7 @@ fn atom(alloc: Global, tokens: &[Placed<'_>], at: usize, keyword: Keyword) -> Re
         Keyword::CountText => count_text(alloc, tokens, at),
         Keyword::CountTrue => {
             let (part, next) = text(alloc, tokens, next)?;
-            Ok(Read::new(Node::CountTrue(part), 8, next))
+            Ok(Read::new(Node::CountTrue(part), levels::ATOM, next))
         }
         _ => Err(Memory),
     }
@@ -213,25 +222,33 @@ fn atom(alloc: Global, tokens: &[Placed<'_>], at: usize, keyword: Keyword) -> Re
 
 fn counted(tokens: &[Placed<'_>], at: usize, count: Count) -> Result<Read, Memory>
     requires { IsAt tokens.now at (said (count_word count)) }
-    ensures { IfOk result (λ r. ReadsExpression tokens.now at 7 r) }
+    ensures { IfOk result (λ r. ReadsExpression tokens.now at levels.UNARY r) }
 {
     let next = sign(tokens, at + 1, Mark::Open)?;
-    Ok(Read::new(Node::Count(count), 8, sign(tokens, next, Mark::Close)?))
+    Ok(Read::new(
+        Node::Count(count),
+        levels::ATOM,
+        sign(tokens, next, Mark::Close)?,
+    ))
 }
 
 fn is_set(alloc: Global, tokens: &[Placed<'_>], at: usize) -> Result<Read, Memory>
     requires { IsAt tokens.now at (said keyword.Set) }
-    ensures { IfOk result (λ r. ReadsExpression tokens.now at 7 r) }
+    ensures { IfOk result (λ r. ReadsExpression tokens.now at levels.UNARY r) }
 {
     let next = sign(tokens, at + 1, Mark::Open)?;
     let side = side(tokens, next)?;
     let (name, next) = name(alloc, tokens, next + 1)?;
-    Ok(Read::new(Node::IsSet(side, name), 8, sign(tokens, next, Mark::Close)?))
+    Ok(Read::new(
+        Node::IsSet(side, name),
+        levels::ATOM,
+        sign(tokens, next, Mark::Close)?,
+    ))
 }
 
 fn count_text(alloc: Global, tokens: &[Placed<'_>], at: usize) -> Result<Read, Memory>
     requires { IsAt tokens.now at (said keyword.CountText) }
-    ensures { IfOk result (λ r. ReadsExpression tokens.now at 7 r) }
+    ensures { IfOk result (λ r. ReadsExpression tokens.now at levels.UNARY r) }
 {
     let next = sign(tokens, at + 1, Mark::Open)?;
     let part = quoted(alloc, tokens, next)?;
@@ -239,7 +256,7 @@ fn count_text(alloc: Global, tokens: &[Placed<'_>], at: usize) -> Result<Read, M
     let text = quoted(alloc, tokens, next)?;
     Ok(Read::new(
         Node::CountText(part, text),
-        8,
+        levels::ATOM,
         sign(tokens, next + 1, Mark::Close)?,
     ))
 }
@@ -323,7 +340,7 @@ fn branches(
     ensures { IfOk result (λ r. ReadsAssignment kinds.now tokens.now at r) }
 {
     let next = sign(tokens, at + 1, Mark::Open)?;
-    let test = expression(alloc, tokens, next, 0)?;
+    let test = expression(alloc, tokens, next, levels::EXPRESSION)?;
     let next = sign(tokens, test.next, Mark::Comma)?;
     let then = assignment(alloc, tokens, kinds, next)?;
     let next = sign(tokens, then.next, Mark::Comma)?;

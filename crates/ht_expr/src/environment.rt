@@ -1,4 +1,5 @@
 ghost use Rattle.std.specs.Prelude.{◌≡◌, [], ◌∷◌, ◌++◌, IfOk, OnOk, OnErr, option_map};
+ghost use Rattle.ht_base.specs.Values.{value_of};
 ghost use Rattle.ht_expr.specs.Environment as environment;
 
 use crate::kinding::is_of_kind;
@@ -83,7 +84,7 @@ impl Env {
 
 /// The value at this name, if there is one.
 pub(crate) fn value_at<'a>(values: &'a Values, name: &[u8]) -> Option<&'a Value>
-    ensures { option_map (λ v. v.now) result ≡ environment.value_at name.now values.now }
+    ensures { option_map (λ v. v.now) result ≡ value_of name.now values.now }
 {
     for (part, value) in values.as_slice() {
         if part.as_bytes() == name {

@@ -1,5 +1,6 @@
 //! One machine for both grammars: what is still expected of a text.
 ghost use Rattle.std.specs.Prelude.{◌≡◌, ◌+◌, ◌∷◌, ◌++◌, Some, None, false, ◌≤◌, reverse, map, IfErr, IfOk, IfSome, IsTrue};
+ghost use Rattle.ht_expr.specs.declared.levels.TheConstants as levels;
 ghost use Rattle.ht_expr.specs.Expected.{Checks, if_some, is_done, is_said, is_side, is_sign, is_text, is_word, next};
 ghost use Rattle.ht_expr.specs.Expected.{on_opening, on_part, opening_in, opening_of_mark, opening_of_word, operator_for, symbols};
 ghost use Rattle.ht_expr.specs.Trees as trees;
@@ -11,7 +12,7 @@ ghost use Rattle.ht_expr.specs.Scanning.{placed, seen};
 use crate::keyword::Keyword;
 use crate::operator::Operator;
 use crate::token::{Mark, Placed, Token};
-use crate::{ExprRefusal, scanning};
+use crate::{ExprRefusal, levels, scanning};
 use std::alloc::{AllocError, Global};
 
 /// What is still expected.
@@ -74,7 +75,11 @@ impl Opening {
         ensures { result ≡ opening_in (seen token.entry) }
     {
         match token {
-            Token::Number(_) | Token::Quoted(_) => Some(Opening::new(0, 8, Behind::Nothing)),
+            Token::Number(_) | Token::Quoted(_) => Some(Opening::new(
+                levels::EXPRESSION,
+                levels::ATOM,
+                Behind::Nothing,
+            )),
             Token::Word(word) => Opening::of_word(Keyword::of(word)?),
             Token::Mark(mark) => Opening::of_mark(mark),
         }
@@ -84,8 +89,8 @@ impl Opening {
         ensures { result ≡ opening_of_mark mark }
     {
         match mark {
-            Mark::Open => Some(Opening::new(0, 8, Behind::Bracketed)),
-            Mark::Minus => Some(Opening::new(0, 7, Behind::Negative)),
+            Mark::Open => Some(Opening::new(levels::EXPRESSION, levels::ATOM, Behind::Bracketed)),
+            Mark::Minus => Some(Opening::new(levels::EXPRESSION, levels::UNARY, Behind::Negative)),
             _ => None,
         }
     }
@@ -94,20 +99,40 @@ impl Opening {
         ensures { result ≡ opening_of_word keyword }
     {
         let (least, most, behind) = match keyword {
-            Keyword::If => (0, 0, Behind::Choice),
-            Keyword::Not => (0, 3, Behind::Negated),
-            Keyword::True | Keyword::False | Keyword::Priority => (0, 8, Behind::Nothing),
-            Keyword::Initiator => (0, 9, Behind::Nothing),
-            Keyword::In => (0, 9, Behind::Name),
-            Keyword::Out => (0, 8, Behind::Name),
-            Keyword::Set => (0, 8, Behind::Part),
-            Keyword::Made | Keyword::Finished | Keyword::Done => (0, 8, Behind::Brackets),
-            Keyword::CountText => (0, 8, Behind::Texts),
-            Keyword::CountTrue => (0, 8, Behind::Text),
-            Keyword::Nobody | Keyword::Everybody => (9, 9, Behind::Nothing),
-            Keyword::User | Keyword::Group => (9, 9, Behind::Text),
-            Keyword::Union | Keyword::Intersect | Keyword::Except => (9, 9, Behind::Operands),
-            Keyword::When => (9, 9, Behind::Branches),
+            Keyword::If => (levels::EXPRESSION, levels::EXPRESSION, Behind::Choice),
+            Keyword::Not => (levels::EXPRESSION, levels::NOT, Behind::Negated),
+            Keyword::True | Keyword::False | Keyword::Priority => (
+                levels::EXPRESSION,
+                levels::ATOM,
+                Behind::Nothing,
+            ),
+            Keyword::Initiator => (levels::EXPRESSION, levels::ASSIGNMENT, Behind::Nothing),
+            Keyword::In => (levels::EXPRESSION, levels::ASSIGNMENT, Behind::Name),
+            Keyword::Out => (levels::EXPRESSION, levels::ATOM, Behind::Name),
+            Keyword::Set => (levels::EXPRESSION, levels::ATOM, Behind::Part),
+            Keyword::Made | Keyword::Finished | Keyword::Done => (
+                levels::EXPRESSION,
+                levels::ATOM,
+                Behind::Brackets,
+            ),
+            Keyword::CountText => (levels::EXPRESSION, levels::ATOM, Behind::Texts),
+            Keyword::CountTrue => (levels::EXPRESSION, levels::ATOM, Behind::Text),
+            Keyword::Nobody | Keyword::Everybody => (
+                levels::ASSIGNMENT,
+                levels::ASSIGNMENT,
+                Behind::Nothing,
+            ),
+            Keyword::User | Keyword::Group => (
+                levels::ASSIGNMENT,
+                levels::ASSIGNMENT,
+                Behind::Text,
+            ),
+            Keyword::Union | Keyword::Intersect | Keyword::Except => (
+                levels::ASSIGNMENT,
+                levels::ASSIGNMENT,
+                Behind::Operands,
+            ),
+            Keyword::When => (levels::ASSIGNMENT, levels::ASSIGNMENT, Behind::Branches),
             Keyword::Then | Keyword::Else | Keyword::Or | Keyword::And => return None,
         };
         Some(Opening::new(least, most, behind))
@@ -120,7 +145,7 @@ pub(crate) fn whole_tokens(
     text: &str,
     level: u8,
 ) -> Result<Vec<Placed<'_>>, ExprRefusal>
-    requires { level ≤ 9 }
+    requires { level ≤ levels.ASSIGNMENT }
     ensures tokens { IfOk result (λ tokens. HasTokens text.now (map placed tokens.items)) }
     ensures refused { IfErr result (λ e. (kinds : Declared) → Reads kinds level text.now (Err e)) }
 {
@@ -216,8 +241,8 @@ fn expect(expected: &mut Vec<Symbol>, behind: Behind) -> Result<(), AllocError>
     let open = Symbol::Sign(Mark::Open);
     let close = Symbol::Sign(Mark::Close);
     let comma = Symbol::Sign(Mark::Comma);
-    let expression = Symbol::Tree(0);
-    let assignment = Symbol::Tree(9);
+    let expression = Symbol::Tree(levels::EXPRESSION);
+    let assignment = Symbol::Tree(levels::ASSIGNMENT);
     match behind {
         Behind::Nothing => Ok(()),
         Behind::Brackets => expected.extend_from_slice(&[close, open]),
@@ -228,8 +253,8 @@ fn expect(expected: &mut Vec<Symbol>, behind: Behind) -> Result<(), AllocError>
             expected.extend_from_slice(&[close, Symbol::Text, comma, Symbol::Text, open])
         }
         Behind::Bracketed => expected.extend_from_slice(&[close, expression]),
-        Behind::Negated => expected.extend_from_slice(&[Symbol::Tree(3)]),
-        Behind::Negative => expected.extend_from_slice(&[Symbol::Tree(7)]),
+        Behind::Negated => expected.extend_from_slice(&[Symbol::Tree(levels::NOT)]),
+        Behind::Negative => expected.extend_from_slice(&[Symbol::Tree(levels::UNARY)]),
         Behind::Choice => expected.extend_from_slice(&[
             expression,
             Symbol::Else,

@@ -9,7 +9,7 @@ ghost use Rattle.ht_expr.specs.Values as values;
 
 use crate::node::Node;
 use crate::operating::{number, truth};
-use crate::{Env, ExprRefusal, Kinds, building, evaluating, expected, kinding};
+use crate::{Env, ExprRefusal, Kinds, building, evaluating, expected, kinding, levels};
 use ht_base::{Kind, Memory};
 use std::alloc::Global;
 use std::marker::Model;
@@ -43,7 +43,7 @@ impl Expr {
         ensures kinds { IfOk result (λ e. e.kinds ≡ kinds.now) }
         ensures kind { IfOk result (λ e. IsSome (kind_of e.kinds e.tree)) }
     {
-        let tokens = expected::whole_tokens(alloc, text, 0)?;
+        let tokens = expected::whole_tokens(alloc, text, levels::EXPRESSION)?;
         let node = building::expression_of(alloc, &tokens)?;
         match kinding::kind_of(&node, kinds) {
             Some(_) => Ok(Expr {

@@ -10,6 +10,7 @@ ghost use Rattle.ht_expr.specs.Reading.{AreWritable, IsWritten, Reads};
 ghost use Rattle.ht_expr.specs.Trees.{Fits, Tree, tokens_of};
 ghost use Rattle.ht_expr.specs.Values.{kind_of_outcome, value};
 ghost use Rattle.ht_expr.specs.declared.environment.Env.{Env};
+ghost use Rattle.ht_expr.specs.declared.levels.TheConstants as levels;
 ghost use Rattle.ht_expr.specs.declared.refusal.ExprRefusal.{ExprRefusal};
 
 /// But for want of memory each text has one answer, as an expression and as an assignment, which are
@@ -20,7 +21,8 @@ pub fn each_text_has_one_answer()
     ensures one { (kinds : Declared) (level : ℕ) (text : List ℕ) (a b : Result Tree ExprRefusal)
         → Reads kinds level text a → Reads kinds level text b → a ≢ Err ExprRefusal.Memory
         → b ≢ Err ExprRefusal.Memory → a ≡ b }
-    ensures some { (kinds : Declared) (level : ℕ) (text : List ℕ) → level ≤ 9 → IsUtf8 text
+    ensures some { (kinds : Declared) (level : ℕ) (text : List ℕ) → level ≤ levels.ASSIGNMENT
+        → IsUtf8 text
         → (a : Result Tree ExprRefusal) × Reads kinds level text a × (a ≢ Err ExprRefusal.Memory) }
 {}
 

@@ -15,6 +15,7 @@ mod keyword;
 mod kinding;
 mod kinds;
 mod laws;
+mod levels;
 mod node;
 mod operating;
 mod operator;

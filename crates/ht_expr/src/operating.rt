@@ -121,10 +121,7 @@ fn is_equal(left: Held<'_>, right: Held<'_>) -> Option<bool>
     ensures { result ≡ values.is_equal (outcome left.entry) (outcome right.entry) }
 {
     match left {
-        Held::Text(left) => match text(right) {
-            Some(right) => Some(left == right),
-            None => None,
-        },
+        Held::Text(left) => Some(left == text(right)?),
         Held::Number(left) => Some(left == number(right)?),
         Held::Truth(left) => Some(is_same(left, truth(right)?)),
         Held::Person(left) => Some(is_same_person(left, person(right)?)),

@@ -1,9 +1,11 @@
 ghost use Rattle.std.specs.Prelude.{◌≡◌, ◌≤◌};
+ghost use Rattle.ht_expr.specs.declared.levels.TheConstants as levels;
 ghost use Rattle.ht_expr.specs.Expected.{operator_in, operator_of_mark, operator_of_word};
 ghost use Rattle.ht_expr.specs.Scanning.{seen};
 ghost use Rattle.ht_expr.specs.Trees.{left, level};
 
 use crate::keyword::Keyword;
+use crate::levels;
 use crate::token::{Mark, Token};
 
 /// What stands between two operands.
@@ -64,19 +66,19 @@ impl Operator {
     /// How tightly it binds its operands.
     pub(crate) fn level(self) -> u8
         ensures value { result ≡ level self }
-        ensures most { result ≤ 6 }
+        ensures most { result ≤ levels.PRODUCT }
     {
         match self {
-            Operator::Or => 1,
-            Operator::And => 2,
+            Operator::Or => levels::OR,
+            Operator::And => levels::AND,
             Operator::Equal
             | Operator::NotEqual
             | Operator::Less
             | Operator::LessOrEqual
             | Operator::Greater
-            | Operator::GreaterOrEqual => 4,
-            Operator::Plus | Operator::Minus => 5,
-            Operator::Times => 6,
+            | Operator::GreaterOrEqual => levels::COMPARISON,
+            Operator::Plus | Operator::Minus => levels::SUM,
+            Operator::Times => levels::PRODUCT,
         }
     }
 
@@ -90,7 +92,7 @@ impl Operator {
             | Operator::Less
             | Operator::LessOrEqual
             | Operator::Greater
-            | Operator::GreaterOrEqual => 5,
+            | Operator::GreaterOrEqual => levels::SUM,
             _ => self.level(),
         }
     }

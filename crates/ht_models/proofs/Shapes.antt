@@ -5,7 +5,8 @@ use Rattle.toml.specs.Data.{Data, Members}
 use Rattle.ht_base.specs.Places.{IsLeast}
 use Rattle.ht_toml.specs.Entries as shape
 use Rattle.ht_toml.specs.Entries.{each}
-use Rattle.ht_toml.specs.Tables.{array_at, has_only}
+use Rattle.ht_toml.specs.Keys.{required}
+use Rattle.ht_toml.specs.Tables.{entries_of, has_only}
 use Rattle.ht_toml.proofs.PublicLaws.{all_there}
 use Rattle.ht_entries.specs.ModelEntries.{ModelEntry, entry_of}
 use Rattle.ht_models.specs.ModelsText.{IsMisshapen, entries, has_entry, is_top, models_text}
@@ -38,7 +39,7 @@ read_whole ms ds t top same read = rw (top, ← same) read
 
 -- a document of its shape has an entry
 pub some_entry : (ms : Members) (t : List ModelEntry) → models_text ms ≡ Some t → 1 ≤ length t
-some_entry ms t is = here (has_only (codes "model" ∷ []) ms) (array_at (codes "model") ms) is
+some_entry ms t is = here (has_only (codes "model" ∷ []) ms) (required entries_of (codes "model") ms) is
   where
     longer : (o : Option ModelEntry) (r : Option (List ModelEntry)) → option_and_then (λ e. option_map (λ es. e ∷ es) r) o ≡ Some t → 1 ≤ length t
     longer None r is = cc

@@ -1,6 +1,6 @@
 -- The texts of a model that are read as expressions or assignments, what each is asked to be, and
 -- which is none.
-use Rattle.std.specs.Prelude.{◌≡◌, ◌⊎◌, ℕ, List, [], ◌∷◌, ◌++◌, map, Option, Some, None, Ok, bytes_eq, if◌then◌else◌}
+use Rattle.std.specs.Prelude.{◌≡◌, ◌⊎◌, ℕ, List, [], ◌∷◌, ◌++◌, Option, Some, None, Ok, bytes_eq, if◌then◌else◌}
 use Rattle.std.specs.List.{flat_map}
 use Rattle.ht_base.specs.declared.kind.Kind.{Kind}
 use Rattle.ht_base.specs.declared.kind.Kind.TheVariants.{Int, Truth}
@@ -8,11 +8,11 @@ use Rattle.ht_expr.specs.Kinds.{Declared}
 use Rattle.ht_expr.specs.KindTable.{kind_of}
 use Rattle.ht_expr.specs.Reading as expression_reads
 use Rattle.ht_expr.specs.Trees.{Tree, an_assignment, an_expression}
-use Rattle.ht_expr.specs.declared.kinds.Side.TheVariants.{Input, Output}
 use Rattle.ht_entries.specs.Deadlines.{DeadlineText, EscalationText}
 use Rattle.ht_entries.specs.Finishes.{FinishText}
 use Rattle.ht_entries.specs.ModelEntries.{ModelEntry}
 use Rattle.ht_entries.specs.Parts.{Part}
+use Rattle.ht_models.specs.Kinded.{parts_of}
 
 -- an expression of a kind, or an assignment
 pub data Asked : Type 0 where
@@ -47,7 +47,7 @@ expressions m =
 
 -- the parts of which they may speak
 abbrev pub declared : ModelEntry → Declared
-declared m = map (λ p. (Input, p.name, p.kind)) m.input ++ map (λ p. (Output, p.name, p.kind)) m.output
+declared m = parts_of m.input m.output
 
 -- the kind of the part of this name among these
 abbrev pub kind_among : List ℕ → List Part → Option Kind

@@ -4,7 +4,8 @@ use Rattle.toml.specs.Data.{Data, Members}
 use Rattle.ht_toml.specs.Documents.{Says}
 use Rattle.ht_toml.specs.Entries as shape
 use Rattle.ht_toml.specs.Entries.{each}
-use Rattle.ht_toml.specs.Tables.{array_at, has_only}
+use Rattle.ht_toml.specs.Keys.{required}
+use Rattle.ht_toml.specs.Tables.{entries_of, has_only}
 use Rattle.ht_entries.specs.ModelEntries.{ModelEntry, entry_of}
 
 -- the one top key is model, an array with at least one entry
@@ -14,10 +15,10 @@ has_entry (Some []) = false
 has_entry (Some (d ∷ ds)) = true
 
 abbrev pub is_top : Members → Bool
-is_top ms = has_only (codes "model" ∷ []) ms && has_entry (array_at (codes "model") ms)
+is_top ms = has_only (codes "model" ∷ []) ms && has_entry (required entries_of (codes "model") ms)
 
 abbrev pub entries : Members → List Data
-entries ms = unwrap_or (array_at (codes "model") ms) []
+entries ms = unwrap_or (required entries_of (codes "model") ms) []
 
 -- what the document says, where all of it has its shape
 abbrev pub models_text : Members → Option (List ModelEntry)

@@ -14,7 +14,8 @@ use crate::ModelsRefusal;
 use crate::repeats::repeats_name;
 use ht_base::{IndexFault, Memory, Name, name_places};
 use ht_entries::ModelEntry;
-use std::alloc::{AllocError, Global};
+use ht_toml::names_of;
+use std::alloc::Global;
 use std::collections::BTreeMap;
 
 /// The place of each model by its name, or the first whose name an earlier one has or in which names
@@ -50,16 +51,6 @@ fn first_that_repeats(alloc: Global, entries: &[ModelEntry]) -> Result<Option<us
         }
     }
     Ok(None)
-}
-
-fn names_of(alloc: Global, entries: &[ModelEntry]) -> Result<Vec<Name>, AllocError>
-    ensures { IfOk result (λ names. names.items ≡ spec.names_of entries.now) }
-{
-    let mut names = Vec::with_capacity(alloc, entries.len())?;
-    for entry in entries {
-        names.push(entry.name)?;
-    }
-    Ok(names)
 }
 
 /// Refuses a model that names one which isn't in the text.

@@ -1,9 +1,10 @@
-ghost use Rattle.std.specs.Prelude.{◌≡◌, ℕ, List, IfOk, map};
+ghost use Rattle.std.specs.Prelude.{◌≡◌, IfOk, map};
 ghost use Rattle.std.specs.List.{list_any};
 ghost use Rattle.ht_models.specs.Repeats as spec;
 
-use ht_base::{IndexFault, Memory, Name, name_places};
-use ht_entries::{DeadlineText, EscalationText, ModelEntry, Part, SubEntry};
+use ht_base::{IndexFault, Memory, name_places};
+use ht_entries::{DeadlineText, ModelEntry};
+use ht_toml::{Named, names_of};
 use std::alloc::Global;
 
 /// Whether two parts of one side, two sub entries, two deadlines, or two escalations of one deadline
@@ -31,14 +32,6 @@ fn repeats_escalation(alloc: Global, deadlines: &[DeadlineText]) -> Result<bool,
     Ok(false)
 }
 
-/// What has a name.
-pub trait Named {
-    ghost name_of: { Self → List ℕ };
-
-    fn name(&self) -> Name
-        ensures { result ≡ name_of self.now };
-}
-
 fn has_repeat<T: Named>(alloc: Global, items: &[T]) -> Result<bool, Memory>
     ensures { IfOk result (λ repeats. repeats ≡ spec.has_repeat (map T.name_of items.now)) }
 {
@@ -47,47 +40,5 @@ fn has_repeat<T: Named>(alloc: Global, items: &[T]) -> Result<bool, Memory>
         Ok(_) => Ok(false),
         Err(IndexFault::Repeated(_)) => Ok(true),
         Err(IndexFault::Memory) => Err(Memory),
-    }
-}
-
-fn names_of<T: Named>(alloc: Global, items: &[T]) -> Result<Vec<Name>, Memory>
-    ensures { IfOk result (λ names. names.items ≡ map T.name_of items.now) }
-{
-    let mut names = Vec::new(alloc);
-    for item in items {
-        names.push(item.name())?;
-    }
-    Ok(names)
-}
-
-impl Named for Part {
-    ghost name_of = { λ p. p.name };
-
-    fn name(&self) -> Name {
-        self.name
-    }
-}
-
-impl Named for SubEntry {
-    ghost name_of = { λ s. s.name };
-
-    fn name(&self) -> Name {
-        self.name
-    }
-}
-
-impl Named for DeadlineText {
-    ghost name_of = { λ d. d.name };
-
-    fn name(&self) -> Name {
-        self.name
-    }
-}
-
-impl Named for EscalationText {
-    ghost name_of = { λ e. e.name };
-
-    fn name(&self) -> Name {
-        self.name
     }
 }

@@ -6,12 +6,12 @@ use Rattle.ht_base.proofs.PublicLaws.{neither}
 use Rattle.ht_toml.specs.Entries as shape
 use Rattle.ht_toml.specs.Entries.{each}
 use Rattle.ht_toml.specs.Refusals.{Passes, refused}
-use Rattle.ht_toml.specs.Tables.{entries_at, has_only}
+use Rattle.ht_toml.specs.Tables.{has_only}
 use Rattle.ht_toml.proofs.PublicLaws.{all_there}
 use Rattle.ht_people.specs.declared.refusal.PeopleRefusal.{PeopleRefusal}
 use Rattle.ht_people.specs.declared.refusal.PeopleRefusal.TheVariants.{Field, Memory}
 use Rattle.ht_people.specs.declared.entries.PersonEntry.{PersonEntry}
-use Rattle.ht_people.specs.PeopleText.{GroupText, HasShapeFault, IsMisshapen, PeopleTextOf, group_entries, group_of, is_top, person_entries, person_of, read_entries, text_of}
+use Rattle.ht_people.specs.PeopleText.{GroupText, HasShapeFault, IsMisshapen, PeopleTextOf, entries_at, group_entries, group_of, is_top, person_entries, person_of, read_entries, text_of}
 
 both_read : (persons groups : List Data) (t : PeopleTextOf) → read_entries persons groups ≡ Some t → (ps : List PersonEntry) × (gs : List GroupText) × (each person_of persons ≡ Some ps) × (each group_of groups ≡ Some gs)
 both_read persons groups t h = at (each person_of persons) (each group_of groups) refl refl h

@@ -2,12 +2,14 @@
 -- (people assignment, WS-HumanTask 1.1, 3.5).
 use Rattle.std.specs.Prelude.{◌≡◌, ◌⊎◌, ℕ, ◌==◌, ◌&&◌, Bool, false, List, [], ◌∷◌, length, Option, None, is_some, option_map, unwrap_or, codes, if◌then◌else◌}
 use Rattle.std.specs.Option.{option_and_then}
-use Rattle.toml.specs.Data.{Data, Members, as_str, as_table}
+use Rattle.toml.specs.Data.{Data, Members, as_bool, as_str, as_table}
 use Rattle.ht_base.specs.Name.{name_of}
 use Rattle.ht_base.specs.Places.{Behind}
 use Rattle.ht_toml.specs.Entries as shape
 use Rattle.ht_toml.specs.Entries.{each}
-use Rattle.ht_toml.specs.Tables.{array_at, entries_at, has_only, name_at, truth_at}
+use Rattle.ht_toml.specs.Keys.{◌also◌, keyed, otherwise, required}
+use Rattle.ht_toml.specs.Tables.{entries_of, has_only}
+use Rattle.ht_toml.specs.Values.{list_of, named}
 use Rattle.ht_people.specs.declared.entries.MemberName.{MemberName}
 use Rattle.ht_people.specs.declared.entries.MemberName.TheVariants as member
 use Rattle.ht_people.specs.declared.entries.PersonEntry.{PersonEntry}
@@ -33,11 +35,11 @@ member_of d = option_and_then member_of_text (as_str d)
 abbrev pub person_with : List ℕ → Bool → PersonEntry
 person_with name operator = record { name = name; operator = operator }
 
+abbrev pub person_values : Members → Option PersonEntry
+person_values ms = option_map person_with (required named (codes "name") ms) also otherwise false as_bool (codes "operator") ms
+
 abbrev pub person_in : Members → Option PersonEntry
-person_in ms =
-    if has_only (codes "name" ∷ codes "operator" ∷ []) ms
-    then option_and_then (λ name. option_map (person_with name) (truth_at (codes "operator") false ms)) (name_at (codes "name") ms)
-    else None
+person_in ms = keyed (codes "name" ∷ codes "operator" ∷ []) person_values ms
 
 abbrev pub person_of : Data → Option PersonEntry
 person_of d = option_and_then person_in (as_table d)
@@ -46,16 +48,22 @@ person_of d = option_and_then person_in (as_table d)
 abbrev pub group_with : List ℕ → List MemberName → GroupText
 group_with name members = record { name = name; members = members }
 
+abbrev pub members_in : Members → Option (List MemberName)
+members_in ms = required (list_of member_of) (codes "members") ms
+
+abbrev pub group_values : Members → Option GroupText
+group_values ms = option_map group_with (required named (codes "name") ms) also members_in ms
+
 abbrev pub group_in : Members → Option GroupText
-group_in ms =
-    if has_only (codes "name" ∷ codes "members" ∷ []) ms
-    then option_and_then (λ name. option_map (group_with name) (option_and_then (each member_of) (array_at (codes "members") ms))) (name_at (codes "name") ms)
-    else None
+group_in ms = keyed (codes "name" ∷ codes "members" ∷ []) group_values ms
 
 abbrev pub group_of : Data → Option GroupText
 group_of d = option_and_then group_in (as_table d)
 
 -- the entries of the arrays person and group, of which either may be missing
+abbrev pub entries_at : List ℕ → Members → Option (List Data)
+entries_at key ms = otherwise [] entries_of key ms
+
 abbrev pub person_entries : Members → List Data
 person_entries ms = unwrap_or (entries_at (codes "person") ms) []
 

@@ -1,4 +1,4 @@
-ghost use Rattle.std.specs.Prelude.{◌≡◌, ◌<◌, ◌^◌, IfOk, Some, length, map};
+ghost use Rattle.std.specs.Prelude.{◌≡◌, ◌<◌, ◌^◌, IfErr, IfOk, None, Some, length, map};
 ghost use Rattle.toml.specs.View.{table_view, view};
 ghost use Rattle.ht_toml.specs.Refusals.{Passes, refused};
 ghost use Rattle.ht_people.specs.PeopleText as spec;
@@ -6,7 +6,10 @@ ghost use Rattle.ht_people.specs.PeopleText.{HasShapeFault, IsMisshapen};
 
 use crate::PeopleRefusal;
 use ht_base::{Key, Name};
-use ht_toml::{EntriesFault, Shape, array_at, each, entries_at, has_only, name_at, truth_at};
+use ht_toml::{
+    EntriesFault, Misfit, Named, Shape, TableShape, array_at, each, entries_at, has_only,
+    otherwise, required, table_shape,
+};
 use std::alloc::{AllocError, Global};
 use std::marker::Model;
 use toml::{Table, Value};
@@ -17,6 +20,14 @@ pub struct PersonEntry {
     pub name: Name,
     /// Whether the person operates the server.
     pub operator: bool,
+}
+
+impl Named for PersonEntry {
+    ghost name_of = { λ p. p.name };
+
+    fn name(&self) -> Name {
+        self.name
+    }
 }
 
 /// A member of a group, by the name that is written.
@@ -51,6 +62,14 @@ impl Model for GroupEntry {
     ghost Value = { GroupText };
 
     ghost view = { λ g. record { name = g.name; members = g.members.items } };
+}
+
+impl Named for GroupEntry {
+    ghost name_of = { λ g. g.name };
+
+    fn name(&self) -> Name {
+        self.name
+    }
 }
 
 /// What a people text says, entry by entry.
@@ -117,23 +136,25 @@ impl Shape for PersonEntry {
 
     ghost of = { person_of };
 
-    fn read(_alloc: Global, value: &Value) -> Result<Option<PersonEntry>, AllocError> {
-        match value.as_table() {
-            Some(table) => Ok(person_in(table)),
-            None => Ok(None),
-        }
+    fn read(alloc: Global, value: &Value) -> Result<Option<PersonEntry>, AllocError> {
+        table_shape(alloc, value)
     }
 }
 
-fn person_in(table: &Table) -> Option<PersonEntry>
-    ensures { result ≡ spec.person_in (table_view table.now) }
-{
-    if !has_only(table, &["name", "operator"]) {
-        return None;
+impl TableShape for PersonEntry {
+    ghost use Rattle.ht_people.specs.PeopleText.{person_in};
+
+    ghost in_table = { person_in };
+
+    fn read_table(alloc: Global, table: &Table) -> Result<PersonEntry, Misfit> {
+        if !has_only(table, &["name", "operator"]) {
+            return Err(Misfit::Shape);
+        }
+        Ok(PersonEntry {
+            name: required(alloc, table, "name")?,
+            operator: otherwise(alloc, table, "operator", false)?,
+        })
     }
-    let name = name_at(table, "name")?;
-    let operator = truth_at(table, "operator", false)?;
-    Some(PersonEntry { name, operator })
 }
 
 impl Shape for GroupEntry {
@@ -142,29 +163,39 @@ impl Shape for GroupEntry {
     ghost of = { group_of };
 
     fn read(alloc: Global, value: &Value) -> Result<Option<GroupEntry>, AllocError> {
-        match value.as_table() {
-            Some(table) => group_in(alloc, table),
-            None => Ok(None),
-        }
+        table_shape(alloc, value)
     }
 }
 
-fn group_in(alloc: Global, table: &Table) -> Result<Option<GroupEntry>, AllocError>
-    ensures { IfOk result (λ group. group ≡ spec.group_in (table_view table.now)) }
-{
-    if !has_only(table, &["name", "members"]) {
-        return Ok(None);
+impl TableShape for GroupEntry {
+    ghost use Rattle.ht_people.specs.PeopleText.{group_in};
+
+    ghost in_table = { group_in };
+
+    fn read_table(alloc: Global, table: &Table) -> Result<GroupEntry, Misfit> {
+        if !has_only(table, &["name", "members"]) {
+            return Err(Misfit::Shape);
+        }
+        Ok(GroupEntry {
+            name: required(alloc, table, "name")?,
+            members: members_in(alloc, table)?,
+        })
     }
-    let Some(name) = name_at(table, "name") else {
-        return Ok(None);
-    };
+}
+
+fn members_in(alloc: Global, table: &Table) -> Result<Vec<MemberName>, Misfit>
+    ensures ok { IfOk result
+        (λ members. spec.members_in (table_view table.now) ≡ Some members.items) }
+    ensures misfit { IfErr result
+        (λ e. e ≡ Misfit.Shape → spec.members_in (table_view table.now) ≡ None) }
+{
     let Some(members) = array_at(table, "members") else {
-        return Ok(None);
+        return Err(Misfit::Shape);
     };
     match each(alloc, members) {
-        Ok(members) => Ok(Some(GroupEntry { name, members })),
-        Err(EntriesFault::Misshapen(_)) => Ok(None),
-        Err(EntriesFault::Memory) => Err(AllocError),
+        Ok(members) => Ok(members),
+        Err(EntriesFault::Misshapen(_)) => Err(Misfit::Shape),
+        Err(EntriesFault::Memory) => Err(Misfit::Memory),
     }
 }
 
@@ -186,14 +217,8 @@ fn member_of_text(text: &[u8]) -> Option<MemberName>
 {
     if let Some((first, rest)) = text.split_first() {
         if *first == b'@' {
-            return match Name::of(rest) {
-                Some(name) => Some(MemberName::Group(name)),
-                None => None,
-            };
+            return Some(MemberName::Group(Name::of(rest)?));
         }
     }
-    match Name::of(text) {
-        Some(name) => Some(MemberName::Person(name)),
-        None => None,
-    }
+    Some(MemberName::Person(Name::of(text)?))
 }

@@ -9,6 +9,7 @@ ghost use Rattle.ht_people.specs.Refusals.{HasTwiceMember, IsTwice, IsTwiceGroup
 use crate::PeopleRefusal;
 use crate::entries::{GroupEntry, PeopleText, PersonEntry};
 use ht_base::{IndexFault, Name, index, name_places};
+use ht_toml::names_of;
 use std::alloc::{AllocError, Global};
 use std::collections::BTreeMap;
 
@@ -49,14 +50,8 @@ fn person_places(
         (place : ℕ) → fault ≡ IndexFault.Repeated place
         → IsLeast (IsRepeated (map (λ p. p.name) persons.now)) place) }
 {
-    let names = names_of_persons(alloc, persons)?;
+    let names = names_of(alloc, persons)?;
     name_places(alloc, &names)
-}
-
-fn names_of_persons(alloc: Global, persons: &[PersonEntry]) -> Result<Vec<Name>, AllocError>
-    ensures { IfOk result (λ names. names.items ≡ map (λ p. p.name) persons.now) }
-{
-    persons.iter().map(|person| person.name).collect(alloc)
 }
 
 // The places of the groups, of which none may have a member twice.
@@ -68,7 +63,7 @@ fn group_places(alloc: Global, groups: &[GroupEntry]) -> Result<BTreeMap<Name, u
     ensures within { IfErr result
         (λ fault. (place : ℕ) → fault ≡ IndexFault.Repeated place → place < length groups.now) }
 {
-    let names = names_of_groups(alloc, groups)?;
+    let names = names_of(alloc, groups)?;
     match name_places(alloc, &names) {
         Ok(places) => match first_twice_member(alloc, groups)? {
             Some(place) => Err(IndexFault::Repeated(place)),
@@ -80,16 +75,6 @@ fn group_places(alloc: Global, groups: &[GroupEntry]) -> Result<BTreeMap<Name, u
         },
         Err(IndexFault::Memory) => Err(IndexFault::Memory),
     }
-}
-
-fn names_of_groups(alloc: Global, groups: &[GroupEntry]) -> Result<Vec<Name>, AllocError>
-    ensures { IfOk result (λ names. names.items ≡ map (λ g. g.name) groups.now) }
-{
-    let mut names = Vec::new(alloc);
-    for group in groups {
-        names.push(group.name)?;
-    }
-    Ok(names)
 }
 
 // The first group in which a member stands twice.

@@ -1,9 +1,9 @@
 -- Worked examples of the definitions. A wrong reading of one fails the check.
 use Rattle.std.specs.Prelude.{◌≡◌, refl, [], ◌∷◌, Some, None, codes, true, false}
-use Rattle.toml.specs.Data.{Members, no_members, member, no_items, item, string, boolean, array}
+use Rattle.toml.specs.Data.{Members, no_members, member, no_items, item, string, boolean, array, as_str}
 use Rattle.ht_toml.specs.Entries.{each}
-use Rattle.toml.specs.Data.{as_str}
-use Rattle.ht_toml.specs.Tables.{array_at, entries_at, has_only, text_at, truth_at}
+use Rattle.ht_toml.specs.Keys.{otherwise, required}
+use Rattle.ht_toml.specs.Tables.{entries_of, has_only}
 
 -- list = ["a", "b"], name = "anna", operator = true
 abbrev sample : Members
@@ -20,31 +20,16 @@ one_unknown = refl
 nothing_to_know : has_only [] no_members ≡ true
 nothing_to_know = refl
 
-a_text : text_at (codes "name") sample ≡ Some (codes "anna")
-a_text = refl
-
-no_text : text_at (codes "operator") sample ≡ None
-no_text = refl
-
-a_truth : truth_at (codes "operator") false sample ≡ Some true
-a_truth = refl
-
-a_missing_truth : truth_at (codes "oper") false sample ≡ Some false
-a_missing_truth = refl
-
-no_truth : truth_at (codes "name") false sample ≡ None
-no_truth = refl
-
-an_array : array_at (codes "list") sample ≡ Some (string (codes "a") ∷ string (codes "b") ∷ [])
+an_array : required entries_of (codes "list") sample ≡ Some (string (codes "a") ∷ string (codes "b") ∷ [])
 an_array = refl
 
-no_array : array_at (codes "person") sample ≡ None
+no_array : required entries_of (codes "person") sample ≡ None
 no_array = refl
 
-missing_entries : entries_at (codes "person") sample ≡ Some []
+missing_entries : otherwise [] entries_of (codes "person") sample ≡ Some []
 missing_entries = refl
 
-no_entries : entries_at (codes "name") sample ≡ None
+no_entries : otherwise [] entries_of (codes "name") sample ≡ None
 no_entries = refl
 
 all_read : each as_str (string (codes "a") ∷ string (codes "b") ∷ []) ≡ Some (codes "a" ∷ codes "b" ∷ [])

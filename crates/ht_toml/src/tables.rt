@@ -1,9 +1,9 @@
-ghost use Rattle.std.specs.Prelude.{◌≡◌, ◌<◌, ◌^◌, IfSome, length, map, option_map};
+ghost use Rattle.std.specs.Prelude.{◌≡◌, ◌<◌, ◌^◌, [], IfSome, length, map, option_map};
 ghost use Rattle.toml.specs.Data.{get_member};
 ghost use Rattle.toml.specs.View.{table_view, view};
+ghost use Rattle.ht_toml.specs.Keys.{otherwise, required};
 ghost use Rattle.ht_toml.specs.Tables as spec;
 
-use ht_base::Name;
 use toml::{Table, Value};
 
 /// Whether each key of the table is one of these.
@@ -18,52 +18,19 @@ pub fn has_only(table: &Table, known: &[&str]) -> bool
     true
 }
 
-/// The text at a key.
-pub fn text_at<'a>(table: &'a Table, key: &str) -> Option<&'a str>
-    ensures { option_map (λ t. t.now) result ≡ spec.text_at key.now (table_view table.now) }
-{
-    match value_at(table, key) {
-        Some(value) => value.as_str(),
-        None => None,
-    }
-}
-
-/// The name at a key.
-pub fn name_at(table: &Table, key: &str) -> Option<Name>
-    ensures { result ≡ spec.name_at key.now (table_view table.now) }
-{
-    match text_at(table, key) {
-        Some(text) => Name::of(text.as_bytes()),
-        None => None,
-    }
-}
-
-/// The truth value at a key, or this one where the key is missing.
-pub fn truth_at(table: &Table, key: &str, missing: bool) -> Option<bool>
-    ensures { result ≡ spec.truth_at key.now missing (table_view table.now) }
-{
-    match value_at(table, key) {
-        Some(value) => value.as_bool(),
-        None => Some(missing),
-    }
-}
-
-/// The entries of the array at a key.
+/// The entries of the array at a key that must be there.
 pub fn array_at<'a>(table: &'a Table, key: &str) -> Option<&'a [Value]>
     ensures value { option_map (λ es. map view es.now) result
-        ≡ spec.array_at key.now (table_view table.now) }
+        ≡ required spec.entries_of key.now (table_view table.now) }
     ensures few { IfSome result (λ es. length es.now < 2 ^ 63) }
 {
-    match value_at(table, key) {
-        Some(value) => entries_of(value),
-        None => None,
-    }
+    entries_of(value_at(table, key)?)
 }
 
 /// The entries of the array at a key, of which there are none where the key is missing.
 pub fn entries_at<'a>(table: &'a Table, key: &str) -> Option<&'a [Value]>
     ensures value { option_map (λ es. map view es.now) result
-        ≡ spec.entries_at key.now (table_view table.now) }
+        ≡ otherwise [] spec.entries_of key.now (table_view table.now) }
     ensures few { IfSome result (λ es. length es.now < 2 ^ 63) }
 {
     match value_at(table, key) {

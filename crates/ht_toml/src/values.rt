@@ -9,10 +9,7 @@ use toml::Value;
 pub fn word_of<T: Copy>(value: &Value, words: &[(&str, T)]) -> Option<T>
     ensures { result ≡ spec.word_of (map (λ w. (w.0.now, w.1)) words.now) (view value.now) }
 {
-    match value.as_str() {
-        Some(text) => meaning(text, words),
-        None => None,
-    }
+    meaning(value.as_str()?, words)
 }
 
 fn meaning<T: Copy>(text: &str, words: &[(&str, T)]) -> Option<T>
@@ -30,10 +27,7 @@ fn meaning<T: Copy>(text: &str, words: &[(&str, T)]) -> Option<T>
 pub fn whole_of(value: &Value, least: u64, most: u64) -> Option<u64>
     ensures { result ≡ spec.whole_of least most (view value.now) }
 {
-    match value.as_integer() {
-        Some(number) => within(number, least, most),
-        None => None,
-    }
+    within(value.as_integer()?, least, most)
 }
 
 fn within(number: i64, least: u64, most: u64) -> Option<u64>
