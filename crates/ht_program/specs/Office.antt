@@ -1,5 +1,8 @@
 -- The whole program: the office is opened, and its connection is served.
 use Rattle.std.specs.Prelude.{◌≡◌, ◌⊎◌, ℕ, List, [], Option, Ok, Err, unwrap_or}
+use Rattle.ht_outside.specs.declared.sink.Sink as sink
+use Rattle.ht_outside.specs.declared.source.Source as source
+use Rattle.ht_outside.specs.declared.texts.Texts as texts
 use Rattle.ht_outside.specs.Tells.{SourceState, SinkState}
 use Rattle.ht_outside.specs.Texts.{TextsState}
 use Rattle.ht_tree.specs.Tables.{RoomyTables}
@@ -16,6 +19,10 @@ pub record Outside : Type 0 where
 
 abbrev pub outside : TextsState → SourceState → SinkState → SinkState → Outside
 outside texts input output complaints = record { texts = texts; connection = streams input output; complaints = complaints }
+
+-- of texts, a source and two sinks
+abbrev pub outside_of : {X S K Q : Type 0} → texts.Ghosts X → source.Ghosts S → sink.Ghosts K → sink.Ghosts Q → X → S → K → Q → Outside
+outside_of named reads writes tells x s k q = outside (named.texts_state x) (reads.source_state s) (writes.sink_state k) (tells.sink_state q)
 
 -- the office was opened, and its connection was served to its ending
 pub record Opened (moment : ℕ → ℕ) (most : ℕ) (names : Option (List ℕ × List ℕ)) (old new : Outside) (status : ℕ) : Type 0 where

@@ -2,7 +2,7 @@ ghost use Rattle.std.specs.Prelude.{◌≡◌, [], false};
 ghost use Rattle.ht_outside.specs.Clocks.{moment_of};
 ghost use Rattle.ht_machine.specs.History.{IsStep};
 ghost use Rattle.ht_serve.specs.Calls.{StepsMade};
-ghost use Rattle.ht_serve.specs.Serving.{Served, sides};
+ghost use Rattle.ht_serve.specs.Serving.{Served, sides, sides_of};
 ghost use Rattle.ht_program.specs.Inputs.{budget};
 ghost use Rattle.ht_program.specs.Running.{Ran, streams};
 
@@ -65,8 +65,8 @@ fn serve_alone<T: TakesEvents, L: Link, C: Clock>(
 ) -> Ending
     requires { T.stands state.old }
     ensures served { Served (StepsMade T.relates state.old state.new) ⊥ false budget 0
-        (sides (L.Source.source_state link.old) (L.Sink.sink_state link.old) (C.moments clock.old))
-        (sides (L.Source.source_state link.new) (L.Sink.sink_state link.new) (C.moments clock.new))
+        (sides_of L.Source L.Sink C.Clock link.old clock.old)
+        (sides_of L.Source L.Sink C.Clock link.new clock.new)
         [] result }
     ensures same { L.same link.old link.new }
 {

@@ -4,7 +4,7 @@ ghost use Rattle.ht_outside.specs.Clocks.{moment_of};
 ghost use Rattle.ht_program.specs.Inputs.{IsAnswered, IsStatusOf, budget};
 ghost use Rattle.ht_program.specs.Named.{pair_of};
 ghost use Rattle.ht_program.specs.Opening as opening;
-ghost use Rattle.ht_program.specs.Office.{RunsOffice, outside};
+ghost use Rattle.ht_program.specs.Office.{RunsOffice, outside_of};
 ghost use Rattle.ht_program.specs.Opening.{AreWrong};
 ghost use Rattle.ht_program.specs.Running.{Complains, usage_line};
 ghost use Rattle.ht_program.specs.Words.{IsRun};
@@ -41,10 +41,10 @@ pub fn office<X: Texts, S: Source, K: Sink, Q: Sink>(
     ensures run { result.0 ≢ 2
         → (from : ℕ) × (step : ℕ) × (names : Option (List ℕ × List ℕ))
         × IsRun (map string_bytes words.now.items) from step names
-        × RunsOffice (moment_of from step) budget names (outside (X.texts_state texts.old)
-        (S.source_state input.old) (K.sink_state output.old) (Q.sink_state complaints.old))
-        (outside (X.texts_state texts.new) (S.source_state input.new)
-        (K.sink_state output.new) (Q.sink_state complaints.new)) result.0 }
+        × RunsOffice (moment_of from step) budget names
+        (outside_of X.Texts S.Source K.Sink Q.Sink texts.old input.old output.old complaints.old)
+        (outside_of X.Texts S.Source K.Sink Q.Sink texts.new input.new output.new complaints.new)
+        result.0 }
     ensures unread { result.0 ≡ 3
         → Rose (X.texts_state texts.old).faults (X.texts_state texts.new).faults }
     ensures wrong { (from step : ℕ) (names : List ℕ × List ℕ)

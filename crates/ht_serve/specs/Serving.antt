@@ -1,6 +1,9 @@
 -- How a connection is served, from request number k on and from the bytes that are pending: which
 -- calls are made, which replies are written, and how it ends.
 use Rattle.std.specs.Prelude.{◌≡◌, ◌⊎◌, ℕ, ◌+◌, ◌<◌, ◌≤◌, Bool, true, false, List, [], ◌∷◌, ◌++◌, length, Option, Some, None, ⊤}
+use Rattle.ht_outside.specs.declared.clock.Clock as clock
+use Rattle.ht_outside.specs.declared.sink.Sink as sink
+use Rattle.ht_outside.specs.declared.source.Source as source
 use Rattle.ht_outside.specs.Causes.{Rose}
 use Rattle.ht_outside.specs.Tells.{Flow, SourceState, SinkState, Takes, Grows}
 use Rattle.ht_wire.specs.Heads.{IsEnd}
@@ -22,6 +25,10 @@ pub record Sides : Type 0 where
 
 abbrev pub sides : SourceState → SinkState → Option (ℕ → ℕ) → Sides
 sides input output clock = record { input = input; output = output; clock = clock }
+
+-- of a link and a clock
+abbrev pub sides_of : {L C : Type 0} → source.Ghosts L → sink.Ghosts L → clock.Ghosts C → L → C → Sides
+sides_of reads writes ticks link time = sides (reads.source_state link) (writes.sink_state link) (ticks.moments time)
 
 -- no count of faults falls
 pub record AreLater (old new : Sides) : Type 0 where

@@ -1,7 +1,7 @@
 ghost use Rattle.std.specs.Prelude.{◌≡◌, ◌≢◌, ◌+◌, ◌<◌, ◌≤◌, [], MatchOption};
 ghost use Rattle.ht_serve.specs.Closing as spec;
 ghost use Rattle.ht_serve.specs.Inputs.{IsEndingOf};
-ghost use Rattle.ht_serve.specs.Serving.{Follows, Goes, Served, sides};
+ghost use Rattle.ht_serve.specs.Serving.{Follows, Goes, Served, sides_of};
 
 use crate::answering::{Buffers, reply_to};
 use crate::texts::refused_text;
@@ -26,9 +26,8 @@ pub fn serve_connection<Q: Caller, L: Link, C: Clock, G: Gate>(
     requires some { 1 ≤ budget }
     requires stands { Q.stands caller.old }
     ensures served { Served (Q.made caller.old caller.new) (Q.spent caller.new) closing budget 0
-        (sides (L.Source.source_state link.old) (L.Sink.sink_state link.old) (C.moments clock.old))
-        (sides (L.Source.source_state link.new) (L.Sink.sink_state link.new) (C.moments clock.new))
-        [] result }
+        (sides_of L.Source L.Sink C.Clock link.old clock.old)
+        (sides_of L.Source L.Sink C.Clock link.new clock.new) [] result }
     ensures exact { result ≢ Ending.ReadFault → result ≢ Ending.WriteFault → result ≢ Ending.Memory
         → IsEndingOf closing budget (L.Source.source_state link.old).flow result }
     ensures kept { Q.spent caller.old → Q.spent caller.new }
@@ -74,14 +73,14 @@ fn serve_next<Q: Caller, L: Link, C: Clock, G: Gate>(
 ) -> Option<Ending>
     requires few { number < most }
     requires stands { Q.stands caller.old }
-    ensures served { MatchOption result (Goes (Q.made caller.old caller.new) (Q.spent caller.new)
-        closing most number (number + 1)
-        (sides (L.Source.source_state link.old) (L.Sink.sink_state link.old) (C.moments clock.old))
-        (sides (L.Source.source_state link.new) (L.Sink.sink_state link.new) (C.moments clock.new))
-        buffers.old.input buffers.new.input) (Served (Q.made caller.old caller.new)
-        (Q.spent caller.new) closing most number
-        (sides (L.Source.source_state link.old) (L.Sink.sink_state link.old) (C.moments clock.old))
-        (sides (L.Source.source_state link.new) (L.Sink.sink_state link.new) (C.moments clock.new))
+    ensures served { MatchOption result
+        (Goes (Q.made caller.old caller.new) (Q.spent caller.new) closing most number (number + 1)
+        (sides_of L.Source L.Sink C.Clock link.old clock.old)
+        (sides_of L.Source L.Sink C.Clock link.new clock.new)
+        buffers.old.input buffers.new.input)
+        (Served (Q.made caller.old caller.new) (Q.spent caller.new) closing most number
+        (sides_of L.Source L.Sink C.Clock link.old clock.old)
+        (sides_of L.Source L.Sink C.Clock link.new clock.new)
         buffers.old.input) }
     ensures kept { Q.spent caller.old → Q.spent caller.new }
     ensures stands { Q.stands caller.new }
