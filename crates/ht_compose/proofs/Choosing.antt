@@ -1,13 +1,11 @@
 -- The finish that is chosen, told by the numbers of a task's sub tasks.
 use Rattle.std.proofs.Common.{◌≡◌, ℕ, Bool, List, length, map, Option, None, Some, IfSome, if◌then◌else◌, ap, subst, ◌∙◌}
 use Rattle.std.specs.Option.{option_or}
-use Rattle.std.specs.Prelude.{find}
 use Rattle.ht_base.specs.declared.task_id.TaskId.{TaskId}
 use Rattle.ht_compose.specs.Finding.{rows_of}
-use Rattle.ht_compose.specs.Finishes.{all_ended, applies, chosen, completed, default}
+use Rattle.ht_compose.specs.Finishes.{all_ended, chosen, chosen_by, completed, default, first_true}
 use Rattle.ht_compose.proofs.Entries.{completed_again, completed_among, ended_among, subs_again}
 use Rattle.ht_expr.specs.declared.environment.Env.{Env}
-use Rattle.ht_models.specs.Kinded.{parts_of}
 use Rattle.ht_models.specs.Model.{FinishOf, ModelOf}
 use Rattle.ht_tree.specs.declared.row.Row.{Row}
 use Rattle.ht_tree.specs.Creating.{sees}
@@ -23,9 +21,9 @@ module _ (u : TablesOf) (sound : IsSound u) (row : Row) where
   rows_are : (ids : List TaskId) → Lists ids → rows_of u ids ≡ sub_tasks row.task.0 u.rows
   rows_are ids are = ap (λ (l : List TaskId). rows_of u l) are ∙ subs_again u row.task.0 sound
 
-  pub chosen_is : (m : ModelOf) (env : Env) (ids : List TaskId) (o : Option FinishOf) → env ≡ sees u.rows row → Lists ids → o ≡ option_or (find (applies (parts_of m.input m.output) env) m.finishes) (if all_ended row.task.0 (length m.subs) (rows_of u ids) then default m.finishes else None) → o ≡ chosen u.rows m row
+  pub chosen_is : (m : ModelOf) (env : Env) (ids : List TaskId) (o : Option FinishOf) → env ≡ sees u.rows row → Lists ids → o ≡ chosen_by env (rows_of u ids) m row.task.0 → o ≡ chosen u.rows m row
   chosen_is m env ids o seen are is =
-      let first : Env → Option FinishOf = λ e. find (applies (parts_of m.input m.output) e) m.finishes in
+      let first : Env → Option FinishOf = λ e. first_true m e in
       let other : Bool → Option FinishOf = λ b. if b then default m.finishes else None in
       let ended = ap (λ (l : List Row). all_ended row.task.0 (length m.subs) l) (rows_are ids are) ∙ ended_among row.task.0 (length m.subs) u.rows in
       is

@@ -22,7 +22,7 @@ use Rattle.ht_tree.specs.Soundness.{IsSound}
 use Rattle.ht_tree.specs.Tables.{TablesOf, model_of, task_row}
 
 -- whether it may be made is asked of the task's sub tasks
-pub asked_of : (u : TablesOf) (task : ℕ) (row : Row) (m : ModelOf) (name : List ℕ) (ids : List TaskId) (e : ℕ) (b : Bool) → IsSound u → Some row ≡ task_row u task → model_of u row ≡ Some m → ids ≡ map (λ r. r.task) (sub_tasks task u.rows) → Some e ≡ named_from 0 name m.subs → b ≡ (not (is_automatic m.instantiation) && not (list_any (is_of_entry task e) (rows_of u ids)) && (not (is_sequential m.composition) || all_ended task e (rows_of u ids))) → IsEntryOf u task name (if b then Some e else None)
+pub asked_of : (u : TablesOf) (task : ℕ) (row : Row) (m : ModelOf) (name : List ℕ) (ids : List TaskId) (e : ℕ) (b : Bool) → IsSound u → Some row ≡ task_row u task → model_of u row ≡ Some m → ids ≡ map (λ r. r.task) (sub_tasks task u.rows) → Some e ≡ named_from 0 name m.subs → b ≡ may_be_made (rows_of u ids) m task e → IsEntryOf u task name (if b then Some e else None)
 asked_of u task row m name ids e b sound there of_model are named is =
     let made = made_among u sound task ids are e in
     let rows = ap (λ (l : List TaskId). rows_of u l) are ∙ subs_again u task sound in

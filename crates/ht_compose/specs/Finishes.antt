@@ -32,28 +32,43 @@ holds kinds env condition = is_true (value kinds env condition)
 abbrev pub applies : Declared → Env → FinishOf → Bool
 applies kinds env f = option_map_or (holds kinds env) f.when false
 
--- of as many entries each is made, and its sub task has ended
+-- the entry is made, and its sub task has ended
+abbrev pub entry_ended : ℕ → ℕ → List Row → Bool
+entry_ended task entry rows = list_any (λ s. is_of_entry task entry s && is_final s.state) rows
+
+-- each of as many entries
 abbrev pub all_ended : ℕ → ℕ → List Row → Bool
 all_ended task zero rows = true
-all_ended task (suc n) rows = all_ended task n rows && list_any (λ s. is_of_entry task n s && is_final s.state) rows
+all_ended task (suc n) rows = all_ended task n rows && entry_ended task n rows
 
 -- the finish without a condition
 abbrev pub default : List FinishOf → Option FinishOf
 default finishes = find (λ f. is_none f.when) finishes
 
--- The first whose condition is true. Where there is none, and every entry has come and gone, it is the
--- one without a condition.
+-- the first whose condition is true of what is seen
+abbrev pub first_true : ModelOf → Env → Option FinishOf
+first_true m env = find (applies (parts_of m.input m.output) env) m.finishes
+
+-- The first whose condition is true. Where there is none, and every entry of the task has come and gone
+-- among these rows, it is the one without a condition.
+abbrev pub chosen_by : Env → List Row → ModelOf → ℕ → Option FinishOf
+chosen_by env rows m task =
+    option_or (first_true m env) (if all_ended task (length m.subs) rows then default m.finishes else None)
+
+-- of the task of a row, by what its row sees
 abbrev pub chosen : List Row → ModelOf → Row → Option FinishOf
-chosen rows m row =
-    option_or (find (applies (parts_of m.input m.output) (sees rows row)) m.finishes)
-    (if all_ended row.task.0 (length m.subs) rows then default m.finishes else None)
+chosen rows m row = chosen_by (sees rows row) rows m row.task.0
 
 -- ---- what it sets
 
--- the completed sub tasks of as many entries, in the order of the entries
+-- the completed sub task of an entry, where it is there
+abbrev pub completed_of : ℕ → ℕ → List Row → List Row
+completed_of task entry rows = filter (λ s. is_of_entry task entry s && is_completed s.state) rows
+
+-- those of as many entries, in the order of the entries
 abbrev pub completed : ℕ → ℕ → List Row → List Row
 completed task zero rows = []
-completed task (suc n) rows = completed task n rows ++ filter (λ s. is_of_entry task n s && is_completed s.state) rows
+completed task (suc n) rows = completed task n rows ++ completed_of task n rows
 
 abbrev pub of_kind : Kind → Option Value → Option Value
 of_kind kind None = None

@@ -87,10 +87,14 @@ first_entries m = if is_sequential m.composition then min 1 (length m.subs) else
 abbrev pub begins_with : ModelOf → Row → List Item
 begins_with m row = if not row.started && is_automatic m.instantiation then makes row.task.0 (first_entries m) else []
 
+-- what is to be done where a task begins: its first entries, and then it is checked
+abbrev pub begun_with : ModelOf → Row → List Item
+begun_with m row = begins_with m row ++ Check row.task.0 ∷ []
+
 abbrev pub begins : TablesOf → Row → ModelOf → Step
 begins u row m =
     if is_in_progress row.state
-    then does (with_row u (record row { started = true })) (begins_with m row ++ Check row.task.0 ∷ [])
+    then does (with_row u (record row { started = true })) (begun_with m row)
     else still u
 
 -- ---- make

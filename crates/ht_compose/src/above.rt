@@ -29,8 +29,5 @@ fn parent_of(tables: &Tables, plan: &Plan, task: TaskId) -> Option<(TaskId, u32)
     requires { IsPlanOf tables.now.tables plan.now }
     ensures { result ≡ parent_at task.0 (planned tables.now.tables plan.now).rows }
 {
-    match plan.row(tables, task) {
-        Some(row) => row.parent,
-        None => None,
-    }
+    plan.row(tables, task)?.parent
 }

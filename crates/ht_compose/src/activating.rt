@@ -3,8 +3,7 @@ ghost use Rattle.ht_base.specs.declared.moment.Moment.{Moment};
 ghost use Rattle.ht_compose.specs.Items.Item.{Activate};
 ghost use Rattle.ht_compose.specs.Running.{Acts};
 ghost use Rattle.ht_tree.specs.Activation.{activated_to};
-ghost use Rattle.ht_tree.specs.Plans.{IsPlanOf, planned};
-ghost use Rattle.ht_tree.specs.Soundness.{IsSound};
+ghost use Rattle.ht_tree.specs.Plans.{IsSoundPlan};
 ghost use Rattle.ht_compose.specs.Items as spec;
 
 use crate::item::{Item, alone};
@@ -19,8 +18,7 @@ pub(crate) fn activate(
     plan: &mut Plan,
     task: TaskId,
 ) -> Result<Vec<Item>, Memory>
-    requires plan { IsPlanOf tables.now.tables plan.old }
-    requires sound { IsSound (planned tables.now.tables plan.old) }
+    requires plan { IsSoundPlan tables.now.tables plan.old }
     ensures acts { IfOk result (λ puts.
         (at : Moment) → Acts tables.now.tables plan.old plan.new at (Activate task.0) puts.items) }
     ensures marked { OnErr result (plan.new.marked ≡ plan.old.marked) }

@@ -1,10 +1,9 @@
-ghost use Rattle.std.specs.Prelude.{◌≡◌, ◌≤◌, true, ◌∷◌, [], ◌++◌, IfOk, length, map, OnErr};
+ghost use Rattle.std.specs.Prelude.{◌≡◌, ◌≤◌, true, IfOk, length, map, OnErr};
 ghost use Rattle.ht_base.specs.declared.limits.TheConstants.{MOST_SUBS};
 ghost use Rattle.ht_base.specs.declared.moment.Moment.{Moment};
-ghost use Rattle.ht_compose.specs.Items.Item.{Begin, Check};
+ghost use Rattle.ht_compose.specs.Items.Item.{Begin};
 ghost use Rattle.ht_compose.specs.Running.{Acts};
-ghost use Rattle.ht_tree.specs.Plans.{IsPlanOf, planned};
-ghost use Rattle.ht_tree.specs.Soundness.{IsSound};
+ghost use Rattle.ht_tree.specs.Plans.{IsSoundPlan};
 ghost use Rattle.ht_compose.specs.Items as spec;
 ghost use Rattle.ht_compose.specs.Running.{item_of};
 ghost use Rattle.ht_models.specs.Shown.{model_of};
@@ -23,8 +22,7 @@ pub(crate) fn begin(
     plan: &mut Plan,
     task: TaskId,
 ) -> Result<Vec<Item>, Memory>
-    requires plan { IsPlanOf tables.now.tables plan.old }
-    requires sound { IsSound (planned tables.now.tables plan.old) }
+    requires plan { IsSoundPlan tables.now.tables plan.old }
     ensures acts { IfOk result (λ puts.
         (at : Moment) → Acts tables.now.tables plan.old plan.new at (Begin task.0) puts.items) }
     ensures marked { OnErr result (plan.new.marked ≡ plan.old.marked) }
@@ -52,9 +50,8 @@ fn begun(row: Row) -> Row
 // What is to be done where a task begins.
 fn begun_with(alloc: Global, model: &Model, row: &Row) -> Result<Vec<Item>, Memory>
     requires { length model.now.subs.items ≤ MOST_SUBS }
-    ensures { IfOk result (λ items.
-        map item_of items.items ≡ spec.begins_with (model_of model.now) row.now
-        ++ Check row.now.task.0 ∷ []) }
+    ensures { IfOk result
+        (λ items. map item_of items.items ≡ spec.begun_with (model_of model.now) row.now) }
 {
     let mut items = Vec::new(alloc);
     if !row.started && model.instantiation == Trigger::Automatic {

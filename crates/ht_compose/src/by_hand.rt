@@ -1,16 +1,11 @@
-ghost use Rattle.std.specs.Prelude.{◌≡◌, ◌≤◌, not, ◌&&◌, ◌||◌, IfOk, length};
-ghost use Rattle.std.specs.List.{list_any};
+ghost use Rattle.std.specs.Prelude.{◌≡◌, ◌≤◌, IfOk, length};
 ghost use Rattle.ht_base.specs.declared.limits.TheConstants.{MOST_SUBS};
+ghost use Rattle.ht_compose.specs.ByHand as spec;
 ghost use Rattle.ht_compose.specs.ByHand.{IsEntryOf, named_from};
 ghost use Rattle.ht_compose.specs.Finding.{rows_of};
-ghost use Rattle.ht_compose.specs.Finishes.{all_ended};
-ghost use Rattle.ht_compose.specs.Items as spec;
 ghost use Rattle.ht_compose.specs.Reaching.{IsTask};
-ghost use Rattle.ht_models.specs.Contradictions.{is_automatic};
 ghost use Rattle.ht_models.specs.Shown.{model_of};
-ghost use Rattle.ht_tree.specs.Families as made;
-ghost use Rattle.ht_tree.specs.Plans.{IsPlanOf, planned};
-ghost use Rattle.ht_tree.specs.Soundness.{IsSound};
+ghost use Rattle.ht_tree.specs.Plans.{IsPlanOf, IsSoundPlan, planned};
 
 use crate::finishing::all_ended;
 use crate::making::has_of_entry;
@@ -30,8 +25,7 @@ pub fn entry_to_make(
     task: TaskId,
     name: Name,
 ) -> Result<Option<u32>, Memory>
-    requires plan { IsPlanOf tables.now.tables plan.now }
-    requires sound { IsSound (planned tables.now.tables plan.now) }
+    requires plan { IsSoundPlan tables.now.tables plan.now }
     requires there { IsTask (planned tables.now.tables plan.now) task.0 }
     ensures { IfOk result (IsEntryOf (planned tables.now.tables plan.now) task.0 name) }
 {
@@ -72,11 +66,8 @@ fn may_be_made(
     entry: u32,
 ) -> bool
     requires { IsPlanOf tables.now.tables plan.now }
-    ensures { let rows = rows_of (planned tables.now.tables plan.now) subs.now in
-        let m = model_of model.now in
-        result ≡ (not (is_automatic m.instantiation)
-        && not (list_any (made.is_of_entry task.0 entry) rows)
-        && (not (spec.is_sequential m.composition) || all_ended task.0 entry rows)) }
+    ensures { result ≡ spec.may_be_made (rows_of (planned tables.now.tables plan.now) subs.now)
+        (model_of model.now) task.0 entry }
 {
     model.instantiation == Trigger::Manual
         && !has_of_entry(tables, plan, subs, task, entry)

@@ -7,8 +7,7 @@ ghost use Rattle.ht_compose.specs.Running.{Acts};
 ghost use Rattle.ht_models.specs.Contradictions.{is_automatic};
 ghost use Rattle.ht_models.specs.Shown.{model_of};
 ghost use Rattle.ht_base.specs.State.{is_final};
-ghost use Rattle.ht_tree.specs.Plans.{IsPlanOf, planned};
-ghost use Rattle.ht_tree.specs.Soundness.{IsSound};
+ghost use Rattle.ht_tree.specs.Plans.{IsPlanOf, IsSoundPlan, planned};
 ghost use Rattle.ht_compose.specs.Items as spec;
 
 use crate::downward::skip_below;
@@ -28,8 +27,7 @@ pub(crate) fn check(
     plan: &mut Plan,
     task: TaskId,
 ) -> Result<Vec<Item>, Memory>
-    requires plan { IsPlanOf tables.now.tables plan.old }
-    requires sound { IsSound (planned tables.now.tables plan.old) }
+    requires plan { IsSoundPlan tables.now.tables plan.old }
     ensures acts { IfOk result (λ puts.
         (at : Moment) → Acts tables.now.tables plan.old plan.new at (Check task.0) puts.items) }
     ensures marked { OnErr result (plan.new.marked ≡ plan.old.marked) }

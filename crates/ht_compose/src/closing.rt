@@ -2,8 +2,7 @@ ghost use Rattle.std.specs.Prelude.{◌≡◌, IfOk, IsTrue, OnErr};
 ghost use Rattle.ht_base.specs.declared.moment.Moment.{Moment};
 ghost use Rattle.ht_compose.specs.Items.Item.{Close, Next, Up};
 ghost use Rattle.ht_compose.specs.Running.{Acts};
-ghost use Rattle.ht_tree.specs.Plans.{IsPlanOf, planned};
-ghost use Rattle.ht_tree.specs.Soundness.{IsSound};
+ghost use Rattle.ht_tree.specs.Plans.{IsSoundPlan};
 ghost use Rattle.ht_compose.specs.Items as spec;
 ghost use Rattle.ht_models.specs.Shown.{model_of};
 ghost use Rattle.ht_base.specs.State.{is_final};
@@ -24,8 +23,7 @@ pub(crate) fn close(
     task: TaskId,
     end: State,
 ) -> Result<Vec<Item>, Memory>
-    requires plan { IsPlanOf tables.now.tables plan.old }
-    requires sound { IsSound (planned tables.now.tables plan.old) }
+    requires plan { IsSoundPlan tables.now.tables plan.old }
     requires end { IsTrue (is_final end) }
     ensures acts { IfOk result (λ puts.
         (at : Moment) → Acts tables.now.tables plan.old plan.new at (Close task.0 end) puts.items) }
@@ -54,8 +52,7 @@ pub(crate) fn up(
     above: TaskId,
     sub: TaskId,
 ) -> Result<Vec<Item>, Memory>
-    requires plan { IsPlanOf tables.now.tables plan.old }
-    requires sound { IsSound (planned tables.now.tables plan.old) }
+    requires plan { IsSoundPlan tables.now.tables plan.old }
     ensures acts { IfOk result (λ puts.
         (at : Moment) → Acts tables.now.tables plan.old plan.new at (Up above.0 sub.0) puts.items) }
     ensures marked { OnErr result (plan.new.marked ≡ plan.old.marked) }
@@ -95,8 +92,7 @@ pub(crate) fn next(
     above: TaskId,
     sub: TaskId,
 ) -> Result<Vec<Item>, Memory>
-    requires plan { IsPlanOf tables.now.tables plan.old }
-    requires sound { IsSound (planned tables.now.tables plan.old) }
+    requires plan { IsSoundPlan tables.now.tables plan.old }
     ensures acts { IfOk result (λ puts.
         (at : Moment)
         → Acts tables.now.tables plan.old plan.new at (Next above.0 sub.0) puts.items) }

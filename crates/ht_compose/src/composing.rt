@@ -4,8 +4,7 @@ ghost use Rattle.ht_compose.specs.Composing.{IsSubTask, IsToMake};
 ghost use Rattle.ht_compose.specs.Items.Item.{Activate, Begin, Close, Make};
 ghost use Rattle.ht_compose.specs.Running.{Runs};
 ghost use Rattle.ht_base.specs.State.{is_final};
-ghost use Rattle.ht_tree.specs.Plans.{IsPlanOf, planned};
-ghost use Rattle.ht_tree.specs.Soundness.{IsSound};
+ghost use Rattle.ht_tree.specs.Plans.{IsSoundPlan, planned};
 
 use crate::item::Item;
 use crate::running::{count_models, run};
@@ -23,8 +22,7 @@ pub fn activate(
     task: TaskId,
     at: Moment,
 ) -> Result<(), Memory>
-    requires plan { IsPlanOf tables.now.tables plan.old }
-    requires sound { IsSound (planned tables.now.tables plan.old) }
+    requires plan { IsSoundPlan tables.now.tables plan.old }
     requires at { at.0 ≤ last_moment }
     ensures runs { OnOk result
         (Runs tables.now.tables plan.old plan.new at (Activate task.0 ∷ [])) }
@@ -43,8 +41,7 @@ pub fn begin(
     task: TaskId,
     at: Moment,
 ) -> Result<(), Memory>
-    requires plan { IsPlanOf tables.now.tables plan.old }
-    requires sound { IsSound (planned tables.now.tables plan.old) }
+    requires plan { IsSoundPlan tables.now.tables plan.old }
     requires at { at.0 ≤ last_moment }
     ensures runs { OnOk result (Runs tables.now.tables plan.old plan.new at (Begin task.0 ∷ [])) }
     ensures marked { OnErr result (plan.new.marked ≡ plan.old.marked) }
@@ -63,8 +60,7 @@ pub fn close(
     end: State,
     at: Moment,
 ) -> Result<(), Memory>
-    requires plan { IsPlanOf tables.now.tables plan.old }
-    requires sound { IsSound (planned tables.now.tables plan.old) }
+    requires plan { IsSoundPlan tables.now.tables plan.old }
     requires end { IsTrue (is_final end) }
     requires at { at.0 ≤ last_moment }
     ensures runs { OnOk result
@@ -85,8 +81,7 @@ pub fn instantiate(
     entry: u32,
     at: Moment,
 ) -> Result<TaskId, Memory>
-    requires plan { IsPlanOf tables.now.tables plan.old }
-    requires sound { IsSound (planned tables.now.tables plan.old) }
+    requires plan { IsSoundPlan tables.now.tables plan.old }
     requires entry { IsToMake (planned tables.now.tables plan.old) task.0 entry }
     requires at { at.0 ≤ last_moment }
     ensures id { IfOk result (λ id. id.0 ≡ length (planned tables.now.tables plan.old).rows + 1) }

@@ -2,9 +2,8 @@ ghost use Rattle.std.specs.Prelude.{◌≡◌, OnOk, IsTrue, OnErr};
 ghost use Rattle.ht_compose.specs.Downward.{closing, holding, skipping};
 ghost use Rattle.ht_compose.specs.Reaching.{IsTask};
 ghost use Rattle.ht_base.specs.State.{is_final};
-ghost use Rattle.ht_tree.specs.Plans.{Goes, IsPlanOf, planned};
+ghost use Rattle.ht_tree.specs.Plans.{GoesByRows, IsSoundPlan, planned};
 ghost use Rattle.ht_tree.specs.Soundness.{IsSound};
-ghost use Rattle.ht_tree.specs.Tables.{with_rows};
 
 use crate::reaching::Reach;
 use crate::spreading::spread;
@@ -15,12 +14,10 @@ use std::alloc::Global;
 /// Plans that every open task below this one takes its suspended form (WS-HumanTask 1.1, 4.10). After
 /// want of memory the plan holds some of it.
 pub fn hold(alloc: Global, tables: &Tables, plan: &mut Plan, task: TaskId) -> Result<(), Memory>
-    requires plan { IsPlanOf tables.now.tables plan.old }
-    requires sound { IsSound (planned tables.now.tables plan.old) }
+    requires plan { IsSoundPlan tables.now.tables plan.old }
     requires there { IsTask (planned tables.now.tables plan.old) task.0 }
-    ensures goes { OnOk result (Goes tables.now.tables plan.old plan.new
-        (planned tables.now.tables plan.old) (with_rows (planned tables.now.tables plan.old)
-        (holding task.0 (planned tables.now.tables plan.old).rows))) }
+    ensures goes { OnOk result
+        (GoesByRows tables.now.tables plan.old plan.new (holding task.0)) }
     ensures sound { OnOk result (IsSound (planned tables.now.tables plan.new)) }
     ensures marked { OnErr result (plan.new.marked ≡ plan.old.marked) }
 {
@@ -35,12 +32,10 @@ pub(crate) fn skip_below(
     plan: &mut Plan,
     task: TaskId,
 ) -> Result<(), Memory>
-    requires plan { IsPlanOf tables.now.tables plan.old }
-    requires sound { IsSound (planned tables.now.tables plan.old) }
+    requires plan { IsSoundPlan tables.now.tables plan.old }
     requires there { IsTask (planned tables.now.tables plan.old) task.0 }
-    ensures goes { OnOk result (Goes tables.now.tables plan.old plan.new
-        (planned tables.now.tables plan.old) (with_rows (planned tables.now.tables plan.old)
-        (skipping task.0 (planned tables.now.tables plan.old).rows))) }
+    ensures goes { OnOk result
+        (GoesByRows tables.now.tables plan.old plan.new (skipping task.0)) }
     ensures sound { OnOk result (IsSound (planned tables.now.tables plan.new)) }
     ensures marked { OnErr result (plan.new.marked ≡ plan.old.marked) }
 {
@@ -56,13 +51,11 @@ pub(crate) fn close_family(
     task: TaskId,
     end: State,
 ) -> Result<(), Memory>
-    requires plan { IsPlanOf tables.now.tables plan.old }
-    requires sound { IsSound (planned tables.now.tables plan.old) }
+    requires plan { IsSoundPlan tables.now.tables plan.old }
     requires there { IsTask (planned tables.now.tables plan.old) task.0 }
     requires end { IsTrue (is_final end) }
-    ensures goes { OnOk result (Goes tables.now.tables plan.old plan.new
-        (planned tables.now.tables plan.old) (with_rows (planned tables.now.tables plan.old)
-        (closing end task.0 (planned tables.now.tables plan.old).rows))) }
+    ensures goes { OnOk result
+        (GoesByRows tables.now.tables plan.old plan.new (closing end task.0)) }
     ensures sound { OnOk result (IsSound (planned tables.now.tables plan.new)) }
     ensures marked { OnErr result (plan.new.marked ≡ plan.old.marked) }
 {

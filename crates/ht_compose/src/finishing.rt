@@ -1,20 +1,16 @@
-ghost use Rattle.std.specs.Option.{option_or};
-ghost use Rattle.std.specs.Prelude.{◌≡◌, ◌++◌, IfOk, IsTrue, None, OnOk, Some, ◌&&◌, filter, find, if◌then◌else◌, length, map, option_map};
-ghost use Rattle.std.specs.List.{list_any};
+ghost use Rattle.std.specs.Prelude.{◌≡◌, ◌++◌, IfOk, IsTrue, OnOk, Some, map, option_map};
 ghost use Rattle.ht_base.specs.Kinds.{kind_of_how, kind_of_value};
-ghost use Rattle.ht_base.specs.State.{is_completed, is_final};
 ghost use Rattle.ht_base.specs.Values.{value_of};
 ghost use Rattle.ht_compose.specs.Finding.{Finds, rows_of};
 ghost use Rattle.ht_compose.specs.Finishes as spec;
-ghost use Rattle.ht_compose.specs.Finishes.{Sets, default, of_kind, with_result};
+ghost use Rattle.ht_compose.specs.Finishes.{Sets, chosen_by, default, of_kind, with_result};
 ghost use Rattle.ht_expr.specs.Environment.{has_parts};
 ghost use Rattle.ht_expr.specs.Kinds.{Declared};
 ghost use Rattle.ht_expr.specs.KindTable.{same_kind};
 ghost use Rattle.ht_models.specs.Kinded.{HasTruth, IsKinded, parts_of};
 ghost use Rattle.ht_models.specs.Shown as shown;
 ghost use Rattle.ht_tree.specs.Families as families;
-ghost use Rattle.ht_tree.specs.Plans.{IsPlanOf, planned};
-ghost use Rattle.ht_tree.specs.Soundness.{IsSound};
+ghost use Rattle.ht_tree.specs.Plans.{IsPlanOf, IsSoundPlan, planned};
 ghost use Rattle.ht_tree.specs.Tables.{model_of, task_row};
 
 use ht_aggregate::aggregate;
@@ -35,8 +31,7 @@ pub(crate) fn finish(
     model: &Model,
     subs: &[TaskId],
 ) -> Result<Option<Values>, Memory>
-    requires plan { IsPlanOf tables.now.tables plan.now }
-    requires sound { IsSound (planned tables.now.tables plan.now) }
+    requires plan { IsSoundPlan tables.now.tables plan.now }
     requires row { task_row (planned tables.now.tables plan.now) row.now.task.0 ≡ Some row.now }
     requires model { model_of (planned tables.now.tables plan.now) row.now
         ≡ Some (shown.model_of model.now) }
@@ -73,13 +68,9 @@ fn chosen<'a>(
     requires kinds { IsKinded model.now }
     requires parts { IsTrue
         (has_parts (parts_of model.now.input.items model.now.output.items) env.now) }
-    ensures { let finishes = (shown.model_of model.now).finishes in
-        option_map (λ f. shown.finish_of f.now) result
-        ≡ option_or (find
-        (spec.applies (parts_of model.now.input.items model.now.output.items) env.now)
-        finishes) (if spec.all_ended task.0 (length model.now.subs.items)
-        (rows_of (planned tables.now.tables plan.now) subs.now) then default finishes else
-        None) }
+    ensures { option_map (λ f. shown.finish_of f.now) result
+        ≡ chosen_by env.now (rows_of (planned tables.now.tables plan.now) subs.now)
+        (shown.model_of model.now) task.0 }
 {
     if let Some(finish) = first_true(model, env) {
         return Some(finish);
@@ -96,8 +87,7 @@ fn first_true<'a>(model: &'a Model, env: &Env) -> Option<&'a Finish>
     requires parts { IsTrue
         (has_parts (parts_of model.now.input.items model.now.output.items) env.now) }
     ensures { option_map (λ f. shown.finish_of f.now) result
-        ≡ find (spec.applies (parts_of model.now.input.items model.now.output.items) env.now)
-        (shown.model_of model.now).finishes }
+        ≡ spec.first_true (shown.model_of model.now) env.now }
 {
     for finish in &model.finishes {
         if applies(finish, env) {
@@ -153,7 +143,7 @@ pub(crate) fn all_ended(
 
 fn entry_ended(tables: &Tables, plan: &Plan, subs: &[TaskId], task: TaskId, entry: usize) -> bool
     requires { IsPlanOf tables.now.tables plan.now }
-    ensures { result ≡ list_any (λ s. families.is_of_entry task.0 entry s && is_final s.state)
+    ensures { result ≡ spec.entry_ended task.0 entry
         (rows_of (planned tables.now.tables plan.now) subs.now) }
 {
     for id in subs {
@@ -209,8 +199,7 @@ fn push_completed(
     requires { IsPlanOf tables.now.tables plan.now }
     ensures { OnOk result (found.new.items
         ≡ found.old.items
-        ++ map (λ s. s.task) (filter
-        (λ s. families.is_of_entry task.0 entry s && is_completed s.state)
+        ++ map (λ s. s.task) (spec.completed_of task.0 entry
         (rows_of (planned tables.now.tables plan.now) subs.now))) }
 {
     for id in subs {

@@ -6,9 +6,8 @@ ghost use Rattle.ht_compose.specs.Freeing.{IsFreed};
 ghost use Rattle.ht_compose.specs.Items.Item.{Check};
 ghost use Rattle.ht_compose.specs.Reaching.{IsTask};
 ghost use Rattle.ht_compose.specs.Running.{Runs};
-ghost use Rattle.ht_tree.specs.Plans.{Goes, IsPlanOf, planned};
+ghost use Rattle.ht_tree.specs.Plans.{GoesByRows, IsSoundPlan, planned};
 ghost use Rattle.ht_tree.specs.Soundness.{IsSound};
-ghost use Rattle.ht_tree.specs.Tables.{with_rows};
 
 use crate::item::Item;
 use crate::reaching::Reach;
@@ -29,8 +28,7 @@ pub fn free(
     task: TaskId,
     at: Moment,
 ) -> Result<(), Memory>
-    requires plan { IsPlanOf tables.now.tables plan.old }
-    requires sound { IsSound (planned tables.now.tables plan.old) }
+    requires plan { IsSoundPlan tables.now.tables plan.old }
     requires there { IsTask (planned tables.now.tables plan.old) task.0 }
     requires at { at.0 ≤ last_moment }
     ensures frees { OnOk result (IsFreed tables.now.tables plan.old plan.new at task.0) }
@@ -49,12 +47,10 @@ fn free_below(
     plan: &mut Plan,
     task: TaskId,
 ) -> Result<Vec<TaskId>, Memory>
-    requires plan { IsPlanOf tables.now.tables plan.old }
-    requires sound { IsSound (planned tables.now.tables plan.old) }
+    requires plan { IsSoundPlan tables.now.tables plan.old }
     requires there { IsTask (planned tables.now.tables plan.old) task.0 }
-    ensures goes { OnOk result (Goes tables.now.tables plan.old plan.new
-        (planned tables.now.tables plan.old) (with_rows (planned tables.now.tables plan.old)
-        (freeing task.0 (planned tables.now.tables plan.old).rows))) }
+    ensures goes { OnOk result
+        (GoesByRows tables.now.tables plan.old plan.new (freeing task.0)) }
     ensures sound { OnOk result (IsSound (planned tables.now.tables plan.new)) }
     ensures freed { IfOk result (λ tasks.
         map (λ id. Check id.0) tasks.items
@@ -81,8 +77,7 @@ fn check_all(
     tasks: &[TaskId],
     at: Moment,
 ) -> Result<(), Memory>
-    requires plan { IsPlanOf tables.now.tables plan.old }
-    requires sound { IsSound (planned tables.now.tables plan.old) }
+    requires plan { IsSoundPlan tables.now.tables plan.old }
     requires at { at.0 ≤ last_moment }
     ensures runs { OnOk result
         (Runs tables.now.tables plan.old plan.new at (map (λ id. Check id.0) tasks.now)) }

@@ -1,8 +1,7 @@
 ghost use Rattle.std.specs.Prelude.{◌≡◌, OnErr, OnOk};
 ghost use Rattle.ht_compose.specs.Gathering.{IsGathered};
 ghost use Rattle.ht_compose.specs.Reaching.{IsTask};
-ghost use Rattle.ht_tree.specs.Plans.{IsPlanOf, planned};
-ghost use Rattle.ht_tree.specs.Soundness.{IsSound};
+ghost use Rattle.ht_tree.specs.Plans.{IsSoundPlan, planned};
 
 use crate::finishing::finish;
 use ht_base::{Memory, TaskId};
@@ -14,8 +13,7 @@ use std::alloc::Global;
 /// chosen finish, where its completion is manual (WS-HumanTask 1.1, 4.8). After want of memory the plan
 /// can still go back to its mark.
 pub fn gather(alloc: Global, tables: &Tables, plan: &mut Plan, task: TaskId) -> Result<(), Memory>
-    requires plan { IsPlanOf tables.now.tables plan.old }
-    requires sound { IsSound (planned tables.now.tables plan.old) }
+    requires plan { IsSoundPlan tables.now.tables plan.old }
     requires there { IsTask (planned tables.now.tables plan.old) task.0 }
     ensures gathers { OnOk result (IsGathered tables.now.tables plan.old plan.new task.0) }
     ensures marked { OnErr result (plan.new.marked ≡ plan.old.marked) }

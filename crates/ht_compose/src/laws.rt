@@ -33,40 +33,56 @@ pub fn the_end_is_always_reached()
 
 /// A task is above another exactly where a chain of one or more parents leads to it, in sound tables.
 pub fn above_is_a_chain_of_parents()
-    ensures { (u : TablesOf) (above task : ℕ) (row : Row) → IsSound u → task_row u task ≡ Some row
+    ensures { (u : TablesOf) (above task : ℕ) (row : Row)
+        → IsSound u
+        → task_row u task ≡ Some row
         → (is_above u.rows above row ≡ true) ↔ Above u.rows above task }
 {}
 
 /// Each task ages by what is done on composite tasks, and where tasks are freed below one that is resumed.
 pub fn tasks_only_age()
-    ensures agenda { (at : Moment) (u v : TablesOf) (items : List Item) → AreNumbered u.rows
-        → Ends (Does at) u items v → AllAge at u v }
-    ensures freeing { (at : Moment) (task : ℕ) (u v : TablesOf) → AreNumbered u.rows
-        → Frees at task u v → AllAge at u v }
+    ensures agenda { (at : Moment) (u v : TablesOf) (items : List Item)
+        → AreNumbered u.rows
+        → Ends (Does at) u items v
+        → AllAge at u v }
+    ensures freeing { (at : Moment) (task : ℕ) (u v : TablesOf)
+        → AreNumbered u.rows
+        → Frees at task u v
+        → AllAge at u v }
     ensures row { (row : Row) → Ages row (freed row) }
     ensures unchanged { (at : Moment) (u : TablesOf) → AllAge at u u }
-    ensures onward { (at : Moment) (u v w : TablesOf) → AllAge at u v → AllAge at v w
+    ensures onward { (at : Moment) (u v w : TablesOf)
+        → AllAge at u v
+        → AllAge at v w
         → AllAge at u w }
 {}
 
 /// Of a task that ages nothing is due but what was.
 pub fn what_is_due_only_goes()
-    ensures { (models : List ModelOf) (old new : Row) (due : Due) → Ages old new
-        → has due (row_dues models new) ≡ true → has due (row_dues models old) ≡ true }
+    ensures { (models : List ModelOf) (old new : Row) (due : Due)
+        → Ages old new
+        → has due (row_dues models new) ≡ true
+        → has due (row_dues models old) ≡ true }
 {}
 
 /// What is done on composite tasks changes rows alone.
 pub fn only_rows_change()
-    ensures agenda { (at : Moment) (u v : TablesOf) (items : List Item) → Ends (Does at) u items v
+    ensures agenda { (at : Moment) (u v : TablesOf) (items : List Item)
+        → Ends (Does at) u items v
         → v ≡ with_rows u v.rows }
-    ensures freeing { (at : Moment) (task : ℕ) (u v : TablesOf) → Frees at task u v
+    ensures freeing { (at : Moment) (task : ℕ) (u v : TablesOf)
+        → Frees at task u v
         → v ≡ with_rows u v.rows }
 {}
 
 /// What is done on composite tasks is the same whatever the moment of the last record was.
 pub fn the_last_moment_is_not_looked_at()
-    ensures agenda { (at : Moment) (u v : TablesOf) (items : List Item) → Ends (Does at) u items v
-        → (last : ℕ) → Ends (Does at) (at_moment u last) items (at_moment v last) }
-    ensures freeing { (at : Moment) (task : ℕ) (u v : TablesOf) → Frees at task u v → (last : ℕ)
+    ensures agenda { (at : Moment) (u v : TablesOf) (items : List Item)
+        → Ends (Does at) u items v
+        → (last : ℕ)
+        → Ends (Does at) (at_moment u last) items (at_moment v last) }
+    ensures freeing { (at : Moment) (task : ℕ) (u v : TablesOf)
+        → Frees at task u v
+        → (last : ℕ)
         → Frees at task (at_moment u last) (at_moment v last) }
 {}

@@ -7,8 +7,7 @@ ghost use Rattle.ht_models.specs.Shown.{model_of};
 ghost use Rattle.ht_compose.specs.Finding.{rows_of};
 ghost use Rattle.ht_compose.specs.Items.Item.{Make};
 ghost use Rattle.ht_compose.specs.Running.{Acts};
-ghost use Rattle.ht_tree.specs.Plans.{IsPlanOf, planned};
-ghost use Rattle.ht_tree.specs.Soundness.{IsSound};
+ghost use Rattle.ht_tree.specs.Plans.{IsPlanOf, IsSoundPlan, planned};
 ghost use Rattle.ht_compose.specs.Items as spec;
 ghost use Rattle.ht_tree.specs.Families as made;
 
@@ -29,8 +28,7 @@ pub(crate) fn make(
     task: TaskId,
     entry: u32,
 ) -> Result<Vec<Item>, Memory>
-    requires plan { IsPlanOf tables.now.tables plan.old }
-    requires sound { IsSound (planned tables.now.tables plan.old) }
+    requires plan { IsSoundPlan tables.now.tables plan.old }
     requires at { at.0 ≤ last_moment }
     ensures acts { IfOk result
         (λ puts. Acts tables.now.tables plan.old plan.new at (Make task.0 entry) puts.items) }
@@ -68,8 +66,7 @@ fn is_made(
     task: TaskId,
     entry: u32,
 ) -> Result<bool, Memory>
-    requires plan { IsPlanOf tables.now.tables plan.now }
-    requires sound { IsSound (planned tables.now.tables plan.now) }
+    requires plan { IsSoundPlan tables.now.tables plan.now }
     ensures { IfOk result
         (λ b. b ≡ made.is_made task.0 entry (planned tables.now.tables plan.now).rows) }
 {

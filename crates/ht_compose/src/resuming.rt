@@ -3,9 +3,9 @@ ghost use Rattle.ht_base.specs.Moment.{last_moment};
 ghost use Rattle.ht_compose.specs.Downward as downward;
 ghost use Rattle.ht_compose.specs.Freeing.{IsResumed};
 ghost use Rattle.ht_tree.specs.declared.row.Row.{Row};
-ghost use Rattle.ht_tree.specs.Plans.{Goes, IsPlanOf, planned};
+ghost use Rattle.ht_tree.specs.Plans.{GoesByRow, IsSoundPlan, planned};
 ghost use Rattle.ht_tree.specs.Soundness.{IsSound, is_suspended};
-ghost use Rattle.ht_tree.specs.Tables.{task_row, with_row};
+ghost use Rattle.ht_tree.specs.Tables.{task_row};
 
 use crate::changing::changed;
 use crate::freeing::free;
@@ -24,8 +24,7 @@ pub fn resume(
     task: TaskId,
     at: Moment,
 ) -> Result<(), Memory>
-    requires plan { IsPlanOf tables.now.tables plan.old }
-    requires sound { IsSound (planned tables.now.tables plan.old) }
+    requires plan { IsSoundPlan tables.now.tables plan.old }
     requires suspended { (row : Row)
         × (task_row (planned tables.now.tables plan.old) task.0 ≡ Some row)
         × (is_suspended row.state ≡ true) }
@@ -39,14 +38,12 @@ pub fn resume(
 
 // Plans that the task alone returns to its state before.
 fn free_one(alloc: Global, tables: &Tables, plan: &mut Plan, task: TaskId) -> Result<(), Memory>
-    requires plan { IsPlanOf tables.now.tables plan.old }
-    requires sound { IsSound (planned tables.now.tables plan.old) }
+    requires plan { IsSoundPlan tables.now.tables plan.old }
     requires suspended { (row : Row)
         × (task_row (planned tables.now.tables plan.old) task.0 ≡ Some row)
         × (is_suspended row.state ≡ true) }
     ensures frees { (row : Row) → task_row (planned tables.now.tables plan.old) task.0 ≡ Some row
-        → OnOk result (Goes tables.now.tables plan.old plan.new (planned tables.now.tables plan.old)
-        (with_row (planned tables.now.tables plan.old) (downward.freed row))) }
+        → OnOk result (GoesByRow tables.now.tables plan.old plan.new (downward.freed row)) }
     ensures sound { OnOk result (IsSound (planned tables.now.tables plan.new)) }
     ensures marked { OnErr result (plan.new.marked ≡ plan.old.marked) }
 {

@@ -4,8 +4,7 @@ ghost use Rattle.ht_compose.specs.Running.{Acts, Runs, item_of};
 ghost use Rattle.ht_compose.specs.Work.{ClosesForGood};
 ghost use Rattle.ht_models.specs.MappedInputs.{AreMapped};
 ghost use Rattle.ht_models.specs.TreeSizes.{AreSized};
-ghost use Rattle.ht_tree.specs.Plans.{IsPlanOf, planned};
-ghost use Rattle.ht_tree.specs.Soundness.{IsSound};
+ghost use Rattle.ht_tree.specs.Plans.{IsSoundPlan};
 
 use crate::activating::activate;
 use crate::beginning::begin;
@@ -25,8 +24,7 @@ pub(crate) fn run(
     at: Moment,
     item: Item,
 ) -> Result<(), Memory>
-    requires plan { IsPlanOf tables.now.tables plan.old }
-    requires sound { IsSound (planned tables.now.tables plan.old) }
+    requires plan { IsSoundPlan tables.now.tables plan.old }
     requires at { at.0 ≤ last_moment }
     requires closes { ClosesForGood (item_of item) }
     ensures runs { OnOk result (Runs tables.now.tables plan.old plan.new at (item_of item ∷ [])) }
@@ -55,8 +53,7 @@ fn act(
     at: Moment,
     item: Item,
 ) -> Result<Vec<Item>, Memory>
-    requires plan { IsPlanOf tables.now.tables plan.old }
-    requires sound { IsSound (planned tables.now.tables plan.old) }
+    requires plan { IsSoundPlan tables.now.tables plan.old }
     requires at { at.0 ≤ last_moment }
     requires closes { ClosesForGood (item_of item) }
     ensures acts { IfOk result

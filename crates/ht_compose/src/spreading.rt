@@ -1,7 +1,7 @@
 ghost use Rattle.std.specs.Prelude.{◌≡◌, IfOk, OnErr, OnOk, false};
 ghost use Rattle.std.specs.Option.{option_map_or};
 ghost use Rattle.ht_compose.specs.Reaching.{ReachIsFinal, IsLastBelow, IsTask, Reaches, ReachesAll, changes};
-ghost use Rattle.ht_tree.specs.Plans.{IsPlanOf, planned};
+ghost use Rattle.ht_tree.specs.Plans.{IsPlanOf, IsSoundPlan, planned};
 ghost use Rattle.ht_tree.specs.Soundness.{IsSound};
 ghost use Rattle.ht_tree.specs.Tables.{task_row};
 
@@ -20,8 +20,7 @@ pub(crate) fn spread(
     task: TaskId,
     reach: Reach,
 ) -> Result<(), Memory>
-    requires plan { IsPlanOf tables.now.tables plan.old }
-    requires sound { IsSound (planned tables.now.tables plan.old) }
+    requires plan { IsSoundPlan tables.now.tables plan.old }
     requires there { IsTask (planned tables.now.tables plan.old) task.0 }
     requires ends { ReachIsFinal reach }
     ensures reaches { OnOk result (ReachesAll tables.now.tables plan.old plan.new task.0 reach) }
@@ -37,8 +36,7 @@ pub(crate) fn spread(
 
 // The number behind which no task is below this one.
 pub(crate) fn last_below(tables: &Tables, plan: &Plan, task: TaskId) -> u32
-    requires plan { IsPlanOf tables.now.tables plan.now }
-    requires sound { IsSound (planned tables.now.tables plan.now) }
+    requires plan { IsSoundPlan tables.now.tables plan.now }
     requires there { IsTask (planned tables.now.tables plan.now) task.0 }
     ensures { IsLastBelow (planned tables.now.tables plan.now) task.0 result }
 {

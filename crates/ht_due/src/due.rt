@@ -1,7 +1,8 @@
 use ht_base::{Moment, TaskId};
 
 /// An action of a task that is due at a moment. Dues are ordered by their moment, then their task,
-/// kind and place.
+/// kind and place: they are compared field by field, in the order in which the fields stand here. So the
+/// order of the fields is the order in which actions are taken, and none is moved.
 #[derive(Clone, Copy, Debug, PartialEq, Eq, PartialOrd, Ord)]
 pub struct Due {
     pub at: Moment,

@@ -7,3 +7,4 @@ mod OpenDues
 pub mod PublicLaws
 mod TakenRows
 mod TakenTables
+mod Telling

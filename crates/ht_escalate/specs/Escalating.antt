@@ -1,7 +1,7 @@
 -- What comes of a deadline that is missed (WS-HumanTask 1.1, 4.9 "Timeouts/deadlines and escalations"): of
 -- its escalations those are triggered whose condition is true. All conditions and people assignments see
 -- the task as the deadline finds it.
-use Rattle.std.specs.Prelude.{◌≡◌, ℕ, Bool, false, not, List, [], ◌∷◌, ◌++◌, filter, filter_map, Option, Some, None, option_map, slice_get}
+use Rattle.std.specs.Prelude.{◌≡◌, ℕ, Bool, false, not, List, [], ◌∷◌, ◌++◌, filter, filter_map, Option, Some, None, option_map, slice_get, if◌then◌else◌}
 use Rattle.ht_base.specs.declared.moment.Moment.{Moment}
 use Rattle.ht_base.specs.declared.state.State.{State}
 use Rattle.ht_base.specs.declared.state.State.TheVariants.{Ready, Reserved, InProgress, SuspendedReady, SuspendedReserved, SuspendedInProgress}
@@ -34,6 +34,10 @@ triggered s es = filter (is_triggered s) es
 -- whom the assignment finds is told, also where that is nobody
 abbrev pub notice_of : DirectoryOf → Sight → TaskId → List ℕ → Moment → EscalationOf → Option Notice
 notice_of d s task name at e = option_map (λ a. record { task = task; deadline = name; escalation = e.name; moment = at; recipients = resolved d s a }) e.notify
+
+-- of an escalation that is triggered
+abbrev pub notice_if_triggered : DirectoryOf → Sight → TaskId → List ℕ → Moment → EscalationOf → Option Notice
+notice_if_triggered d s task name at e = if is_triggered s e then notice_of d s task name at e else None
 
 abbrev pub notices_of : DirectoryOf → Sight → TaskId → DeadlineOf → Moment → List Notice
 notices_of d s task deadline at = filter_map (notice_of d s task deadline.name at) (triggered s deadline.escalations)

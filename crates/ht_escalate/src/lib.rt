@@ -6,6 +6,7 @@ mod first_due;
 mod laws;
 mod notifying;
 mod reassigning;
+mod seen;
 mod taking;
 mod triggering;
 

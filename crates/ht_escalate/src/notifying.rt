@@ -1,46 +1,36 @@
-ghost use Rattle.std.specs.Prelude.{◌≡◌, ◌++◌, IfOk, IfSome, None, OnErr, OnOk, if◌then◌else◌};
+ghost use Rattle.std.specs.Prelude.{◌≡◌, IfOk, IfSome, OnErr, OnOk};
 ghost use Rattle.ht_escalate.specs.Escalating as spec;
-ghost use Rattle.ht_escalate.specs.Seeing.{IsSeen, telling};
-ghost use Rattle.ht_models.specs.Kinded.{Ends, Escalates, parts_of};
+ghost use Rattle.ht_escalate.specs.Seeing.{IsSeen, env_of, kinds_of, people_of, row_of, sight_of, telling};
+ghost use Rattle.ht_models.specs.Kinded.{Ends, Escalates};
 ghost use Rattle.ht_models.specs.Shown as shown;
-ghost use Rattle.ht_tree.specs.Creating.{seen_in, sees};
-ghost use Rattle.ht_tree.specs.Plans.{planned};
-ghost use Rattle.ht_tree.specs.Tables.{directory};
 
+use crate::seen::Seen;
 use crate::triggering::is_triggered;
 use ht_base::{Memory, Moment};
 use ht_expr::Env;
-use ht_models::{Deadline, Escalation, Model};
-use ht_tree::{Notice, Plan, Row, Tables, resolve_seen};
+use ht_models::{Deadline, Escalation};
+use ht_tree::{Notice, Plan, resolve_seen};
 use std::alloc::Global;
 
-/// The notifications that a deadline of a row sends at its due moment, in the order of its escalations.
+/// The notifications that a deadline of a task sends at its due moment, in the order of its escalations.
 pub(crate) fn notices_of(
     alloc: Global,
-    tables: &Tables,
-    plan: &Plan,
-    row: &Row,
-    model: &Model,
+    seen: &Seen<'_>,
     deadline: &Deadline,
     at: Moment,
     view: &mut Option<Env>,
 ) -> Result<Vec<Notice>, Memory>
-    requires seen { IsSeen tables.now.tables plan.now row.now model.now }
-    requires kinds { Ends (parts_of model.now.input.items model.now.output.items) deadline.now }
-    requires view { IfSome view.old
-        (λ e. e ≡ sees (planned tables.now.tables plan.now).rows row.now) }
+    requires seen { IsSeen seen.now }
+    requires kinds { Ends (kinds_of seen.now) deadline.now }
+    requires view { IfSome view.old (λ e. e ≡ env_of seen.now) }
     ensures notices { IfOk result (λ notices.
-        notices.items ≡ spec.notices_of (directory tables.now.tables)
-        (seen_in (shown.model_of model.now) (planned tables.now.tables plan.now).rows row.now)
-        row.now.task (shown.deadline_of deadline.now) at) }
-    ensures view { OnOk result
-        (IfSome view.new (λ e. e ≡ sees (planned tables.now.tables plan.now).rows row.now)) }
+        notices.items ≡ spec.notices_of (people_of seen.now) (sight_of seen.now)
+        (row_of seen.now).task (shown.deadline_of deadline.now) at) }
+    ensures view { OnOk result (IfSome view.new (λ e. e ≡ env_of seen.now)) }
 {
     let mut notices = Vec::new(alloc);
     for escalation in &deadline.escalations {
-        if let Some(notice) = notice_of(
-            alloc, tables, plan, row, model, deadline, escalation, at, view,
-        )? {
+        if let Some(notice) = notice_of(alloc, seen, deadline, escalation, at, view)? {
             notices.push(notice)?;
         }
     }
@@ -50,40 +40,32 @@ pub(crate) fn notices_of(
 // The notification of an escalation, if it is triggered and tells anybody.
 fn notice_of(
     alloc: Global,
-    tables: &Tables,
-    plan: &Plan,
-    row: &Row,
-    model: &Model,
+    seen: &Seen<'_>,
     deadline: &Deadline,
     escalation: &Escalation,
     at: Moment,
     view: &mut Option<Env>,
 ) -> Result<Option<Notice>, Memory>
-    requires seen { IsSeen tables.now.tables plan.now row.now model.now }
-    requires kinds { Escalates (parts_of model.now.input.items model.now.output.items)
-        escalation.now }
-    requires view { IfSome view.old
-        (λ e. e ≡ sees (planned tables.now.tables plan.now).rows row.now) }
-    ensures notice { let s = seen_in (shown.model_of model.now) (planned tables.now.tables plan.now).rows row.now in
-        let e = shown.escalation_of escalation.now in
-        IfOk result (λ notice.
-        notice ≡ (if spec.is_triggered s e then spec.notice_of (directory tables.now.tables)
-        s row.now.task (deadline.now).name at e else None)) }
-    ensures view { OnOk result
-        (IfSome view.new (λ e. e ≡ sees (planned tables.now.tables plan.now).rows row.now)) }
+    requires seen { IsSeen seen.now }
+    requires kinds { Escalates (kinds_of seen.now) escalation.now }
+    requires view { IfSome view.old (λ e. e ≡ env_of seen.now) }
+    ensures notice { IfOk result (λ notice.
+        notice ≡ spec.notice_if_triggered (people_of seen.now) (sight_of seen.now)
+        (row_of seen.now).task (deadline.now).name at (shown.escalation_of escalation.now)) }
+    ensures view { OnOk result (IfSome view.new (λ e. e ≡ env_of seen.now)) }
 {
     let Some(assign) = &escalation.notify else {
         return Ok(None);
     };
-    if !is_triggered(alloc, tables, plan, row, model, escalation, view)? {
+    if !is_triggered(alloc, seen, escalation, view)? {
         return Ok(None);
     }
     Ok(Some(Notice {
-        task: row.task,
+        task: seen.row.task,
         deadline: deadline.name,
         escalation: escalation.name,
         moment: at,
-        recipients: resolve_seen(alloc, tables, plan, row, assign, view)?,
+        recipients: resolve_seen(alloc, seen.tables, seen.plan, seen.row, assign, view)?,
     }))
 }
 

@@ -2,20 +2,18 @@ ghost use Rattle.std.specs.Prelude.{◌≡◌, ◌&&◌, IfOk, IfSome, List, fal
 ghost use Rattle.ht_base.specs.Persons.{Ascends, has};
 ghost use Rattle.ht_escalate.specs.Escalating as spec;
 ghost use Rattle.ht_escalate.specs.Seeing as seeing;
-ghost use Rattle.ht_escalate.specs.Seeing.{IsSeen};
+ghost use Rattle.ht_escalate.specs.Seeing.{IsSeen, env_of, kinds_of, people_of, row_of, sight_of};
 ghost use Rattle.ht_expr.specs.Assignments.{is_individual};
 ghost use Rattle.ht_expr.specs.Shown as tree;
-ghost use Rattle.ht_models.specs.Kinded.{Assigns, Ends, parts_of};
+ghost use Rattle.ht_models.specs.Kinded.{Assigns, Ends};
 ghost use Rattle.ht_models.specs.Shown as shown;
-ghost use Rattle.ht_tree.specs.Creating.{seen_in, sees};
-ghost use Rattle.ht_tree.specs.Plans.{planned};
-ghost use Rattle.ht_tree.specs.Tables.{directory};
 
+use crate::seen::Seen;
 use crate::triggering::is_triggered;
 use ht_base::{Memory, Persons, State};
 use ht_expr::{Assign, Env};
-use ht_models::{Deadline, Model};
-use ht_tree::{Plan, Row, Tables, resolve_seen, without};
+use ht_models::Deadline;
+use ht_tree::{Row, resolve_seen, without};
 use std::alloc::Global;
 
 /// To whom a task is given, and whether by a group.
@@ -25,29 +23,23 @@ pub struct Owners {
     pub by_group: bool,
 }
 
-/// To whom a deadline gives the task of a row. None where no reassignment is triggered.
+/// To whom a deadline gives its task. None where no reassignment is triggered.
 pub(crate) fn new_owners(
     alloc: Global,
-    tables: &Tables,
-    plan: &Plan,
-    row: &Row,
-    model: &Model,
+    seen: &Seen<'_>,
     deadline: &Deadline,
     view: &mut Option<Env>,
 ) -> Result<Option<Owners>, Memory>
-    requires seen { IsSeen tables.now.tables plan.now row.now model.now }
-    requires kinds { Ends (parts_of model.now.input.items model.now.output.items) deadline.now }
-    requires view { IfSome view.old
-        (λ e. e ≡ sees (planned tables.now.tables plan.now).rows row.now) }
-    ensures { let s = seen_in (shown.model_of model.now) (planned tables.now.tables plan.now).rows row.now in
-        IfOk result (λ owners.
-        owners ≡ seeing.owners_of (directory tables.now.tables) s row.now
-        (spec.first_reassignment s (shown.deadline_of deadline.now))) }
+    requires seen { IsSeen seen.now }
+    requires kinds { Ends (kinds_of seen.now) deadline.now }
+    requires view { IfSome view.old (λ e. e ≡ env_of seen.now) }
+    ensures { IfOk result
+        (λ owners. owners ≡ seeing.new_owners seen.now (shown.deadline_of deadline.now)) }
 {
     for escalation in &deadline.escalations {
         if let Some(assign) = &escalation.reassign {
-            if is_triggered(alloc, tables, plan, row, model, escalation, view)? {
-                return Ok(Some(owners_by(alloc, tables, plan, row, model, assign, view)?));
+            if is_triggered(alloc, seen, escalation, view)? {
+                return Ok(Some(owners_by(alloc, seen, assign, view)?));
             }
         }
     }
@@ -57,25 +49,20 @@ pub(crate) fn new_owners(
 // To whom an assignment of the model gives the task, which isn't one of the excluded owners.
 fn owners_by(
     alloc: Global,
-    tables: &Tables,
-    plan: &Plan,
-    row: &Row,
-    model: &Model,
+    seen: &Seen<'_>,
     assign: &Assign,
     view: &mut Option<Env>,
 ) -> Result<Owners, Memory>
-    requires seen { IsSeen tables.now.tables plan.now row.now model.now }
-    requires kinds { Assigns (parts_of model.now.input.items model.now.output.items) assign.now }
-    requires view { IfSome view.old
-        (λ e. e ≡ sees (planned tables.now.tables plan.now).rows row.now) }
-    ensures { let s = seen_in (shown.model_of model.now) (planned tables.now.tables plan.now).rows row.now in
-        let a = tree.shown assign.now in
-        IfOk result
-        (λ owners. owners ≡ seeing.owners_by (directory tables.now.tables) s row.now a) }
+    requires seen { IsSeen seen.now }
+    requires kinds { Assigns (kinds_of seen.now) assign.now }
+    requires view { IfSome view.old (λ e. e ≡ env_of seen.now) }
+    ensures { IfOk result (λ owners.
+        owners ≡ seeing.owners_by (people_of seen.now) (sight_of seen.now) (row_of seen.now)
+        (tree.shown assign.now)) }
 {
-    let found = resolve_seen(alloc, tables, plan, row, assign, view)?;
+    let found = resolve_seen(alloc, seen.tables, seen.plan, seen.row, assign, view)?;
     Ok(Owners {
-        persons: without(alloc, found, &row.excluded_owners)?,
+        persons: without(alloc, found, &seen.row.excluded_owners)?,
         by_group: !assign.individual(),
     })
 }

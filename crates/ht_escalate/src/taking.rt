@@ -3,19 +3,17 @@ ghost use Rattle.ht_base.specs.Moment.{last_moment};
 ghost use Rattle.ht_escalate.specs.Escalating as spec;
 ghost use Rattle.ht_escalate.specs.Escalating.{IsEscalated, IsOpen};
 ghost use Rattle.ht_escalate.specs.Seeing as seeing;
-ghost use Rattle.ht_escalate.specs.Seeing.{IsSeen};
-ghost use Rattle.ht_models.specs.Kinded.{Ends, parts_of};
+ghost use Rattle.ht_escalate.specs.Seeing.{IsSeen, kinds_of, people_of, row_of, sight_of};
+ghost use Rattle.ht_models.specs.Kinded.{Ends};
 ghost use Rattle.ht_models.specs.Shown as shown;
-ghost use Rattle.ht_tree.specs.Creating.{seen_in};
-ghost use Rattle.ht_tree.specs.Plans.{IsPlanOf, planned};
-ghost use Rattle.ht_tree.specs.Soundness.{IsSound};
-ghost use Rattle.ht_tree.specs.Tables.{directory};
+ghost use Rattle.ht_tree.specs.Plans.{IsSoundPlan, planned};
 
 use crate::notifying::{notices_of, notify_all};
 use crate::reassigning::{Owners, new_owners, taken_row};
+use crate::seen::Seen;
 use ht_base::{Memory, Moment, TaskId};
-use ht_models::{Deadline, Model};
-use ht_tree::{Notice, Plan, Row, Tables};
+use ht_models::Deadline;
+use ht_tree::{Notice, Plan, Tables};
 use std::alloc::Global;
 
 /// Plans that the deadline at a place of a task's model is taken, counted from 0, at the moment at which
@@ -29,8 +27,7 @@ pub fn deadline(
     place: u32,
     at: Moment,
 ) -> Result<(), Memory>
-    requires plan { IsPlanOf tables.now.tables plan.old }
-    requires sound { IsSound (planned tables.now.tables plan.old) }
+    requires plan { IsSoundPlan tables.now.tables plan.old }
     requires open { IsOpen (planned tables.now.tables plan.old) task.0 place }
     requires at { at.0 ≤ last_moment }
     ensures escalates { OnOk result
@@ -42,7 +39,13 @@ pub fn deadline(
     };
     let model = tables.models().model(row.model);
     let deadline = &model.deadlines[place as usize];
-    let follows = what_follows(alloc, tables, plan, row, model, deadline, at)?;
+    let seen = Seen {
+        tables,
+        plan,
+        row,
+        model,
+    };
+    let follows = what_follows(alloc, &seen, deadline, at)?;
     let row = plan.take(alloc, tables, task)?;
     plan.put(tables, taken_row(row, follows.owners, place)?)?;
     notify_all(plan, follows.notices)
@@ -59,27 +62,21 @@ struct Follows {
 #[inline(never)]
 fn what_follows(
     alloc: Global,
-    tables: &Tables,
-    plan: &Plan,
-    row: &Row,
-    model: &Model,
+    seen: &Seen<'_>,
     deadline: &Deadline,
     at: Moment,
 ) -> Result<Follows, Memory>
-    requires seen { IsSeen tables.now.tables plan.now row.now model.now }
-    requires kinds { Ends (parts_of model.now.input.items model.now.output.items) deadline.now }
-    ensures notices { let s = seen_in (shown.model_of model.now) (planned tables.now.tables plan.now).rows row.now in
-        IfOk result (λ f.
-        f.notices.items ≡ spec.notices_of (directory tables.now.tables) s row.now.task
-        (shown.deadline_of deadline.now) at) }
-    ensures owners { let s = seen_in (shown.model_of model.now) (planned tables.now.tables plan.now).rows row.now in
-        IfOk result (λ f.
-        f.owners ≡ seeing.owners_of (directory tables.now.tables) s row.now
-        (spec.first_reassignment s (shown.deadline_of deadline.now))) }
+    requires seen { IsSeen seen.now }
+    requires kinds { Ends (kinds_of seen.now) deadline.now }
+    ensures notices { IfOk result (λ f.
+        f.notices.items ≡ spec.notices_of (people_of seen.now) (sight_of seen.now)
+        (row_of seen.now).task (shown.deadline_of deadline.now) at) }
+    ensures owners { IfOk result
+        (λ f. f.owners ≡ seeing.new_owners seen.now (shown.deadline_of deadline.now)) }
 {
     let mut view = None;
     Ok(Follows {
-        notices: notices_of(alloc, tables, plan, row, model, deadline, at, &mut view)?,
-        owners: new_owners(alloc, tables, plan, row, model, deadline, &mut view)?,
+        notices: notices_of(alloc, seen, deadline, at, &mut view)?,
+        owners: new_owners(alloc, seen, deadline, &mut view)?,
     })
 }

@@ -10,10 +10,16 @@ use Rattle.ht_machine.specs.Deciding.{Asks, Behind, Rests, kept_at, last_after, 
 use Rattle.ht_machine.specs.Planning.{Leaves, Makes, PlansAsk}
 use Rattle.ht_machine.specs.Turning.{IsTurn, Turns}
 use Rattle.ht_machine.proofs.Asked.{stays}
-use Rattle.ht_tree.specs.Plans.{PlanOf, no_plan, planned}
+use Rattle.ht_tree.specs.Plans.{IsSoundPlan, PlanOf, no_plan, planned}
 use Rattle.ht_tree.specs.Soundness.{IsSound}
 use Rattle.ht_tree.specs.Tables.{TablesOf, at_moment}
 use Rattle.ht_tree.proofs.PublicLaws.{no_plan_fits, planned_nothing, sound_at}
+
+-- where nothing is planned the tables are as they are
+pub nothing_planned : (t : TablesOf) (p : PlanOf) → p ≡ no_plan → IsSound t → IsSoundPlan t p
+nothing_planned t p none sound =
+    let S : TablesOf → Type 0 = λ u. IsSound u in
+    record { fits = no_plan_fits t p none; sound = subst S (sym (planned_nothing t p none)) sound }
 
 -- ---- the record that is left
 

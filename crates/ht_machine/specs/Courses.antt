@@ -1,5 +1,5 @@
 -- Where a turn stands on its way along what is due.
-use Rattle.std.specs.Prelude.{◌≡◌, ◌⊎◌, ◌≤◌, ℕ, ◌+◌, true, List, length, Option, Some}
+use Rattle.std.specs.Prelude.{◌≡◌, ◌⊎◌, ◌≤◌, ℕ, ◌+◌, nat_lt, Bool, true, ◌&&◌, List, length, Option, Some}
 use Rattle.ht_due.specs.declared.due.Due.{Due}
 use Rattle.ht_due.specs.Dues.{Ascends, has}
 use Rattle.ht_machine.specs.Ahead.{IsAhead, in_either}
@@ -16,6 +16,10 @@ pub record IsOnCourse (kept : List Due) (u : TablesOf) (news : List Due) (passed
   pub ahead : (due : Due) → has due (all_dues u) ≡ true → IsAhead passed due
   pub of_tasks : (due : Due) → has due news ≡ true → due.task.0 ≤ length u.rows
   pub in_order : Ascends news
+
+-- a due of a task that the first tables don't have and the second have
+abbrev pub is_of_new : TablesOf → TablesOf → Due → Bool
+is_of_new u v due = nat_lt (length u.rows) due.task.0 && has due (all_dues v)
 
 -- the plan goes on by one action
 pub record IsTaken (t : TablesOf) (old new : PlanOf) (due : Due) : Type 0 where

@@ -3,16 +3,19 @@ use Rattle.std.specs.Prelude.{◌≡◌, ◌⊎◌, ◌<◌, ℕ, List, [], ◌�
 use Rattle.ht_base.specs.declared.event.Command.{Command}
 use Rattle.ht_base.specs.declared.event.Event.{Event}
 use Rattle.ht_base.specs.declared.event.Event.TheVariants.{Ask}
+use Rattle.ht_base.specs.declared.moment.Moment.{Moment}
 use Rattle.ht_base.specs.declared.record.Record.{Record}
+use Rattle.ht_base.specs.declared.record.Record.TheVariants.{Asked}
 use Rattle.ht_base.specs.declared.reply.Answer.{Answer}
 use Rattle.ht_base.specs.declared.reply.Answer.TheVariants.{Refused}
 use Rattle.ht_base.specs.declared.reply.Refusal.TheVariants as refusal
+use Rattle.ht_base.specs.declared.reply.Reply.{Reply}
 use Rattle.ht_base.specs.declared.retry.Retry.{Retry}
 use Rattle.ht_base.specs.declared.task_id.TaskId.{TaskId}
 use Rattle.ht_base.specs.Events.{op_of}
 use Rattle.ht_base.specs.Ordered.{AscendBy}
 use Rattle.ht_due.specs.declared.due.Due.{Due}
-use Rattle.ht_machine.specs.Deciding.{kept_at, left_with, moment_of}
+use Rattle.ht_machine.specs.Deciding.{Decides, kept_at, left_with, moment_of}
 use Rattle.ht_machine.specs.History.{History, memory_reply}
 use Rattle.ht_machine.specs.Sending.{answer_of}
 use Rattle.ht_machine.specs.Turning.{IsTurn}
@@ -55,6 +58,11 @@ pub record ActsOnce (t : TablesOf) (e : Event) (left : Option Record) (answer : 
   pub stale : (s : Slot) (number : ℕ) → IsLast t s → number < s.number → IsOf t s number e → IsTurnAlone t e left after × (answer ≡ Refused (refusal.NumberStale s.number))
 
 -- ---- a history
+
+-- a numbered command of a person's device is accepted at a moment: it leaves itself to be kept
+abbrev pub Accepts : TablesOf → Moment → Moment → List ℕ → Retry → TaskId → Command → Reply → TablesOf → Type 0
+Accepts t asked at caller r task command reply after =
+    Decides t (Ask asked caller (Some r) task command) (Some (Asked at caller (Some r) task command)) reply after
 
 -- a command was accepted with this reply, which this slot keeps
 pub record IsAccepted (t : TablesOf) (caller : List ℕ) (r : Retry) (task : TaskId) (command : Command) (answer : Answer) (s : Slot) : Type 0 where

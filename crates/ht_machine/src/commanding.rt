@@ -5,8 +5,7 @@ ghost use Rattle.ht_machine.specs.Commands as spec;
 ghost use Rattle.ht_machine.specs.Commands.{ActsOn, Comes, DoesOn, HasEffect};
 ghost use Rattle.ht_machine.specs.Planning.{Tries};
 ghost use Rattle.ht_owner.specs.Acting.{IsAllowed};
-ghost use Rattle.ht_tree.specs.Plans.{IsPlanOf, planned};
-ghost use Rattle.ht_tree.specs.Soundness.{IsSound};
+ghost use Rattle.ht_tree.specs.Plans.{IsSoundPlan, planned};
 
 use crate::creating::create;
 use crate::following::follow;
@@ -28,8 +27,7 @@ pub(crate) fn command(
     task: TaskId,
     command: &Command,
 ) -> Result<TaskId, ActRefusal>
-    requires plan { IsPlanOf tables.now.tables plan.old }
-    requires sound { IsSound (planned tables.now.tables plan.old) }
+    requires plan { IsSoundPlan tables.now.tables plan.old }
     requires caller { caller < length tables.now.tables.people.persons }
     requires at { at.0 ≤ last_moment }
     requires command { IsCommand command.now }
@@ -61,8 +59,7 @@ fn act_on(
     task: TaskId,
     command: &Command,
 ) -> Result<TaskId, ActRefusal>
-    requires plan { IsPlanOf tables.now.tables plan.old }
-    requires sound { IsSound (planned tables.now.tables plan.old) }
+    requires plan { IsSoundPlan tables.now.tables plan.old }
     requires caller { caller < length tables.now.tables.people.persons }
     requires at { at.0 ≤ last_moment }
     requires command { IsCommand command.now }
@@ -85,8 +82,7 @@ fn do_on(
     task: TaskId,
     command: &Command,
 ) -> Result<TaskId, ActRefusal>
-    requires plan { IsPlanOf tables.now.tables plan.old }
-    requires sound { IsSound (planned tables.now.tables plan.old) }
+    requires plan { IsSoundPlan tables.now.tables plan.old }
     requires caller { caller < length tables.now.tables.people.persons }
     requires allowed { IsAllowed (planned tables.now.tables plan.old) (op_of command.now) caller
         task.0 }
@@ -117,8 +113,7 @@ fn act_then_follow(
     task: TaskId,
     command: &Command,
 ) -> Result<TaskId, ActRefusal>
-    requires plan { IsPlanOf tables.now.tables plan.old }
-    requires sound { IsSound (planned tables.now.tables plan.old) }
+    requires plan { IsSoundPlan tables.now.tables plan.old }
     requires caller { caller < length tables.now.tables.people.persons }
     requires allowed { IsAllowed (planned tables.now.tables plan.old) (op_of command.now) caller
         task.0 }

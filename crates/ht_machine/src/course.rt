@@ -1,9 +1,9 @@
-ghost use Rattle.std.specs.Prelude.{◌≡◌, ◌+◌, ◌<◌, ◌≤◌, ◌^◌, ◌&&◌, ◌||◌, IfOk, None, OnErr, OnOk, length, nat_lt, true};
+ghost use Rattle.std.specs.Prelude.{◌≡◌, ◌+◌, ◌<◌, ◌≤◌, ◌^◌, ◌||◌, IfOk, None, OnErr, OnOk, length, true};
 ghost use Rattle.ht_base.specs.Moment.{last_moment};
 ghost use Rattle.ht_due.specs.declared.due.Due.{Due};
 ghost use Rattle.ht_due.specs.Dues.{Ascends, has};
-ghost use Rattle.ht_machine.specs.Courses.{GoesOn, IsOnCourse, IsTaken};
-ghost use Rattle.ht_tree.specs.Plans.{IsPlanOf, planned};
+ghost use Rattle.ht_machine.specs.Courses.{GoesOn, IsOnCourse, IsTaken, is_of_new};
+ghost use Rattle.ht_tree.specs.Plans.{IsSoundPlan, planned};
 ghost use Rattle.ht_tree.specs.RowDues.{all_dues, first_due};
 ghost use Rattle.ht_tree.specs.Soundness.{IsSound};
 
@@ -27,8 +27,7 @@ pub(crate) struct Course {
 impl Course {
     /// Nothing is passed yet.
     pub(crate) fn begin(alloc: Global, tables: &Tables, plan: &Plan) -> Result<Course, Memory>
-        requires plan { IsPlanOf tables.now.tables plan.now }
-        requires sound { IsSound (planned tables.now.tables plan.now) }
+        requires plan { IsSoundPlan tables.now.tables plan.now }
         ensures course { IfOk result (λ c.
             IsOnCourse (all_dues tables.now.tables) (planned tables.now.tables plan.now)
             (c.news).dues c.passed) }
@@ -54,8 +53,7 @@ impl Course {
         plan: &mut Plan,
         at: Moment,
     ) -> Result<bool, Memory>
-        requires plan { IsPlanOf tables.now.tables plan.old }
-        requires sound { IsSound (planned tables.now.tables plan.old) }
+        requires plan { IsSoundPlan tables.now.tables plan.old }
         requires course { IsOnCourse (all_dues tables.now.tables)
             (planned tables.now.tables plan.old) (self.old.news).dues self.old.passed }
         requires at { at.0 ≤ last_moment }
@@ -91,8 +89,7 @@ impl Course {
         plan: &mut Plan,
         due: Due,
     ) -> Result<(), Memory>
-        requires plan { IsPlanOf tables.now.tables plan.old }
-        requires sound { IsSound (planned tables.now.tables plan.old) }
+        requires plan { IsSoundPlan tables.now.tables plan.old }
         requires due { has due (all_dues (planned tables.now.tables plan.old)) ≡ true }
         requires at { due.at.0 ≤ last_moment }
         requires in_order { Ascends (self.old.news).dues }
@@ -103,8 +100,7 @@ impl Course {
         ensures in_order { OnOk result (Ascends (self.new.news).dues) }
         ensures news { OnOk result ((q : Due)
             → has q (self.new.news).dues
-            ≡ ((nat_lt (length (planned tables.now.tables plan.old).rows) q.task.0
-            && has q (all_dues (planned tables.now.tables plan.new)))
+            ≡ (is_of_new (planned tables.now.tables plan.old) (planned tables.now.tables plan.new) q
             || has q (self.old.news).dues)) }
         ensures count { OnOk result (self.new.taken ≡ self.old.taken + 1) }
         ensures passed { self.new.passed ≡ self.old.passed }

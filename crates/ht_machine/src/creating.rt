@@ -7,8 +7,7 @@ ghost use Rattle.ht_machine.specs.Commands.{Creates};
 ghost use Rattle.ht_machine.specs.Planning as spec;
 ghost use Rattle.ht_machine.specs.Planning.{Finds, IsActivated, Tries};
 ghost use Rattle.ht_models.specs.Shown.{model_of};
-ghost use Rattle.ht_tree.specs.Plans.{IsPlanOf, planned};
-ghost use Rattle.ht_tree.specs.Soundness.{IsSound};
+ghost use Rattle.ht_tree.specs.Plans.{IsSoundPlan, planned};
 
 use ht_base::{Limit, Memory, Moment, Name, Parts, Person, Refusal, TaskId, Unknown};
 use ht_compose::activate;
@@ -30,8 +29,7 @@ pub(crate) fn create(
     input: &Parts,
     waits: Option<Moment>,
 ) -> Result<TaskId, ActRefusal>
-    requires plan { IsPlanOf tables.now.tables plan.old }
-    requires sound { IsSound (planned tables.now.tables plan.old) }
+    requires plan { IsSoundPlan tables.now.tables plan.old }
     requires caller { caller < length tables.now.tables.people.persons }
     requires at { at.0 ≤ last_moment }
     requires input { AreGiven input.now }
@@ -64,8 +62,7 @@ fn activate_unless(
     waits: Option<Moment>,
     task: TaskId,
 ) -> Result<(), Memory>
-    requires plan { IsPlanOf tables.now.tables plan.old }
-    requires sound { IsSound (planned tables.now.tables plan.old) }
+    requires plan { IsSoundPlan tables.now.tables plan.old }
     requires there { IsTask (planned tables.now.tables plan.old) task.0 }
     requires at { at.0 ≤ last_moment }
     ensures { OnOk result (IsActivated tables.now.tables plan.old plan.new at waits task.0) }
@@ -97,10 +94,8 @@ fn place_of(tables: &Tables, name: Option<Name>) -> Result<u32, ActRefusal>
 fn why_not_created(people: &Directory, model: &Model, input: &Parts) -> Option<Refusal>
     ensures { result ≡ commands.why_not_created people.now (model_of model.now) input.now }
 {
-    match refused_part(people, true, &model.input, input) {
-        Some(part) => Some(Refusal::PartRefused(part)),
-        None => None,
-    }
+    let part = refused_part(people, true, &model.input, input)?;
+    Some(Refusal::PartRefused(part))
 }
 
 fn refusal_of(refusal: CreateRefusal) -> ActRefusal

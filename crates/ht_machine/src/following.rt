@@ -3,8 +3,7 @@ ghost use Rattle.ht_base.specs.Moment.{last_moment};
 ghost use Rattle.ht_machine.specs.Following.{IsFollowed};
 ghost use Rattle.ht_compose.specs.Reaching.{IsTask};
 ghost use Rattle.ht_owner.specs.Acting.{FollowIsFinal};
-ghost use Rattle.ht_tree.specs.Plans.{IsPlanOf, planned};
-ghost use Rattle.ht_tree.specs.Soundness.{IsSound};
+ghost use Rattle.ht_tree.specs.Plans.{IsSoundPlan, planned};
 
 use ht_base::{Memory, Moment, TaskId};
 use ht_compose::{activate, begin, close, free, hold};
@@ -22,8 +21,7 @@ pub(crate) fn follow(
     task: TaskId,
     next: Follow,
 ) -> Result<(), Memory>
-    requires plan { IsPlanOf tables.now.tables plan.old }
-    requires sound { IsSound (planned tables.now.tables plan.old) }
+    requires plan { IsSoundPlan tables.now.tables plan.old }
     requires there { IsTask (planned tables.now.tables plan.old) task.0 }
     requires at { at.0 ≤ last_moment }
     requires ends { FollowIsFinal next }

@@ -4,8 +4,7 @@ ghost use Rattle.ht_base.specs.Moment.{last_moment};
 ghost use Rattle.ht_machine.specs.Commands.{MakesByHand};
 ghost use Rattle.ht_machine.specs.Planning.{Tries};
 ghost use Rattle.ht_owner.specs.Acting.{IsAllowed};
-ghost use Rattle.ht_tree.specs.Plans.{IsPlanOf, planned};
-ghost use Rattle.ht_tree.specs.Soundness.{IsSound};
+ghost use Rattle.ht_tree.specs.Plans.{IsSoundPlan, planned};
 
 use ht_base::{Moment, Name, Person, Refusal, TaskId};
 use ht_compose::{entry_to_make, instantiate};
@@ -24,8 +23,7 @@ pub(crate) fn make_sub_task(
     task: TaskId,
     sub: Name,
 ) -> Result<TaskId, ActRefusal>
-    requires plan { IsPlanOf tables.now.tables plan.old }
-    requires sound { IsSound (planned tables.now.tables plan.old) }
+    requires plan { IsSoundPlan tables.now.tables plan.old }
     requires allowed { IsAllowed (planned tables.now.tables plan.old) op.InstantiateSubTask caller
         task.0 }
     requires at { at.0 ≤ last_moment }

@@ -36,10 +36,7 @@ pub(crate) fn name_or_none(people: &Directory, person: Option<Person>) -> Option
     ensures name { result ≡ spec.name_or_none people.now person }
     ensures known { IfSome result (λ name. IsSome (find name people.now)) }
 {
-    match person {
-        Some(person) => Some(people.name(person)),
-        None => None,
-    }
+    Some(people.name(person?))
 }
 
 /// The comments on a task, with the names of the persons.

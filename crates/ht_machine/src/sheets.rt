@@ -65,9 +65,7 @@ struct RoleNames {
 
 fn role_names(alloc: Global, tables: &Tables, row: &Row) -> Result<RoleNames, Memory>
     requires { IsSoundRow tables.now.tables row.now }
-    ensures { let s = spec.sheet_of tables.now.tables row.now in
-        IfOk result (λ r.
-        r ≡ record { administrators = s.administrators; excluded_owners = s.excluded_owners; potential_owners = s.potential_owners; stakeholders = s.stakeholders }) }
+    ensures { IfOk result (λ r. r ≡ spec.role_names tables.now.tables row.now) }
 {
     let people = tables.people();
     Ok(RoleNames {

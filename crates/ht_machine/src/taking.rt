@@ -2,9 +2,8 @@ ghost use Rattle.std.specs.Prelude.{◌≡◌, ◌≤◌, OnErr, OnOk, true};
 ghost use Rattle.ht_base.specs.Moment.{last_moment};
 ghost use Rattle.ht_due.specs.Dues.{has};
 ghost use Rattle.ht_machine.specs.Courses.{IsTaken};
-ghost use Rattle.ht_tree.specs.Plans.{IsPlanOf, planned};
+ghost use Rattle.ht_tree.specs.Plans.{IsSoundPlan, planned};
 ghost use Rattle.ht_tree.specs.RowDues.{all_dues};
-ghost use Rattle.ht_tree.specs.Soundness.{IsSound};
 
 use ht_base::Memory;
 use ht_compose::{activate, resume};
@@ -16,8 +15,7 @@ use std::alloc::Global;
 /// Plans an action that is due, as at the moment at which it is: a deferred activation, the end of a
 /// suspension, or a deadline (WS-HumanTask 1.1, 4.9 and 4.10).
 pub(crate) fn take(alloc: Global, tables: &Tables, plan: &mut Plan, due: Due) -> Result<(), Memory>
-    requires plan { IsPlanOf tables.now.tables plan.old }
-    requires sound { IsSound (planned tables.now.tables plan.old) }
+    requires plan { IsSoundPlan tables.now.tables plan.old }
     requires due { has due (all_dues (planned tables.now.tables plan.old)) ≡ true }
     requires at { due.at.0 ≤ last_moment }
     ensures taken { OnOk result (IsTaken tables.now.tables plan.old plan.new due) }

@@ -1,8 +1,7 @@
 ghost use Rattle.std.specs.Prelude.{◌≡◌, ◌≤◌, IfOk, OnErr};
 ghost use Rattle.ht_base.specs.Moment.{last_moment};
 ghost use Rattle.ht_machine.specs.Turning.{Turns};
-ghost use Rattle.ht_tree.specs.Plans.{IsPlanOf, planned};
-ghost use Rattle.ht_tree.specs.Soundness.{IsSound};
+ghost use Rattle.ht_tree.specs.Plans.{IsSoundPlan};
 
 use crate::course::Course;
 use ht_base::{Memory, Moment};
@@ -15,8 +14,7 @@ use std::alloc::Global;
 /// moment at which it was due. It tells how many actions were taken. After `Memory` the plan holds some of
 /// them, and can go back to its mark.
 pub fn turn(alloc: Global, tables: &Tables, plan: &mut Plan, at: Moment) -> Result<u32, Memory>
-    requires plan { IsPlanOf tables.now.tables plan.old }
-    requires sound { IsSound (planned tables.now.tables plan.old) }
+    requires plan { IsSoundPlan tables.now.tables plan.old }
     requires at { at.0 ≤ last_moment }
     ensures turns { IfOk result (λ taken. Turns tables.now.tables plan.old plan.new at.0 taken) }
     ensures marked { OnErr result (plan.new.marked ≡ plan.old.marked) }
@@ -33,8 +31,7 @@ pub fn turn(alloc: Global, tables: &Tables, plan: &mut Plan, at: Moment) -> Resu
 // Apart, since its locals would be cleared also where nothing is due.
 #[inline(never)]
 fn take_all(alloc: Global, tables: &Tables, plan: &mut Plan, at: Moment) -> Result<u32, Memory>
-    requires plan { IsPlanOf tables.now.tables plan.old }
-    requires sound { IsSound (planned tables.now.tables plan.old) }
+    requires plan { IsSoundPlan tables.now.tables plan.old }
     requires at { at.0 ≤ last_moment }
     ensures turns { IfOk result (λ taken. Turns tables.now.tables plan.old plan.new at.0 taken) }
     ensures marked { OnErr result (plan.new.marked ≡ plan.old.marked) }

@@ -2,8 +2,7 @@ ghost use Rattle.std.specs.Prelude.{◌<◌, ◌≤◌, length};
 ghost use Rattle.ht_base.specs.Events.{IsCommand, op_of};
 ghost use Rattle.ht_base.specs.Moment.{last_moment};
 ghost use Rattle.ht_owner.specs.Acting.{Acts, IsAllowed};
-ghost use Rattle.ht_tree.specs.Plans.{IsPlanOf, planned};
-ghost use Rattle.ht_tree.specs.Soundness.{IsSound};
+ghost use Rattle.ht_tree.specs.Plans.{IsSoundPlan, planned};
 
 use crate::effects::effect;
 use crate::{ActRefusal, Follow};
@@ -26,8 +25,7 @@ pub fn act(
     command: &Command,
     at: Moment,
 ) -> Result<Follow, ActRefusal>
-    requires plan { IsPlanOf tables.now.tables plan.old }
-    requires sound { IsSound (planned tables.now.tables plan.old) }
+    requires plan { IsSoundPlan tables.now.tables plan.old }
     requires caller { caller < length tables.now.tables.people.persons }
     requires allowed { IsAllowed (planned tables.now.tables plan.old) (op_of command.now) caller
         id.0 }

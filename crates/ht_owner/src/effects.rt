@@ -5,8 +5,8 @@ ghost use Rattle.ht_models.specs.Shown.{model_of};
 ghost use Rattle.ht_owner.specs.Effects as spec;
 ghost use Rattle.ht_owner.specs.Effects.{Gives};
 ghost use Rattle.ht_owner.specs.Moving as moving;
-ghost use Rattle.ht_tree.specs.Plans.{IsPlanOf, planned};
-ghost use Rattle.ht_tree.specs.Soundness.{Fits, IsSound};
+ghost use Rattle.ht_tree.specs.Plans.{IsSoundPlan, planned};
+ghost use Rattle.ht_tree.specs.Soundness.{Fits};
 ghost use Rattle.ht_tree.specs.Tables as tables_of;
 ghost use Rattle.ht_tree.specs.Tables.{directory};
 
@@ -34,8 +34,7 @@ pub(crate) fn effect(
     command: &Command,
     row: &mut Row,
 ) -> Result<Follow, ActRefusal>
-    requires plan { IsPlanOf tables.now.tables plan.now }
-    requires sound { IsSound (planned tables.now.tables plan.now) }
+    requires plan { IsSoundPlan tables.now.tables plan.now }
     requires row { Fits tables.now.tables row.old }
     requires model { tables_of.model_of tables.now.tables row.old ≡ Some (model_of model.now) }
     requires kinds { IsKinded model.now }

@@ -2,8 +2,8 @@ ghost use Rattle.std.specs.Prelude.{◌≡◌, IfOk, Some};
 ghost use Rattle.ht_models.specs.Kinded.{IsKinded};
 ghost use Rattle.ht_models.specs.Shown.{model_of};
 ghost use Rattle.ht_owner.specs.Faults as spec;
-ghost use Rattle.ht_tree.specs.Plans.{IsPlanOf, planned};
-ghost use Rattle.ht_tree.specs.Soundness.{Fits, IsSound};
+ghost use Rattle.ht_tree.specs.Plans.{IsSoundPlan, planned};
+ghost use Rattle.ht_tree.specs.Soundness.{Fits};
 ghost use Rattle.ht_tree.specs.Tables as tables_of;
 ghost use Rattle.ht_tree.specs.Tables.{directory, TablesOf};
 
@@ -28,8 +28,7 @@ pub(crate) fn fault(
     row: &Row,
     command: &Command,
 ) -> Result<Option<Refusal>, Memory>
-    requires plan { IsPlanOf tables.now.tables plan.now }
-    requires sound { IsSound (planned tables.now.tables plan.now) }
+    requires plan { IsSoundPlan tables.now.tables plan.now }
     requires row { Fits tables.now.tables row.now }
     requires model { tables_of.model_of tables.now.tables row.now ≡ Some (model_of model.now) }
     requires kinds { IsKinded model.now }
@@ -150,10 +149,8 @@ fn by_group(row: &Row) -> Option<Refusal>
 fn output_refused(people: &Directory, model: &Model, output: &Parts) -> Option<Refusal>
     ensures { result ≡ spec.output_refused people.now (model_of model.now) output.now }
 {
-    match refused_part(people, false, &model.output, output) {
-        Some(part) => Some(Refusal::PartRefused(part)),
-        None => None,
-    }
+    let part = refused_part(people, false, &model.output, output)?;
+    Some(Refusal::PartRefused(part))
 }
 
 fn not_skipable(model: &Model) -> Option<Refusal>
@@ -271,8 +268,7 @@ fn not_delegatee(
     row: &Row,
     name: Name,
 ) -> Result<Option<Refusal>, Memory>
-    requires plan { IsPlanOf tables.now.tables plan.now }
-    requires sound { IsSound (planned tables.now.tables plan.now) }
+    requires plan { IsSoundPlan tables.now.tables plan.now }
     requires row { Fits tables.now.tables row.now }
     requires model { tables_of.model_of tables.now.tables row.now ≡ Some (model_of model.now) }
     requires kinds { IsKinded model.now }
@@ -299,8 +295,7 @@ fn may_delegate(
     row: &Row,
     person: Person,
 ) -> Result<bool, Memory>
-    requires plan { IsPlanOf tables.now.tables plan.now }
-    requires sound { IsSound (planned tables.now.tables plan.now) }
+    requires plan { IsSoundPlan tables.now.tables plan.now }
     requires row { Fits tables.now.tables row.now }
     requires model { tables_of.model_of tables.now.tables row.now ≡ Some (model_of model.now) }
     requires kinds { IsKinded model.now }

@@ -67,15 +67,23 @@ bare_row task model parent initiator input waits at = record {
 abbrev pub env_of : Row → Env
 env_of row = record { input = row.input; output = row.output; priority = pos row.priority; initiator = row.initiator; subs = [] }
 
+-- what the expression of a new task's priority sees: what is given to the task, and by whom
+abbrev pub first_env : Values → ℕ → Env
+first_env input initiator = record { input = input; output = []; priority = pos MIDDLE_PRIORITY; initiator = initiator; subs = [] }
+
+-- what assignments of a model see in an environment
+abbrev pub sight_by : ModelOf → Env → Sight
+sight_by m env = sight (parts_of m.input m.output) env
+
 abbrev pub seen : ModelOf → Row → Sight
-seen m row = sight (parts_of m.input m.output) (env_of row)
+seen m row = sight_by m (env_of row)
 
 -- what they see of a row among these rows: its sub tasks too, in the order of their numbers
 abbrev pub sees : List Row → Row → Env
 sees rows row = record (env_of row) { subs = map (λ s. (s.state, s.output)) (sub_tasks row.task.0 rows) }
 
 abbrev pub seen_in : ModelOf → List Row → Row → Sight
-seen_in m rows row = sight (parts_of m.input m.output) (sees rows row)
+seen_in m rows row = sight_by m (sees rows row)
 
 -- with the priority that its model says
 abbrev pub with_priority : ModelOf → Row → Row

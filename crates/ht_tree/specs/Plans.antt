@@ -9,8 +9,8 @@ use Rattle.ht_tree.specs.RowDues.{changed_dues}
 use Rattle.ht_tree.specs.Rows.{put_in, row_at}
 use Rattle.ht_tree.specs.Sizes.{top_size, total_size}
 use Rattle.ht_tree.specs.Slots.{slots_with}
-use Rattle.ht_tree.specs.Soundness.{Fits}
-use Rattle.ht_tree.specs.Tables.{RoomyTables, TablesOf, at_moment, with_row}
+use Rattle.ht_tree.specs.Soundness.{Fits, IsSound}
+use Rattle.ht_tree.specs.Tables.{RoomyTables, TablesOf, at_moment, with_row, with_rows}
 
 -- They note how many tasks there are after them, from the first row on.
 pub record ChangesOf : Type 0 where
@@ -95,6 +95,11 @@ pub record IsPlanOf (t : TablesOf) (p : PlanOf) : Type 0 where
   pub marked_filed : KeepFiles t.rows (fold put_in t.rows (p.marked).rows)
   pub changes_filed : KeepFiles (fold put_in t.rows (p.marked).rows) (fold put_in t.rows (p.changes).rows)
 
+-- a plan that may be carried on: it fits the tables, and as it would leave them they are sound
+pub record IsSoundPlan (t : TablesOf) (p : PlanOf) : Type 0 where
+  pub fits : IsPlanOf t p
+  pub sound : IsSound (planned t p)
+
 -- ---- a step of plans
 
 -- A plan of t goes on by rows: from the planned tables u to the planned tables v, and it still fits.
@@ -105,6 +110,14 @@ pub record Goes (t : TablesOf) (old new : PlanOf) (u v : TablesOf) : Type 0 wher
   pub fits : IsPlanOf t new
   pub slot : (new.changes).slot ≡ (old.changes).slot
   pub marked : new.marked ≡ old.marked
+
+-- it goes on by this row, in its task's place or behind the others
+abbrev pub GoesByRow : TablesOf → PlanOf → PlanOf → Row → Type 0
+GoesByRow t old new row = Goes t old new (planned t old) (with_row (planned t old) row)
+
+-- it goes on by what is made of the rows that there would be
+abbrev pub GoesByRows : TablesOf → PlanOf → PlanOf → (List Row → List Row) → Type 0
+GoesByRows t old new made = Goes t old new (planned t old) (with_rows (planned t old) (made (planned t old).rows))
 
 -- The plan lends a task's row: whichever row of the task is put next, the tables would be as if it were
 -- put behind the plan as it was.

@@ -10,8 +10,8 @@ ghost use Rattle.ht_people.specs.Directory.{DirectoryOf};
 ghost use Rattle.ht_tree.specs.Assigning.{Sight, potential_owners, resolved, sight};
 ghost use Rattle.ht_tree.specs.Creating.{seen_in, sees};
 ghost use Rattle.ht_tree.specs.Families as families;
-ghost use Rattle.ht_tree.specs.Plans.{IsPlanOf, planned};
-ghost use Rattle.ht_tree.specs.Soundness.{Fits, IsSound};
+ghost use Rattle.ht_tree.specs.Plans.{IsSoundPlan, planned};
+ghost use Rattle.ht_tree.specs.Soundness.{Fits};
 ghost use Rattle.ht_tree.specs.Tables.{directory, model_of};
 
 use crate::{Plan, Row, Tables, sub_tasks};
@@ -24,8 +24,7 @@ use std::alloc::Global;
 /// after the plan. Where the model of the row's task has sub entries, the rows of all tasks behind the
 /// task are looked at.
 pub fn env(alloc: Global, tables: &Tables, plan: &Plan, row: &Row) -> Result<Env, Memory>
-    requires plan { IsPlanOf tables.now.tables plan.now }
-    requires sound { IsSound (planned tables.now.tables plan.now) }
+    requires plan { IsSoundPlan tables.now.tables plan.now }
     requires row { Fits tables.now.tables row.now }
     ensures { IfOk result (λ e. e ≡ sees (planned tables.now.tables plan.now).rows row.now) }
 {
@@ -41,8 +40,7 @@ pub fn env_with(
     row: &Row,
     subs: &[TaskId],
 ) -> Result<Env, Memory>
-    requires plan { IsPlanOf tables.now.tables plan.now }
-    requires sound { IsSound (planned tables.now.tables plan.now) }
+    requires plan { IsSoundPlan tables.now.tables plan.now }
     requires row { Fits tables.now.tables row.now }
     requires subs { subs.now
         ≡ map (λ r. r.task)
@@ -66,8 +64,7 @@ fn subs_of(
     task: TaskId,
     ids: &[TaskId],
 ) -> Result<Subs, Memory>
-    requires plan { IsPlanOf tables.now.tables plan.now }
-    requires sound { IsSound (planned tables.now.tables plan.now) }
+    requires plan { IsSoundPlan tables.now.tables plan.now }
     requires ids { ids.now
         ≡ map (λ r. r.task) (families.sub_tasks task.0 (planned tables.now.tables plan.now).rows) }
     ensures { IfOk result (λ subs.
@@ -94,8 +91,7 @@ pub fn resolve(
     row: &Row,
     assign: &Assign,
 ) -> Result<Persons, Memory>
-    requires plan { IsPlanOf tables.now.tables plan.now }
-    requires sound { IsSound (planned tables.now.tables plan.now) }
+    requires plan { IsSoundPlan tables.now.tables plan.now }
     requires row { Fits tables.now.tables row.now }
     requires assign { IfSome (model_of tables.now.tables row.now)
         (λ m. Assigns (parts_of m.input m.output) assign.now) }
@@ -118,8 +114,7 @@ pub fn resolve_seen(
     assign: &Assign,
     seen: &mut Option<Env>,
 ) -> Result<Persons, Memory>
-    requires plan { IsPlanOf tables.now.tables plan.now }
-    requires sound { IsSound (planned tables.now.tables plan.now) }
+    requires plan { IsSoundPlan tables.now.tables plan.now }
     requires row { Fits tables.now.tables row.now }
     requires assign { IfSome (model_of tables.now.tables row.now)
         (λ m. Assigns (parts_of m.input m.output) assign.now) }
@@ -155,8 +150,7 @@ pub fn see(
     row: &Row,
     seen: &mut Option<Env>,
 ) -> Result<(), Memory>
-    requires plan { IsPlanOf tables.now.tables plan.now }
-    requires sound { IsSound (planned tables.now.tables plan.now) }
+    requires plan { IsSoundPlan tables.now.tables plan.now }
     requires row { Fits tables.now.tables row.now }
     requires seen { IfSome seen.old
         (λ e. e ≡ sees (planned tables.now.tables plan.now).rows row.now) }

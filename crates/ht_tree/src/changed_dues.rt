@@ -2,9 +2,8 @@ ghost use Rattle.std.specs.Prelude.{◌≡◌, ◌++◌, ◌<◌, ◌&&◌, [], 
 ghost use Rattle.std.specs.Option.{option_map_or};
 ghost use Rattle.ht_due.specs.declared.due.Due.{Due};
 ghost use Rattle.ht_due.specs.Dues.{Ascends, has};
-ghost use Rattle.ht_tree.specs.Plans.{IsPlanOf, planned};
+ghost use Rattle.ht_tree.specs.Plans.{IsPlanOf, IsSoundPlan, planned};
 ghost use Rattle.ht_tree.specs.RowDues as spec;
-ghost use Rattle.ht_tree.specs.Soundness.{IsSound};
 
 use crate::row_dues::{add_dues, has_due};
 use crate::{Plan, Row, Tables};
@@ -50,8 +49,7 @@ pub fn dues_behind(
     plan: &Plan,
     last: u32,
 ) -> Result<Vec<Due>, Memory>
-    requires plan { IsPlanOf tables.now.tables plan.now }
-    requires sound { IsSound (planned tables.now.tables plan.now) }
+    requires plan { IsSoundPlan tables.now.tables plan.now }
     ensures ascend { IfOk result (λ dues. Ascends dues.items) }
     ensures has { IfOk result (λ dues.
         (due : Due)
@@ -68,8 +66,7 @@ pub fn dues_behind(
 
 /// Whether a due is one of those that there would be after the plan.
 pub fn is_due(tables: &Tables, plan: &Plan, due: Due) -> bool
-    requires plan { IsPlanOf tables.now.tables plan.now }
-    requires sound { IsSound (planned tables.now.tables plan.now) }
+    requires plan { IsSoundPlan tables.now.tables plan.now }
     ensures { result ≡ has due (spec.all_dues (planned tables.now.tables plan.now)) }
 {
     match plan.row(tables, due.task) {

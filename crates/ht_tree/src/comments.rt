@@ -62,10 +62,8 @@ impl Comments {
     pub fn get(&self, place: usize) -> Option<&Comment>
         ensures { option_map (λ c. c.now) result ≡ slice_get self.now place }
     {
-        match self.items.get(place) {
-            Some(comment) => Some(&**comment),
-            None => None,
-        }
+        let comment = self.items.get(place)?;
+        Some(&**comment)
     }
 
     /// Puts a comment behind the others.

@@ -10,11 +10,11 @@ ghost use Rattle.ht_models.specs.Model.{ModelOf};
 ghost use Rattle.ht_models.specs.Shown.{model_of};
 ghost use Rattle.ht_tree.specs.Assigning.{potential_owners, resolved, sight};
 ghost use Rattle.ht_tree.specs.Creating as spec;
-ghost use Rattle.ht_tree.specs.Creating.{IsInput, is_full, level_of, role_or};
+ghost use Rattle.ht_tree.specs.Creating.{IsInput, is_full, level_of, role_or, sight_by};
 ghost use Rattle.ht_tree.specs.Families.{MayCome};
-ghost use Rattle.ht_tree.specs.Plans.{Goes, IsPlanOf, planned};
+ghost use Rattle.ht_tree.specs.Plans.{GoesByRow, IsPlanOf, planned};
 ghost use Rattle.ht_tree.specs.Soundness.{KeepsSound};
-ghost use Rattle.ht_tree.specs.Tables.{model_at, with_row};
+ghost use Rattle.ht_tree.specs.Tables.{model_at};
 
 use crate::assigning::{found, without};
 use crate::{Comments, Plan, Row, Tables, Taken};
@@ -76,9 +76,8 @@ pub fn create(
         (model_at tables.now.tables model) input }
     ensures id { IfOk result (λ id. id.0 ≡ length (planned tables.now.tables plan.old).rows + 1) }
     ensures goes { OnOk result ((m : ModelOf) × (model_at tables.now.tables model ≡ Some m)
-        × Goes tables.now.tables plan.old plan.new (planned tables.now.tables plan.old)
-        (with_row (planned tables.now.tables plan.old) (spec.new_row
-        (planned tables.now.tables plan.old) m model parent initiator input waits at))) }
+        × GoesByRow tables.now.tables plan.old plan.new (spec.new_row
+        (planned tables.now.tables plan.old) m model parent initiator input waits at)) }
     ensures sound { OnOk result (MayCome tables.now.tables.models
         (planned tables.now.tables plan.old).rows model parent → at.0 ≤ last_moment
         → IfSome waits (λ m. m.0 ≤ last_moment)
@@ -163,7 +162,7 @@ fn new_row(
 
 // What the expression of a new task's priority sees.
 fn first_env(alloc: Global, input: Values, initiator: Person) -> Env
-    ensures { result ≡ record { input = input; output = []; priority = pos MIDDLE_PRIORITY; initiator = initiator; subs = [] } }
+    ensures { result ≡ spec.first_env input initiator }
 {
     Env {
         input,
@@ -236,18 +235,18 @@ fn roles_of(
     requires kinds { IsKinded model.now }
     requires parts { IsTrue
         (has_parts (parts_of model.now.input.items model.now.output.items) env.now) }
-    ensures potential_owners { let s = sight (parts_of model.now.input.items model.now.output.items) env.now in
+    ensures potential_owners { let s = sight_by (model_of model.now) env.now in
         IfOk result (λ r.
         r.potential_owners ≡ potential_owners people.now s (shown model.now.potential_owners)
         (resolved people.now s (shown model.now.excluded_owners))) }
-    ensures excluded_owners { let s = sight (parts_of model.now.input.items model.now.output.items) env.now in
+    ensures excluded_owners { let s = sight_by (model_of model.now) env.now in
         IfOk result
         (λ r. r.excluded_owners ≡ resolved people.now s (shown model.now.excluded_owners)) }
-    ensures administrators { let s = sight (parts_of model.now.input.items model.now.output.items) env.now in
+    ensures administrators { let s = sight_by (model_of model.now) env.now in
         IfOk result (λ r.
         r.administrators ≡ role_or people.now s (option_map shown model.now.administrators)
         (option_map_or (λ r. r.now.administrators) above.entry [])) }
-    ensures stakeholders { let s = sight (parts_of model.now.input.items model.now.output.items) env.now in
+    ensures stakeholders { let s = sight_by (model_of model.now) env.now in
         IfOk result (λ r.
         r.stakeholders ≡ role_or people.now s (option_map shown model.now.stakeholders)
         (option_map_or (λ r. r.now.stakeholders) above.entry [])) }
@@ -284,10 +283,8 @@ fn parent_row<'a>(
     ensures { option_map (λ r. r.now) result
         ≡ spec.parent_row (planned tables.now.tables plan.now) parent }
 {
-    match parent {
-        Some((id, _)) => plan.row(tables, id),
-        None => None,
-    }
+    let (id, _) = parent?;
+    plan.row(tables, id)
 }
 
 // The persons of a role, by its assignment or as the parent has them.
@@ -318,17 +315,11 @@ fn role(
 fn administrators_of(above: Option<&Row>) -> Option<&Persons>
     ensures { option_map (λ p. p.now) result ≡ option_map (λ r. r.now.administrators) above.entry }
 {
-    match above {
-        Some(row) => Some(&row.administrators),
-        None => None,
-    }
+    Some(&above?.administrators)
 }
 
 fn stakeholders_of(above: Option<&Row>) -> Option<&Persons>
     ensures { option_map (λ p. p.now) result ≡ option_map (λ r. r.now.stakeholders) above.entry }
 {
-    match above {
-        Some(row) => Some(&row.stakeholders),
-        None => None,
-    }
+    Some(&above?.stakeholders)
 }

@@ -1,7 +1,6 @@
 ghost use Rattle.std.specs.Prelude.{◌≡◌, ◌≤◌, IfOk, length, map};
 ghost use Rattle.ht_tree.specs.Families as spec;
-ghost use Rattle.ht_tree.specs.Plans.{IsPlanOf, planned};
-ghost use Rattle.ht_tree.specs.Soundness.{IsSound};
+ghost use Rattle.ht_tree.specs.Plans.{IsSoundPlan, planned};
 
 use crate::{Plan, Row, Tables};
 use ht_base::{Memory, TaskId};
@@ -16,8 +15,7 @@ pub fn sub_tasks(
     plan: &Plan,
     task: TaskId,
 ) -> Result<Vec<TaskId>, Memory>
-    requires plan { IsPlanOf tables.now.tables plan.now }
-    requires sound { IsSound (planned tables.now.tables plan.now) }
+    requires plan { IsSoundPlan tables.now.tables plan.now }
     ensures { IfOk result (λ ids.
         ids.items
         ≡ map (λ r. r.task) (spec.sub_tasks task.0 (planned tables.now.tables plan.now).rows)) }
@@ -40,8 +38,7 @@ pub fn sub_tasks(
 
 // The number of sub entries of the task's model: of each there is one sub task at most.
 fn most_subs(tables: &Tables, plan: &Plan, task: TaskId) -> usize
-    requires plan { IsPlanOf tables.now.tables plan.now }
-    requires sound { IsSound (planned tables.now.tables plan.now) }
+    requires plan { IsSoundPlan tables.now.tables plan.now }
     ensures { length (spec.sub_tasks task.0 (planned tables.now.tables plan.now).rows) ≤ result }
 {
     match plan.row(tables, task) {

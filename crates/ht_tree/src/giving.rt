@@ -161,10 +161,7 @@ fn person_given(people: &Directory, scalar: &Scalar) -> Option<Person>
     ensures { result ≡ spec.person_given people.now scalar.now }
 {
     match scalar {
-        Scalar::Text(text) => match Name::of(text.as_str().as_bytes()) {
-            Some(name) => people.find(name),
-            None => None,
-        },
+        Scalar::Text(text) => people.find(Name::of(text.as_str().as_bytes())?),
         _ => None,
     }
 }

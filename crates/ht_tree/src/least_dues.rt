@@ -33,10 +33,7 @@ fn least_of(models: &Models, row: Option<&Row>) -> Option<Due>
         ≡ dues.least_of
         (option_map_or (spec.row_dues models.now) (option_map (λ r. r.now) row.entry) []) }
 {
-    match row {
-        Some(row) => least_due(models, row),
-        None => None,
-    }
+    least_due(models, row?)
 }
 
 // The least of what is due of a row.

@@ -1,12 +1,12 @@
 ghost use Rattle.std.specs.Prelude.{◌≡◌, ◌<◌, ◌^◌, false, IfOk, IfSome, IsSome, IsTrue, Some, OnOk, OnErr, is_some, length, option_map};
 ghost use Rattle.ht_tree.specs.Activation.{activated_to};
 ghost use Rattle.ht_tree.specs.Places.{last_of};
-ghost use Rattle.ht_tree.specs.Plans.{AreTotals, Goes, IsNext, IsPlanOf, keeping, KeepsFile, Lends, new_rows, no_plan, notifying, planned};
+ghost use Rattle.ht_tree.specs.Plans.{AreTotals, GoesByRow, IsNext, IsPlanOf, IsSoundPlan, keeping, KeepsFile, Lends, new_rows, no_plan, notifying, planned};
 ghost use Rattle.ht_tree.specs.Roles as spec;
 ghost use Rattle.ht_tree.specs.Rows.{put_in};
 ghost use Rattle.ht_tree.specs.Sizes.{total_size};
-ghost use Rattle.ht_tree.specs.Soundness.{Fits, IsSound};
-ghost use Rattle.ht_tree.specs.Tables.{TablesOf, task_row, with_row};
+ghost use Rattle.ht_tree.specs.Soundness.{Fits};
+ghost use Rattle.ht_tree.specs.Tables.{TablesOf, task_row};
 
 use crate::activating::activated;
 use crate::puts::Puts;
@@ -111,9 +111,7 @@ impl Plan {
         requires next { IsNext (planned tables.now.tables self.old).rows row }
         requires file { KeepsFile (planned tables.now.tables self.old).rows row }
         requires fits { Fits tables.now.tables row }
-        ensures goes { OnOk result (Goes tables.now.tables self.old self.new
-            (planned tables.now.tables self.old)
-            (with_row (planned tables.now.tables self.old) row)) }
+        ensures goes { OnOk result (GoesByRow tables.now.tables self.old self.new row) }
         ensures err { OnErr result (self.new ≡ self.old) }
     {
         let totals = self.totals_with(tables, &row);
@@ -157,14 +155,13 @@ impl Plan {
         state: State,
         owner: Option<Person>,
     ) -> Result<(), Memory>
-        requires plan { IsPlanOf tables.now.tables self.old }
-        requires sound { IsSound (planned tables.now.tables self.old) }
+        requires plan { IsSoundPlan tables.now.tables self.old }
         requires there { IsSome (task_row (planned tables.now.tables self.old) id.0) }
         requires fits { IfSome (task_row (planned tables.now.tables self.old) id.0)
             (λ row. Fits tables.now.tables (activated_to state owner row)) }
         ensures goes { OnOk result (IfSome (task_row (planned tables.now.tables self.old) id.0)
-            (λ row. Goes tables.now.tables self.old self.new (planned tables.now.tables self.old)
-            (with_row (planned tables.now.tables self.old) (activated_to state owner row)))) }
+            (λ row. GoesByRow tables.now.tables self.old self.new
+            (activated_to state owner row))) }
         ensures err { OnErr result (self.new ≡ self.old) }
     {
         // The check takes an owner that was passed on for moved.
@@ -181,8 +178,7 @@ impl Plan {
         ensures goes { IsTrue result → (t : TablesOf) → IsPlanOf t self.old
             → IfSome (task_row (planned t self.old) id.0) (λ row.
             Fits t (activated_to state owner row)
-            → Goes t self.old self.new (planned t self.old)
-            (with_row (planned t self.old) (activated_to state owner row))) }
+            → GoesByRow t self.old self.new (activated_to state owner row)) }
         ensures other { result ≡ false → self.new ≡ self.old }
     {
         self.puts.activate(self.mark, id, state, owner)
@@ -197,14 +193,13 @@ impl Plan {
         state: State,
         owner: Option<Person>,
     ) -> Result<(), Memory>
-        requires plan { IsPlanOf tables.now.tables self.old }
-        requires sound { IsSound (planned tables.now.tables self.old) }
+        requires plan { IsSoundPlan tables.now.tables self.old }
         requires there { IsSome (task_row (planned tables.now.tables self.old) id.0) }
         requires fits { IfSome (task_row (planned tables.now.tables self.old) id.0)
             (λ row. Fits tables.now.tables (activated_to state owner row)) }
         ensures goes { OnOk result (IfSome (task_row (planned tables.now.tables self.old) id.0)
-            (λ row. Goes tables.now.tables self.old self.new (planned tables.now.tables self.old)
-            (with_row (planned tables.now.tables self.old) (activated_to state owner row)))) }
+            (λ row. GoesByRow tables.now.tables self.old self.new
+            (activated_to state owner row))) }
         ensures err { OnErr result (self.new ≡ self.old) }
     {
         let Some(row) = self.row(tables, id) else {

@@ -11,7 +11,8 @@ use std::alloc::Global;
 use std::marker::Model;
 use std::mem;
 
-/// How many rows are looked through. A plan of one command seldom puts more.
+/// How many rows are looked through. A plan of one command seldom puts more. The invariant of [`Puts`],
+/// in specs/KeptIndex.antt, says the same number.
 const FEW: usize = 4;
 
 /// Rows that are put one after another: the first few are looked through, and the others have an index.

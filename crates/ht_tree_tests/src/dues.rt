@@ -1,6 +1,6 @@
 ghost use Rattle.std.specs.Prelude.{IfOk};
 ghost use Rattle.ht_due.specs.Dues.{Ascends};
-ghost use Rattle.ht_tree.specs.Plans.{IsPlanOf, planned};
+ghost use Rattle.ht_tree.specs.Plans.{IsPlanOf, IsSoundPlan, planned};
 ghost use Rattle.ht_tree.specs.Soundness.{IsSound};
 
 use crate::tables::created;
@@ -119,8 +119,7 @@ const NONE: [Line; 5] = [
 
 // Whether each of these would be due after the plan.
 fn would_be_due(rt: &impl Abort, tables: &Tables, plan: &Plan, lines: &[Line], would: bool)
-    requires plan { IsPlanOf tables.now.tables plan.now }
-    requires sound { IsSound (planned tables.now.tables plan.now) }
+    requires plan { IsSoundPlan tables.now.tables plan.now }
 {
     for line in lines {
         let due = due_of(*line);
@@ -141,8 +140,7 @@ fn changed_dues_are_found(
     tables: &Tables,
     plan: &Plan,
 ) -> Result<(), Fail>
-    requires plan { IsPlanOf tables.now.tables plan.now }
-    requires sound { IsSound (planned tables.now.tables plan.now) }
+    requires plan { IsSoundPlan tables.now.tables plan.now }
 {
     let after = dues_after(alloc, tables, plan)?;
     are_found(rt, after.as_slice(), &NEW);
@@ -156,8 +154,7 @@ fn dues_are_found_behind(
     tables: &Tables,
     plan: &Plan,
 ) -> Result<(), Fail>
-    requires plan { IsPlanOf tables.now.tables plan.now }
-    requires sound { IsSound (planned tables.now.tables plan.now) }
+    requires plan { IsSoundPlan tables.now.tables plan.now }
 {
     let all = dues_behind(alloc, tables, plan, 0)?;
     are_found(rt, all.as_slice(), &ALL);

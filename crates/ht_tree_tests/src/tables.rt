@@ -137,7 +137,14 @@ fn rows_that_are_put_again_go_back_to_the_mark(rt: HostRuntime) -> Result<(), Fa
 
 // That a person's device has claimed the first task.
 fn claim_of(person: u32, device: u8, number: u32) -> Slot
-    ensures { result ≡ record { person = person; device = device; number = number; op = op.Claim; task = record { 0 = 1 }; kept = kept.Done (record { 0 = 1 }) Reserved None } }
+    ensures { result ≡ record {
+      person = person;
+      device = device;
+      number = number;
+      op = op.Claim;
+      task = record { 0 = 1 };
+      kept = kept.Done (record { 0 = 1 }) Reserved None;
+    } }
 {
     Slot {
         person: Person(person),

@@ -25,7 +25,7 @@ pub put-requires-clause-next : goal.put-requires-clause-next
 put-requires-clause-next c =
     let u = planned c.args.tables.now.tables c.args.plan.now in
     let row = c.in_ok-row.row in
-    let is : IsTaken c.args.tables.now.tables c.args.plan.now c.take.new.self c.args.task.0 row = record { sound = c.requires.sound; there = c.in_ok-row.ensures.row; lends = c.in_ok-row.ensures.lends } in
+    let is : IsTaken c.args.tables.now.tables c.args.plan.now c.take.new.self c.args.task.0 row = record { sound = c.requires.plan.sound; there = c.in_ok-row.ensures.row; lends = c.in_ok-row.ensures.lends } in
     again_next is (may u row c.begun.result c.begun.ensures)
 
 pub returns-clause-acts : goal.returns-clause-acts
@@ -35,7 +35,7 @@ returns-clause-acts c = λ at.
     let found = c.in-Some.row.now in
     let row = c.in_ok-row.row in
     let m : ModelOf = shown.model_of c.model.result.now in
-    let is : IsTaken t c.args.plan.now c.take.new.self c.args.task.0 row = record { sound = c.requires.sound; there = c.in_ok-row.ensures.row; lends = c.in_ok-row.ensures.lends } in
+    let is : IsTaken t c.args.plan.now c.take.new.self c.args.task.0 row = record { sound = c.requires.plan.sound; there = c.in_ok-row.ensures.row; lends = c.in_ok-row.ensures.lends } in
     let same : found ≡ row = one (task_row u c.args.task.0) found row (sym c.in-Some.ensures.value) is.there in
     let of_model : model_of u row ≡ Some m = ap (λ (r : Row). model_of u r) (sym same) ∙ model_there u found c.models.result.now m c.models.ensures.value c.model.ensures.value in
     let going : is_in_progress found.state ≡ true = search rules in
@@ -45,4 +45,4 @@ returns-clause-acts c = λ at.
     (c.in_ok-puts.ensures ∙ ap (λ (r : Row). begins_with m r ++ Check r.task.0 ∷ []) same)
 
 pub put-requires-clause-file : goal.put-requires-clause-file
-put-requires-clause-file c = lent_file c.args.tables.now.tables c.args.plan.now c.take.new.self c.args.task.0 c.in_ok-row.row c.begun.result c.requires.sound c.in_ok-row.ensures.lends c.in_ok-row.ensures.row (ap standing c.begun.ensures)
+put-requires-clause-file c = lent_file c.args.tables.now.tables c.args.plan.now c.take.new.self c.args.task.0 c.in_ok-row.row c.begun.result c.requires.plan.sound c.in_ok-row.ensures.lends c.in_ok-row.ensures.row (ap standing c.begun.ensures)

@@ -16,7 +16,7 @@ returns-then-may_be_made c =
     let row = c.in-Some.row.now in
     let m : ModelOf = shown.model_of c.model-model.result.now in
     let F : Bool → Type 0 = λ b. IsEntryOf u c.args.task.0 c.args.name (if b then Some c.in-Some-place_of.entry else None) in
-    subst F c.if-may_be_made.true (asked_of u c.args.task.0 row m c.args.name c.deref.result.now c.in-Some-place_of.entry c.may_be_made.result c.requires.sound c.in-Some.ensures.value (model_there u row c.models.result.now m c.models.ensures.value c.model-model.ensures.value) (c.deref.ensures.value ∙ c.in_ok-subs.ensures) c.in-Some-place_of.ensures c.may_be_made.ensures)
+    subst F c.if-may_be_made.true (asked_of u c.args.task.0 row m c.args.name c.deref.result.now c.in-Some-place_of.entry c.may_be_made.result c.requires.plan.sound c.in-Some.ensures.value (model_there u row c.models.result.now m c.models.ensures.value c.model-model.ensures.value) (c.deref.ensures.value ∙ c.in_ok-subs.ensures) c.in-Some-place_of.ensures c.may_be_made.ensures)
 
 pub returns : goal.returns
 returns c =
@@ -24,4 +24,4 @@ returns c =
     let row = c.in-Some.row.now in
     let m : ModelOf = shown.model_of c.model-model.result.now in
     let F : Bool → Type 0 = λ b. IsEntryOf u c.args.task.0 c.args.name (if b then Some c.in-Some-place_of.entry else None) in
-    subst F c.if-may_be_made.false (asked_of u c.args.task.0 row m c.args.name c.deref.result.now c.in-Some-place_of.entry c.may_be_made.result c.requires.sound c.in-Some.ensures.value (model_there u row c.models.result.now m c.models.ensures.value c.model-model.ensures.value) (c.deref.ensures.value ∙ c.in_ok-subs.ensures) c.in-Some-place_of.ensures c.may_be_made.ensures)
+    subst F c.if-may_be_made.false (asked_of u c.args.task.0 row m c.args.name c.deref.result.now c.in-Some-place_of.entry c.may_be_made.result c.requires.plan.sound c.in-Some.ensures.value (model_there u row c.models.result.now m c.models.ensures.value c.model-model.ensures.value) (c.deref.ensures.value ∙ c.in_ok-subs.ensures) c.in-Some-place_of.ensures c.may_be_made.ensures)

@@ -19,7 +19,7 @@ returns-in-None-clause-acts c = λ at.
     let row = c.in-Some.row.now in
     let v = with_rows u (closing c.args.end c.args.task.0 u.rows) in
     let S : TablesOf → Type 0 = λ w. IsSound w in
-    let number = c.requires.sound.numbered c.args.task.0 row (sym c.in-Some.ensures.value) in
+    let number = c.requires.plan.sound.numbered c.args.task.0 row (sym c.in-Some.ensures.value) in
     let none : ups row ≡ [] = ap (λ (o : Option (TaskId × ℕ)). option_map_or (λ p. Up p.0.0 row.task.0 ∷ []) o []) c.in-None.is in
     record {
       done = does v [];

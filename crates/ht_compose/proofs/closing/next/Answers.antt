@@ -27,7 +27,7 @@ pub returns-in_default-parent-clause-acts : goal.returns-in_default-parent-claus
 returns-in_default-parent-clause-acts c = λ at.
     let t = c.args.tables.now.tables in
     let u = planned t c.args.plan.now in
-    acts_as_before t c.args.plan.now at (Next c.args.above.0 c.args.sub.0) c.new-in_default-parent.result.items [] c.requires.plan c.requires.sound
+    acts_as_before t c.args.plan.now at (Next c.args.above.0 c.args.sub.0) c.new-in_default-parent.result.items [] c.requires.plan.fits c.requires.plan.sound
     (none_follows u (task_row u c.args.above.0)
     ∙ ap (λ (o : Option (TaskId × ℕ)). on_task u (λ row m. follows_by u row m o) (task_row u c.args.above.0)) (sym c.in_default-parent.is)
     ∙ on_this_row u (λ child. on_task u (λ row m. follows_by u row m child.parent) (task_row u c.args.above.0)) c.args.sub.0 c.in-Some.child.now (sym c.in-Some.ensures.value))

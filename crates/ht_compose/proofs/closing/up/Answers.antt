@@ -22,7 +22,7 @@ pub put-requires-clause-next : goal.put-requires-clause-next
 put-requires-clause-next c =
     let u = planned c.args.tables.now.tables c.args.plan.now in
     let row = c.in_ok-row.row in
-    let is : IsTaken c.args.tables.now.tables c.args.plan.now c.take.new.self c.args.above.0 row = record { sound = c.requires.sound; there = c.in_ok-row.ensures.row; lends = c.in_ok-row.ensures.lends } in
+    let is : IsTaken c.args.tables.now.tables c.args.plan.now c.take.new.self c.args.above.0 row = record { sound = c.requires.plan.sound; there = c.in_ok-row.ensures.row; lends = c.in_ok-row.ensures.lends } in
     again_next is (with_fault u row c.in-Some.child.now.fault)
 
 -- a parent that hasn't ended, whose entries come by themselves, fails with a sub task that failed
@@ -41,7 +41,7 @@ returns-clause-acts c =
     let row = c.in_ok-row.row in
     let child = c.in-Some.child.now in
     let m : ModelOf = shown.model_of c.model-model.result.now in
-    let is : IsTaken t c.args.plan.now c.take.new.self p row = record { sound = c.requires.sound; there = c.in_ok-row.ensures.row; lends = c.in_ok-row.ensures.lends } in
+    let is : IsTaken t c.args.plan.now c.take.new.self p row = record { sound = c.requires.plan.sound; there = c.in_ok-row.ensures.row; lends = c.in_ok-row.ensures.lends } in
     let same : c.in-Some-row.row.now ≡ row = one (task_row u p) c.in-Some-row.row.now row (sym c.in-Some-row.ensures.value) is.there in
     let of_model : model_of u row ≡ Some m = ap (λ (r : Row). model_of u r) (sym same) ∙ model_there u c.in-Some-row.row.now c.models.result.now m c.models.ensures.value c.model-model.ensures.value in
     let live : is_final row.state ≡ false = ap (λ (r : Row). is_final r.state) (sym same) ∙ sym c.is_final.ensures ∙ c.if-is_final.false in
@@ -53,4 +53,4 @@ returns-clause-acts c =
     (ap (λ (l : List Task). map item_of l) e ∙ ap (λ (n : ℕ). Close n Failed ∷ []) (sym ((is.sound).numbered p row is.there)))) c.alone.ensures
 
 pub put-requires-clause-file : goal.put-requires-clause-file
-put-requires-clause-file c = lent_file c.args.tables.now.tables c.args.plan.now c.take.new.self c.args.above.0 c.in_ok-row.row (record c.in_ok-row.row { fault = c.in-Some.child.now.fault }) c.requires.sound c.in_ok-row.ensures.lends c.in_ok-row.ensures.row refl
+put-requires-clause-file c = lent_file c.args.tables.now.tables c.args.plan.now c.take.new.self c.args.above.0 c.in_ok-row.row (record c.in_ok-row.row { fault = c.in-Some.child.now.fault }) c.requires.plan.sound c.in_ok-row.ensures.lends c.in_ok-row.ensures.row refl

@@ -8,7 +8,7 @@ use Rattle.ht_tree.specs.Tables.{TablesOf}
 
 pub overflow_add-new : goal.overflow_add-new
 overflow_add-new c =
-    let left = numbers_left (planned c.args.tables.now.tables c.args.plan.now) c.requires.sound in
+    let left = numbers_left (planned c.args.tables.now.tables c.args.plan.now) c.requires.plan.sound in
     omega (arith, left)
 
 pub returns-clause-made : goal.returns-clause-made
@@ -18,4 +18,4 @@ returns-clause-made c =
     let runs = c.in_ok-run.ensures.runs in
     let T : TablesOf → Type 0 = λ v. IsSubTask v c.args.task.0 c.args.entry (length u.rows + 1) in
     let N : ℕ → Type 0 = λ n. IsSubTask (planned t c.run.new.plan) c.args.task.0 c.args.entry (n + 1) in
-    subst N (sym c.rows.ensures) (subst T (sym (runs.goes).to) (sub_task_made c.args.at u runs.after c.args.task.0 c.args.entry c.count_models.ensures.sized c.count_models.ensures.mapped c.requires.sound c.requires.entry runs.ends))
+    subst N (sym c.rows.ensures) (subst T (sym (runs.goes).to) (sub_task_made c.args.at u runs.after c.args.task.0 c.args.entry c.count_models.ensures.sized c.count_models.ensures.mapped c.requires.plan.sound c.requires.entry runs.ends))

@@ -18,7 +18,7 @@ pub env_with-requires-clause-row : goal.env_with-requires-clause-row
 env_with-requires-clause-row c =
     let t = c.args.tables.now.tables in
     let row = c.args.row.now in
-    sound_row_fits t.models (length t.people.persons) row (c.requires.sound.rows_sound row.task.0 row c.requires.row)
+    sound_row_fits t.models (length t.people.persons) row (c.requires.plan.sound.rows_sound row.task.0 row c.requires.row)
 
 pub chosen-requires-clause-parts : goal.chosen-requires-clause-parts
 chosen-requires-clause-parts c =
@@ -26,13 +26,13 @@ chosen-requires-clause-parts c =
     let m : ModelOf = shown.model_of c.args.model.now in
     let row = c.args.row.now in
     let P : Env → Type 0 = λ e. IsTrue (has_parts (parts_of m.input m.output) e) in
-    subst P (sym c.in_ok-env.ensures) (row_seen m (length u.people.persons) u.rows row (held_by u c.requires.sound row m c.requires.row c.requires.model))
+    subst P (sym c.in_ok-env.ensures) (row_seen m (length u.people.persons) u.rows row (held_by u c.requires.plan.sound row m c.requires.row c.requires.model))
 
 pub returns-in_default : goal.returns-in_default
 returns-in_default c =
     let u = planned c.args.tables.now.tables c.args.plan.now in
     let m : ModelOf = shown.model_of c.args.model.now in
-    sym (chosen_is u c.requires.sound c.args.row.now m c.in_ok-env.env c.args.subs.now None c.in_ok-env.ensures c.requires.subs c.in_default.ensures)
+    sym (chosen_is u c.requires.plan.sound c.args.row.now m c.in_ok-env.env c.args.subs.now None c.in_ok-env.ensures c.requires.subs c.in_default.ensures)
 
 pub returns : goal.returns
 returns c =
@@ -40,8 +40,8 @@ returns c =
     let m : ModelOf = shown.model_of c.args.model.now in
     let row = c.args.row.now in
     let f : FinishOf = shown.finish_of c.in-Some.finish.now in
-    let is = chosen_is u c.requires.sound row m c.in_ok-env.env c.args.subs.now (Some f) c.in_ok-env.ensures c.requires.subs c.in-Some.ensures in
-    let rows = completed_is u c.requires.sound row c.len.result c.args.subs.now c.deref.result.now c.requires.subs (c.deref.ensures.value ∙ c.in_ok-completed.ensures) in
+    let is = chosen_is u c.requires.plan.sound row m c.in_ok-env.env c.args.subs.now (Some f) c.in_ok-env.ensures c.requires.subs c.in-Some.ensures in
+    let rows = completed_is u c.requires.plan.sound row c.len.result c.args.subs.now c.deref.result.now c.requires.subs (c.deref.ensures.value ∙ c.in_ok-completed.ensures) in
     let count : c.len.result ≡ length m.subs = search rules in
     let all = rows ∙ ap (λ (n : ℕ). completed row.task.0 n u.rows) count in
     let P : List Row → Type 0 = λ l. Sets l c.deref-2.result.now c.in_ok-output.output c.in_ok-output-2.output in

@@ -21,7 +21,7 @@ one_more t old mid new at ids i other within before runs =
     subst R (sym more) (runs_then t old mid new at (checks (take i ids)) (Check (get_or ids i other).0 ∷ []) before runs)
 
 pub loop-task-init : goal.loop-task-init
-loop-task-init c = runs_none c.args.tables.now.tables c.args.plan.now c.args.at c.requires.plan c.requires.sound
+loop-task-init c = runs_none c.args.tables.now.tables c.args.plan.now c.args.at c.requires.plan.fits c.requires.plan.sound
 
 pub loop-task-preserved : goal.loop-task-preserved
 loop-task-preserved c = one_more c.args.tables.now.tables c.args.plan.now c.loop-task.plan c.run.new.plan c.args.at c.args.tasks.now c.loop-task.task-index _ c.loop-task-test.true c.loop-task.invariant c.in_ok-run.ensures.runs

@@ -11,5 +11,5 @@ returns-clause-frees c =
     let t = c.args.tables.now.tables in
     let u = planned t c.args.plan.now in
     let ids = c.deref.result.now in
-    let are = ap (λ (l : List TaskId). map (λ id. Check id.0) l) c.deref.ensures.value ∙ then_itself u c.requires.sound c.args.task.0 c.in_ok-tasks.tasks.items c.push.new.self.items c.args.task refl c.in_ok-push.ensures.items c.in_ok-tasks.ensures.freed in
-    on_ok_weaker c.check_all.result (freed_then t c.args.plan.now c.free_below.new.plan c.check_all.new.plan c.args.at c.args.task.0 ids c.requires.sound are c.in_ok-tasks.ensures.goes) c.check_all.ensures.runs
+    let are = ap (λ (l : List TaskId). map (λ id. Check id.0) l) c.deref.ensures.value ∙ then_itself u c.requires.plan.sound c.args.task.0 c.in_ok-tasks.tasks.items c.push.new.self.items c.args.task refl c.in_ok-push.ensures.items c.in_ok-tasks.ensures.freed in
+    on_ok_weaker c.check_all.result (freed_then t c.args.plan.now c.free_below.new.plan c.check_all.new.plan c.args.at c.args.task.0 ids c.requires.plan.sound are c.in_ok-tasks.ensures.goes) c.check_all.ensures.runs

@@ -12,7 +12,7 @@ use Rattle.ht_tree.proofs.PublicLaws.{lent_file}
 pub finish-requires-clause-subs : goal.finish-requires-clause-subs
 finish-requires-clause-subs c =
     let u = planned c.args.tables.now.tables c.args.plan.now in
-    let number = c.requires.sound.numbered c.args.task.0 c.in-Some.row.now (sym c.in-Some.ensures.value) in
+    let number = c.requires.plan.sound.numbered c.args.task.0 c.in-Some.row.now (sym c.in-Some.ensures.value) in
     c.deref.ensures.value ∙ c.in_ok-subs.ensures ∙ ap (λ (k : ℕ). map (λ s. s.task) (sub_tasks k u.rows)) (sym number)
 
 pub put-requires-clause-fits : goal.put-requires-clause-fits
@@ -21,7 +21,7 @@ put-requires-clause-fits c =
     let u = planned t c.args.plan.now in
     let row = c.in-Some.row.now in
     let m : ModelOf = shown.model_of c.model-model.result.now in
-    let is : IsTaken t c.args.plan.now c.take.new.self c.args.task.0 c.in_ok-row.row = record { sound = c.requires.sound; there = c.in_ok-row.ensures.row; lends = c.in_ok-row.ensures.lends } in
+    let is : IsTaken t c.args.plan.now c.take.new.self c.args.task.0 c.in_ok-row.row = record { sound = c.requires.plan.sound; there = c.in_ok-row.ensures.row; lends = c.in_ok-row.ensures.lends } in
     let so : IsFound u c.args.task.0 row m c.in-Some-found.output =
     found u c.args.task.0 row m c.in_ok-found.found c.in-Some-found.output c.in-Some.ensures.value (model_there u row c.models.result.now m c.models.ensures.value c.model-model.ensures.value) c.in_ok-found.ensures (c.model-model.ensures.outputs row.model m c.model-model.ensures.value) c.in-Some-found.is in
     output_fits is so
@@ -32,11 +32,11 @@ returns-clause-gathers c =
     let u = planned t c.args.plan.now in
     let row = c.in-Some.row.now in
     let m : ModelOf = shown.model_of c.model-model.result.now in
-    let is : IsTaken t c.args.plan.now c.take.new.self c.args.task.0 c.in_ok-row.row = record { sound = c.requires.sound; there = c.in_ok-row.ensures.row; lends = c.in_ok-row.ensures.lends } in
+    let is : IsTaken t c.args.plan.now c.take.new.self c.args.task.0 c.in_ok-row.row = record { sound = c.requires.plan.sound; there = c.in_ok-row.ensures.row; lends = c.in_ok-row.ensures.lends } in
     let so : IsFound u c.args.task.0 row m c.in-Some-found.output =
     found u c.args.task.0 row m c.in_ok-found.found c.in-Some-found.output c.in-Some.ensures.value (model_there u row c.models.result.now m c.models.ensures.value c.model-model.ensures.value) c.in_ok-found.ensures (c.model-model.ensures.outputs row.model m c.model-model.ensures.value) c.in-Some-found.is in
     let manual : is_automatic m.completion ≡ false = search rules in
     gathered is so c.put.new.self c.in_ok-put.ensures.goes manual
 
 pub put-requires-clause-file : goal.put-requires-clause-file
-put-requires-clause-file c = lent_file c.args.tables.now.tables c.args.plan.now c.take.new.self c.args.task.0 c.in_ok-row.row (record c.in_ok-row.row { output = c.in-Some-found.output }) c.requires.sound c.in_ok-row.ensures.lends c.in_ok-row.ensures.row refl
+put-requires-clause-file c = lent_file c.args.tables.now.tables c.args.plan.now c.take.new.self c.args.task.0 c.in_ok-row.row (record c.in_ok-row.row { output = c.in-Some-found.output }) c.requires.plan.sound c.in_ok-row.ensures.lends c.in_ok-row.ensures.row refl

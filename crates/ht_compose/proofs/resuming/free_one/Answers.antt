@@ -19,7 +19,7 @@ pub put-requires-clause-next : goal.put-requires-clause-next
 put-requires-clause-next c =
     let u = planned c.args.tables.now.tables c.args.plan.now in
     let row = c.in_ok-row.row in
-    let is : IsTaken c.args.tables.now.tables c.args.plan.now c.take.new.self c.args.task.0 row = record { sound = c.requires.sound; there = c.in_ok-row.ensures.row; lends = c.in_ok-row.ensures.lends } in
+    let is : IsTaken c.args.tables.now.tables c.args.plan.now c.take.new.self c.args.task.0 row = record { sound = c.requires.plan.sound; there = c.in_ok-row.ensures.row; lends = c.in_ok-row.ensures.lends } in
     again_next is (may u row c.changed.result c.changed.ensures)
 
 pub returns-clause-frees : goal.returns-clause-frees
@@ -27,7 +27,7 @@ returns-clause-frees c = λ found there.
     let t = c.args.tables.now.tables in
     let u = planned t c.args.plan.now in
     let row = c.in_ok-row.row in
-    let is : IsTaken t c.args.plan.now c.take.new.self c.args.task.0 row = record { sound = c.requires.sound; there = c.in_ok-row.ensures.row; lends = c.in_ok-row.ensures.lends } in
+    let is : IsTaken t c.args.plan.now c.take.new.self c.args.task.0 row = record { sound = c.requires.plan.sound; there = c.in_ok-row.ensures.row; lends = c.in_ok-row.ensures.lends } in
     let G : Row → Type 0 = λ r. Goes t c.args.plan.now c.put.new.self u (with_row u r) in
     subst G (c.changed.ensures ∙ ap freed (one (task_row u c.args.task.0) row found is.there there)) (goes_again is (may u row c.changed.result c.changed.ensures) c.put.new.self c.in_ok-put.ensures.goes)
 
@@ -36,10 +36,10 @@ returns-clause-sound c =
     let t = c.args.tables.now.tables in
     let u = planned t c.args.plan.now in
     let row = c.in_ok-row.row in
-    let is : IsTaken t c.args.plan.now c.take.new.self c.args.task.0 row = record { sound = c.requires.sound; there = c.in_ok-row.ensures.row; lends = c.in_ok-row.ensures.lends } in
+    let is : IsTaken t c.args.plan.now c.take.new.self c.args.task.0 row = record { sound = c.requires.plan.sound; there = c.in_ok-row.ensures.row; lends = c.in_ok-row.ensures.lends } in
     let ok = may u row c.changed.result c.changed.ensures in
     let S : TablesOf → Type 0 = λ v. IsSound v in
-    subst S (sym (goes_again is ok c.put.new.self c.in_ok-put.ensures.goes).to) ((again is ok).keeps c.requires.sound)
+    subst S (sym (goes_again is ok c.put.new.self c.in_ok-put.ensures.goes).to) ((again is ok).keeps c.requires.plan.sound)
 
 pub put-requires-clause-file : goal.put-requires-clause-file
-put-requires-clause-file c = lent_file c.args.tables.now.tables c.args.plan.now c.take.new.self c.args.task.0 c.in_ok-row.row c.changed.result c.requires.sound c.in_ok-row.ensures.lends c.in_ok-row.ensures.row (ap standing c.changed.ensures ∙ changed_standing Free c.in_ok-row.row)
+put-requires-clause-file c = lent_file c.args.tables.now.tables c.args.plan.now c.take.new.self c.args.task.0 c.in_ok-row.row c.changed.result c.requires.plan.sound c.in_ok-row.ensures.lends c.in_ok-row.ensures.row (ap standing c.changed.ensures ∙ changed_standing Free c.in_ok-row.row)

@@ -17,7 +17,7 @@ loop-put-init t c =
       next = tt;
       ends = tt;
       left = search rules;
-      going = subst G (sym all) (goes_off ts old c.act.new.plan c.args.at item c.in_ok-put-items.put-items.items c.count_models.ensures.sized c.requires.sound c.requires.closes c.in_ok-put-items.ensures.acts);
+      going = subst G (sym all) (goes_off ts old c.act.new.plan c.args.at item c.in_ok-put-items.put-items.items c.count_models.ensures.sized c.requires.plan.sound c.requires.closes c.in_ok-put-items.ensures.acts);
     }
 
 pub loop-put-preserved : goal.loop-put-preserved

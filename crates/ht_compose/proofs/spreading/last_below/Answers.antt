@@ -21,10 +21,10 @@ returns-then-is_empty c =
     let of_model : model_of u row ≡ Some m = ap (λ (ms : List ModelOf). model_in ms row) (sym c.models.ensures.value) ∙ c.model.ensures.value in
     let count : vec_len c.model.result.now.subs ≡ length m.subs = search rules in
     let empty : vec_len c.model.result.now.subs ≡ 0 = eqb-true (vec_len c.model.result.now.subs) 0 (sym c.is_empty.ensures ∙ c.if-is_empty.true) in
-    last_itself u c.requires.sound c.args.task.0 c.requires.there row m (sym c.in-Some.ensures.value) of_model (none_of m.subs (sym count ∙ empty))
+    last_itself u c.requires.plan.sound c.args.task.0 c.requires.there row m (sym c.in-Some.ensures.value) of_model (none_of m.subs (sym count ∙ empty))
 
 pub returns-else-is_empty : goal.returns-else-is_empty
 returns-else-is_empty c =
     let u = planned c.args.tables.now.tables c.args.plan.now in
     let P = λ (n : ℕ). IsLastBelow u c.args.task.0 n in
-    subst P (sym c.rows.ensures) (last_of_all u c.requires.sound c.args.task.0 c.requires.there)
+    subst P (sym c.rows.ensures) (last_of_all u c.requires.plan.sound c.args.task.0 c.requires.there)

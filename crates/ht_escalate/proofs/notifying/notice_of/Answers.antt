@@ -4,6 +4,6 @@ use Rattle.ht_tree.proofs.PublicLaws.{sound_row_fits}
 
 pub resolve_seen-requires-clause-row : goal.resolve_seen-requires-clause-row
 resolve_seen-requires-clause-row c =
-    let t = c.args.tables.now.tables in
-    let row = c.args.row.now in
-    sound_row_fits t.models (length t.people.persons) row (c.requires.seen.sound.rows_sound row.task.0 row c.requires.seen.there)
+    let t = c.args.seen.now.tables.now.tables in
+    let row = c.args.seen.now.row.now in
+    sound_row_fits t.models (length t.people.persons) row (c.requires.seen.plan.sound.rows_sound row.task.0 row c.requires.seen.there)

@@ -13,17 +13,17 @@ use Rattle.ht_tree.proofs.PublicLaws.{sound_row_fits}
 
 pub resolve_seen-requires-clause-row : goal.resolve_seen-requires-clause-row
 resolve_seen-requires-clause-row c =
-    let t = c.args.tables.now.tables in
-    let row = c.args.row.now in
-    sound_row_fits t.models (length t.people.persons) row (c.requires.seen.sound.rows_sound row.task.0 row c.requires.seen.there)
+    let t = c.args.seen.now.tables.now.tables in
+    let row = c.args.seen.now.row.now in
+    sound_row_fits t.models (length t.people.persons) row (c.requires.seen.plan.sound.rows_sound row.task.0 row c.requires.seen.there)
 
 pub returns : goal.returns
 returns c =
-    let t = c.args.tables.now.tables in
-    let row = c.args.row.now in
+    let t = c.args.seen.now.tables.now.tables in
+    let row = c.args.seen.now.row.now in
     let a : Assignment = tree.shown c.args.assign.now in
-    let rows = (planned t c.args.plan.now).rows in
-    let m : ModelOf = shown.model_of c.args.model.now in
+    let rows = (planned t c.args.seen.now.plan.now).rows in
+    let m : ModelOf = shown.model_of c.args.seen.now.model.now in
     let s : Sight = seen_in m rows row in
     let found : c.in_ok-found.found ≡ resolved (directory t) s a =
     of_this (λ (x : ModelOf). c.in_ok-found.found ≡ resolved (directory t) (seen_in x rows row) a) (model_of t row) m c.requires.seen.model c.in_ok-found.ensures.persons in

@@ -27,14 +27,14 @@ put-requires-clause-next c =
     let listed : slice_get m.deadlines c.args.place ≡ Some d =
     slice_get-map shown.deadline_of ds c.args.place ∙ ap (option_map shown.deadline_of) (slice_get_read ds (length ds) c.args.place c.index-deadline.result.now refl within c.index-deadline.ensures) in
     let is : IsTaking u c.args.task.0 c.args.place row m d =
-    taking u c.args.task.0 c.args.place row m d c.requires.sound c.requires.open (sym c.in-Some.ensures.value) of listed (subst ReassignOwned c.models.ensures.value c.model-model.ensures.owned) in
+    taking u c.args.task.0 c.args.place row m d c.requires.plan.sound c.requires.open (sym c.in-Some.ensures.value) of listed (subst ReassignOwned c.models.ensures.value c.model-model.ensures.owned) in
     let lent : IsLent t c.args.plan.now c.take.new.self c.args.task.0 c.args.place row m d = record { is = is; lends = c.in_ok-row.ensures.lends } in
     let put = row_is is c.in_ok-row.row c.in_ok-follows.follows.owners c.in_ok-taken_row.field-0 c.in_ok-row.ensures.row c.in_ok-follows.ensures.owners c.in_ok-taken_row.ensures in
     next_row lent c.in_ok-taken_row.field-0 put
 
 pub put-requires-clause-file : goal.put-requires-clause-file
 put-requires-clause-file c =
-    lent_file c.args.tables.now.tables c.args.plan.now c.take.new.self c.args.task.0 c.in_ok-row.row c.in_ok-taken_row.field-0 c.requires.sound c.in_ok-row.ensures.lends c.in_ok-row.ensures.row
+    lent_file c.args.tables.now.tables c.args.plan.now c.take.new.self c.args.task.0 c.in_ok-row.row c.in_ok-taken_row.field-0 c.requires.plan.sound c.in_ok-row.ensures.lends c.in_ok-row.ensures.row
     (ap standing c.in_ok-taken_row.ensures ∙ given_standing c.in_ok-row.row c.in_ok-follows.follows.owners)
 
 pub put-requires-clause-fits : goal.put-requires-clause-fits
@@ -51,7 +51,7 @@ put-requires-clause-fits c =
     let listed : slice_get m.deadlines c.args.place ≡ Some d =
     slice_get-map shown.deadline_of ds c.args.place ∙ ap (option_map shown.deadline_of) (slice_get_read ds (length ds) c.args.place c.index-deadline.result.now refl within c.index-deadline.ensures) in
     let is : IsTaking u c.args.task.0 c.args.place row m d =
-    taking u c.args.task.0 c.args.place row m d c.requires.sound c.requires.open (sym c.in-Some.ensures.value) of listed (subst ReassignOwned c.models.ensures.value c.model-model.ensures.owned) in
+    taking u c.args.task.0 c.args.place row m d c.requires.plan.sound c.requires.open (sym c.in-Some.ensures.value) of listed (subst ReassignOwned c.models.ensures.value c.model-model.ensures.owned) in
     let lent : IsLent t c.args.plan.now c.take.new.self c.args.task.0 c.args.place row m d = record { is = is; lends = c.in_ok-row.ensures.lends } in
     let put = row_is is c.in_ok-row.row c.in_ok-follows.follows.owners c.in_ok-taken_row.field-0 c.in_ok-row.ensures.row c.in_ok-follows.ensures.owners c.in_ok-taken_row.ensures in
     row_fits lent c.in_ok-taken_row.field-0 put
@@ -70,7 +70,7 @@ returns-clause-escalates c =
     let listed : slice_get m.deadlines c.args.place ≡ Some d =
     slice_get-map shown.deadline_of ds c.args.place ∙ ap (option_map shown.deadline_of) (slice_get_read ds (length ds) c.args.place c.index-deadline.result.now refl within c.index-deadline.ensures) in
     let is : IsTaking u c.args.task.0 c.args.place row m d =
-    taking u c.args.task.0 c.args.place row m d c.requires.sound c.requires.open (sym c.in-Some.ensures.value) of listed (subst ReassignOwned c.models.ensures.value c.model-model.ensures.owned) in
+    taking u c.args.task.0 c.args.place row m d c.requires.plan.sound c.requires.open (sym c.in-Some.ensures.value) of listed (subst ReassignOwned c.models.ensures.value c.model-model.ensures.owned) in
     let lent : IsLent t c.args.plan.now c.take.new.self c.args.task.0 c.args.place row m d = record { is = is; lends = c.in_ok-row.ensures.lends } in
     let put = row_is is c.in_ok-row.row c.in_ok-follows.follows.owners c.in_ok-taken_row.field-0 c.in_ok-row.ensures.row c.in_ok-follows.ensures.owners c.in_ok-taken_row.ensures in
     on_ok_weaker c.notify_all.result (λ tells. escalated lent c.in_ok-taken_row.field-0 c.put.new.self c.notify_all.new.plan c.args.at c.in_ok-follows.follows.notices.items put c.in_ok-put.ensures.goes tells c.in_ok-follows.ensures.notices c.requires.at) c.notify_all.ensures.told

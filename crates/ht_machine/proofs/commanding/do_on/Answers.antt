@@ -14,7 +14,7 @@ act_then_follow-requires-clause-allowed c =
     let u = planned c.args.tables.now.tables c.args.plan.now in
     let g = c.in_ok-gather-in-Complete.ensures.gathers in
     let A : TablesOf → Type 0 = λ v. IsAllowed v (op_of c.args.command.now) c.args.caller c.args.task.0 in
-    subst A (sym (g.goes).to) (still_allowed u g.after (op_of c.args.command.now) c.args.caller c.args.task.0 c.requires.sound c.requires.allowed g.gathers)
+    subst A (sym (g.goes).to) (still_allowed u g.after (op_of c.args.command.now) c.args.caller c.args.task.0 c.requires.plan.sound c.requires.allowed g.gathers)
 
 pub returns-in_ok-gather-in-Complete : goal.returns-in_ok-gather-in-Complete
 returns-in_ok-gather-in-Complete c =

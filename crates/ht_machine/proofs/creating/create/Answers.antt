@@ -42,8 +42,8 @@ create-created-requires-clause-input c =
     let I : Option ModelOf → Type 0 = λ o. IsInput n o c.in_ok-values.values in
     subst I (sym at) held
 
-pub activate_unless-requires-clause-sound : goal.activate_unless-requires-clause-sound
-activate_unless-requires-clause-sound c = c.in-Ok.ensures.sound tt c.requires.at c.requires.waits c.requires.sound
+pub activate_unless-requires-clause-plan : goal.activate_unless-requires-clause-plan
+activate_unless-requires-clause-plan c = record { fits = (c.in-Ok.ensures.goes.2).fits; sound = c.in-Ok.ensures.sound tt c.requires.at c.requires.waits c.requires.plan.sound }
 
 pub activate_unless-requires-clause-there : goal.activate_unless-requires-clause-there
 activate_unless-requires-clause-there c =

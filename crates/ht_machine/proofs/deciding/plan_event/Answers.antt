@@ -8,17 +8,13 @@ use Rattle.ht_base.specs.declared.reply.Reply.{Reply}
 use Rattle.ht_machine.specs.Deciding.{Behind, Decides, Rests, effective, reply_of}
 use Rattle.ht_machine.specs.History.{record_at}
 use Rattle.ht_machine.specs.Planning.{Plans, record_in}
-use Rattle.ht_machine.proofs.BehindTurn.{read_leaves, turn_plans}
+use Rattle.ht_machine.proofs.BehindTurn.{nothing_planned, read_leaves, turn_plans}
 use Rattle.ht_machine.proofs.deciding.plan_event.Goals as goal
-use Rattle.ht_tree.proofs.PublicLaws.{planned_nothing}
 use Rattle.ht_tree.specs.Soundness.{IsSound}
 use Rattle.ht_tree.specs.Tables.{TablesOf}
 
-pub turn-requires-clause-sound : goal.turn-requires-clause-sound
-turn-requires-clause-sound c =
-    let t = c.args.tables.now.tables in
-    let S : TablesOf → Type 0 = λ u. IsSound u in
-    subst S (sym (planned_nothing t c.args.plan.now c.requires.plan)) c.last-last.ensures.sound
+pub turn-requires-clause-plan : goal.turn-requires-clause-plan
+turn-requires-clause-plan c = nothing_planned c.args.tables.now.tables c.args.plan.now c.requires.plan c.last-last.ensures.sound
 
 pub returns-in_ok-taken-in-Turn : goal.returns-in_ok-taken-in-Turn
 returns-in_ok-taken-in-Turn c =

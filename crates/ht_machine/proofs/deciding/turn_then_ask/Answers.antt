@@ -5,9 +5,12 @@ use Rattle.ht_machine.specs.declared.answering.Response.{Response}
 use Rattle.ht_machine.specs.Deciding.{left_with}
 use Rattle.ht_machine.specs.declared.leaving.Left.{Left}
 use Rattle.ht_machine.specs.Planning.{PlansBehindTurn, answer_given, record_as, record_by, record_left}
-use Rattle.ht_machine.proofs.BehindTurn.{then_asks}
+use Rattle.ht_machine.proofs.BehindTurn.{nothing_planned, then_asks}
 use Rattle.ht_machine.proofs.deciding.turn_then_ask.Goals as goal
 use Rattle.ht_machine.proofs.deciding.turn_then_ask.Goals.{in-Accepted, in-Answered, in-Refused}
+
+pub turn-requires-clause-plan : goal.turn-requires-clause-plan
+turn-requires-clause-plan c = nothing_planned c.args.tables.now.tables c.args.plan.now c.requires.plan c.requires.sound
 
 -- where the record and the answer are those of the response
 reached : (c : goal.Joined-branch-3) (left : Option Record) (answer : Answer) → left ≡ left_with c.args.asked.now.at.0 c.in_ok-taken.taken (record_left c.args.asked.now c.in_ok-kept.field-0) → answer ≡ answer_given c.in_ok-kept.field-0 → PlansBehindTurn c.args.tables.now.tables c.ask.new.plan c.args.asked.now left (record { taken = c.in_ok-taken.taken; answer = answer })

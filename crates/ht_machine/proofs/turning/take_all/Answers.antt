@@ -4,16 +4,13 @@ use Rattle.ht_machine.proofs.turning.take_all.Goals as goal
 
 pub loop-init : goal.loop-init
 loop-init c = record {
-  way = sets_out c.args.tables.now.tables c.args.plan.now c.args.at.0 c.in_ok-course.course.taken c.requires.plan c.requires.sound c.in_ok-course.ensures.none;
+  way = sets_out c.args.tables.now.tables c.args.plan.now c.args.at.0 c.in_ok-course.course.taken c.requires.plan.fits c.requires.plan.sound c.in_ok-course.ensures.none;
   course = c.in_ok-course.ensures.course;
   count = let none = c.in_ok-course.ensures.none in omega (arith, none);
 }
 
 pub goes_on-requires-clause-plan : goal.goes_on-requires-clause-plan
-goes_on-requires-clause-plan c = c.loop.invariant.way.goes.fits
-
-pub goes_on-requires-clause-sound : goal.goes_on-requires-clause-sound
-goes_on-requires-clause-sound c = c.loop.invariant.way.sound
+goes_on-requires-clause-plan c = record { fits = c.loop.invariant.way.goes.fits; sound = c.loop.invariant.way.sound }
 
 pub goes_on-requires-clause-course : goal.goes_on-requires-clause-course
 goes_on-requires-clause-course c = c.loop.invariant.course

@@ -6,4 +6,4 @@ pub returns-in-None-clause-turns : goal.returns-in-None-clause-turns
 returns-in-None-clause-turns c =
     let t = c.args.tables.now.tables in
     let p = c.args.plan.now in
-    turns_then t p p c.args.at.0 0 (sets_out t p c.args.at.0 0 c.requires.plan c.requires.sound refl) (sym c.first.ensures ∙ c.in-None.is)
+    turns_then t p p c.args.at.0 0 (sets_out t p c.args.at.0 0 c.requires.plan.fits c.requires.plan.sound refl) (sym c.first.ensures ∙ c.in-None.is)

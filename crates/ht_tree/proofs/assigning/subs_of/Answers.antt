@@ -17,7 +17,7 @@ shown s = (s.state, s.output)
 pub unreachable-requires : goal.unreachable-requires
 unreachable-requires c =
     let u = planned c.args.tables.now.tables c.args.plan.now in
-    let row = sub_found u c.requires.sound c.args.task.0 c.loop-id.id-index c.args.ids.now c.requires.ids c.loop-id-test.true in
+    let row = sub_found u c.requires.plan.sound c.args.task.0 c.loop-id.id-index c.args.ids.now c.requires.ids c.loop-id-test.true in
     none-some row.0 (c.in_default.ensures.value ∙ row.2)
 
 pub loop-id-preserved : goal.loop-id-preserved
@@ -25,7 +25,7 @@ loop-id-preserved c =
     let u = planned c.args.tables.now.tables c.args.plan.now in
     let subs = sub_tasks c.args.task.0 u.rows in
     let i = c.loop-id.id-index in
-    let row = sub_found u c.requires.sound c.args.task.0 i c.args.ids.now c.requires.ids c.loop-id-test.true in
+    let row = sub_found u c.requires.plan.sound c.args.task.0 i c.args.ids.now c.requires.ids c.loop-id-test.true in
     let found : Some c.in-Some.row.now ≡ Some row.0 = c.in-Some.ensures.value ∙ row.2 in
     let same : c.in-Some.row.now ≡ row.0 = cc in
     c.in_ok-push.ensures.ok

@@ -12,9 +12,9 @@ returns-in-Some c =
     let row = c.in-Some.row.now in
     c.has_due.ensures
     ∙ ap (λ (ms : List ModelOf). has c.args.due (row_dues ms row)) c.models.ensures.value
-    ∙ sym (by_its_row u c.args.due row c.requires.sound.numbered (sym c.in-Some.ensures.value))
+    ∙ sym (by_its_row u c.args.due row c.requires.plan.sound.numbered (sym c.in-Some.ensures.value))
 
 pub returns-in-None : goal.returns-in-None
 returns-in-None c =
     let u = planned c.args.tables.now.tables c.args.plan.now in
-    sym (by_no_row u c.args.due c.requires.sound.numbered (sym c.in-None.ensures.value))
+    sym (by_no_row u c.args.due c.requires.plan.sound.numbered (sym c.in-None.ensures.value))

@@ -16,10 +16,10 @@ returns-in-Some c =
     let row = c.in-Some.row.now in
     let of_model : model_of u row ≡ Some m = ap (λ (ms : List ModelOf). model_in ms row) (sym c.models.ensures.value) ∙ c.model.ensures.value in
     let count : vec_len c.model.result.now.subs ≡ length m.subs = search rules in
-    let few = few_subs u c.requires.sound c.args.task.0 row m (sym c.in-Some.ensures.value) of_model in
+    let few = few_subs u c.requires.plan.sound c.args.task.0 row m (sym c.in-Some.ensures.value) of_model in
     omega arith
 
 pub returns-in-None : goal.returns-in-None
 returns-in-None c =
-    let none = ap (λ (l : List Row). length l) (none_of_none (planned c.args.tables.now.tables c.args.plan.now) c.requires.sound c.args.task.0 (sym c.in-None.ensures.value)) in
+    let none = ap (λ (l : List Row). length l) (none_of_none (planned c.args.tables.now.tables c.args.plan.now) c.requires.plan.sound c.args.task.0 (sym c.in-None.ensures.value)) in
     omega arith

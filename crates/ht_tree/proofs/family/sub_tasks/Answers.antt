@@ -19,7 +19,7 @@ ids rows = map (λ r. r.task) rows
 pub loop-before-init : goal.loop-before-init
 loop-before-init c =
     let u = planned c.args.tables.now.tables c.args.plan.now in
-    c.new-found.ensures.items ∙ ap ids (sym (none_before u c.requires.sound c.args.task.0))
+    c.new-found.ensures.items ∙ ap ids (sym (none_before u c.requires.plan.sound c.args.task.0))
 
 pub returns-then-len-most : goal.returns-then-len-most
 returns-then-len-most c =

@@ -17,4 +17,4 @@ add_all-requires-clause-ascend c =
     subst Ascends (sym (c.deref.ensures.value ∙ c.in_ok-dues.ensures)) (ascends_all_put [] (flat_map dues p.changes.rows) tt)
 
 pub returns-clause-course : goal.returns-clause-course
-returns-clause-course c = begins c.args.tables.now.tables c.args.plan.now c.deref.result.now c.add_all.new.queue.dues c.requires.plan c.in_step.ensures c.requires.sound (c.deref.ensures.value ∙ c.in_ok-dues.ensures) c.in_ok-add_all.ensures.ascend (λ q. c.in_ok-add_all.ensures.has q ∙ ap (λ (l : List Due). has q c.deref.result.now || has q l) c.new-news.ensures)
+returns-clause-course c = begins c.args.tables.now.tables c.args.plan.now c.deref.result.now c.add_all.new.queue.dues c.requires.plan.fits c.in_step.ensures c.requires.plan.sound (c.deref.ensures.value ∙ c.in_ok-dues.ensures) c.in_ok-add_all.ensures.ascend (λ q. c.in_ok-add_all.ensures.has q ∙ ap (λ (l : List Due). has q c.deref.result.now || has q l) c.new-news.ensures)

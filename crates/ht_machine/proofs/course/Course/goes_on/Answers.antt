@@ -39,13 +39,13 @@ returns-clause-course c =
     let v = planned t c.take.new.plan in
     let due = c.in-Some.due in
     let taken = c.in_ok-take.ensures.taken in
-    let ages = takes_ages u v due (c.requires.sound).numbered taken.takes in
-    let aged : HasAged due.at u v = record { models = takes_models u v due taken.takes; age = ages; before = c.requires.sound; after = taken.sound } in
+    let ages = takes_ages u v due (c.requires.plan.sound).numbered taken.takes in
+    let aged : HasAged due.at u v = record { models = takes_models u v due taken.takes; age = ages; before = c.requires.plan.sound; after = taken.sound } in
     let news = c.args.self.now.news.dues in
     let F : List Due → Type 0 = λ l. IsFirstAhead (in_either l news) c.args.self.now.passed (Some c.in-Some.due) in
     let first = subst F c.due.ensures.value c.in-Some.ensures in
     let still : has due (all_dues u) ≡ true = sym c.if-not-is_due.ensures in
-    goes_on (all_dues t) u news c.args.self.now.passed c.requires.course due v c.take.new.self.news.dues first aged still (taken_gone u v due c.requires.sound taken.sound still taken.takes) c.in_ok-take.ensures.in_order c.in_ok-take.ensures.news (no_fewer due.at u v ages)
+    goes_on (all_dues t) u news c.args.self.now.passed c.requires.course due v c.take.new.self.news.dues first aged still (taken_gone u v due c.requires.plan.sound taken.sound still taken.takes) c.in_ok-take.ensures.in_order c.in_ok-take.ensures.news (no_fewer due.at u v ages)
 
 pub returns-clause-on : goal.returns-clause-on
 returns-clause-on c =
