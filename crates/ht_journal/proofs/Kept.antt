@@ -1,5 +1,6 @@
 -- A journal whose disk was only read is kept.
-use Rattle.std.proofs.Common.{◌≡◌, ℕ, Bool, IsTrue, List, Option, Some, None, IfSome, sym, ◌∙◌, ap, subst, arith}
+use Rattle.std.proofs.Common.{◌≡◌, ℕ, IsTrue, List, Option, Some, None, IfSome, sym, ◌∙◌, ap, subst, arith}
+use Rattle.ht_outside.specs.declared.disk.Disk.{Ghosts}
 use Rattle.ht_journal.specs.declared.state.JournalState.{JournalState}
 use Rattle.ht_journal.specs.declared.state.Reader.{Reader}
 use Rattle.ht_journal.specs.Keeping.{IsKept, behind, doubt_of}
@@ -17,17 +18,17 @@ pub told_pieces : (o : Option (List ℕ)) (bodies : List (List ℕ)) (reader : R
 told_pieces None bodies reader read = tt
 told_pieces (Some f) bodies reader read = read.piece
 
-module _ {D : Type 0} (room : D → Option ℕ) (gives : D → Option (List ℕ)) (shown : D → ℕ) (tells_images : D → Bool) (may_leave : D → List ℕ → Type 0) (moment : D → ℕ) (left_since : D → ℕ → List ℕ → Type 0) where
-  pub kept_on : (bodies : List (List ℕ)) (state other : JournalState) (old new : D) → IsQuiet room gives tells_images may_leave moment left_since old new → shown new ≡ shown old → other.count ≡ state.count → other.length ≡ state.length → other.doubt ≡ state.doubt → doubt_of other ≡ doubt_of state
-      → IfSome (gives old) (IsRead bodies other.reader) → IsKept gives shown tells_images may_leave bodies state old → IsKept gives shown tells_images may_leave bodies other new
+module _ {D : Type 0} (d : Ghosts D) where
+  pub kept_on : (bodies : List (List ℕ)) (state other : JournalState) (old new : D) → IsQuiet d old new → d.shown new ≡ d.shown old → other.count ≡ state.count → other.length ≡ state.length → other.doubt ≡ state.doubt → doubt_of other ≡ doubt_of state
+      → IfSome (d.gives old) (IsRead bodies other.reader) → IsKept d bodies state old → IsKept d bodies other new
   kept_on bodies state other old new quiet same count length doubt body read k = record {
     count = count ∙ k.count;
     place = length ∙ k.place;
     fit = k.fit;
     told = omega (arith, k.told, ap behind doubt);
-    file = told_same (gives new) (gives old) _ (sym quiet.file) (subst (λ (d : Option (List ℕ)). IfSome (gives old) (Stands bodies d)) (sym body) k.file);
+    file = told_same (d.gives new) (d.gives old) _ (sym quiet.file) (subst (λ (doubt : Option (List ℕ)). IfSome (d.gives old) (Stands bodies doubt)) (sym body) k.file);
     images = λ tells image now.
         let before = subst IsTrue quiet.tells tells in
-        subst (λ (d : Option (List ℕ)). Stands bodies d image) (sym body) (k.images before image (quiet.crash before image now));
-    reading = told_same (gives new) (gives old) _ (sym quiet.file) read;
+        subst (λ (doubt : Option (List ℕ)). Stands bodies doubt image) (sym body) (k.images before image (quiet.crash before image now));
+    reading = told_same (d.gives new) (d.gives old) _ (sym quiet.file) read;
   }

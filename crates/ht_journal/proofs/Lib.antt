@@ -1,3 +1,4 @@
+mod Begun
 mod Frames
 mod InParts
 mod Kept

@@ -1,31 +1,33 @@
 -- How a run of calls goes on.
 use Rattle.std.proofs.Common.{sym, ◌≡◌, inl, inr, ⊎_elim, ℕ, List, arith, Option, Some, None, IfSome, subst}
-use Rattle.ht_outside.specs.Disks.{Elapses, LeavesOnly, Both}
+use Rattle.ht_outside.specs.Disks.{Elapses, Both}
+use Rattle.ht_outside.specs.Moments.{LeavesOnly}
+use Rattle.ht_outside.specs.declared.disk.Disk.{Ghosts}
 
-module _ {D : Type 0} (moment : D → ℕ) (left_since : D → ℕ → List ℕ → Type 0) where
+module _ {D : Type 0} (d : Ghosts D) where
   -- before the first call
-  pub started : (old : D) (P : List ℕ → Type 0) → ((c : List ℕ) → left_since old (moment old) c → P c) → LeavesOnly moment left_since old old P
+  pub started : (old : D) (P : List ℕ → Type 0) → ((c : List ℕ) → d.left_since old (d.moment old) c → P c) → LeavesOnly d old old P
   started old P here = record { later = omega arith; each = here; before = λ t c le left. inl left }
 
   -- one call more, after which a crash leaves what has P
-  pub goes_on : (old mid new : D) (P may_leave : List ℕ → Type 0) → LeavesOnly moment left_since old mid P → Elapses (moment mid) (moment new) (left_since mid) (left_since new) may_leave
-      → ((c : List ℕ) → may_leave c → P c) → LeavesOnly moment left_since old new P
+  pub goes_on : (old mid new : D) (P may_leave : List ℕ → Type 0) → LeavesOnly d old mid P → Elapses (d.moment mid) (d.moment new) (d.left_since mid) (d.left_since new) may_leave
+      → ((c : List ℕ) → may_leave c → P c) → LeavesOnly d old new P
   goes_on old mid new P may_leave so_far time here = record {
     later = omega (arith, so_far.later, time.later);
-    each = λ c left. ⊎_elim (so_far.each c) (here c) (time.nothing_else (moment old) c so_far.later left);
+    each = λ c left. ⊎_elim (so_far.each c) (here c) (time.nothing_else (d.moment old) c so_far.later left);
     before = λ t c le left. ⊎_elim (so_far.before t c le) (λ now. inr (here c now)) (time.nothing_else t c (omega (arith, le, so_far.later)) left);
   }
 
   -- a run of calls more
-  pub runs_on : (old mid new : D) (P Q : List ℕ → Type 0) → LeavesOnly moment left_since old mid P → LeavesOnly moment left_since mid new Q → ((c : List ℕ) → Q c → P c) → LeavesOnly moment left_since old new P
+  pub runs_on : (old mid new : D) (P Q : List ℕ → Type 0) → LeavesOnly d old mid P → LeavesOnly d mid new Q → ((c : List ℕ) → Q c → P c) → LeavesOnly d old new P
   runs_on old mid new P Q so_far then here = record {
     later = omega (arith, so_far.later, then.later);
-    each = λ c left. ⊎_elim (so_far.each c) (λ q. here c q) (then.before (moment old) c so_far.later left);
+    each = λ c left. ⊎_elim (so_far.each c) (λ q. here c q) (then.before (d.moment old) c so_far.later left);
     before = λ t c le left. ⊎_elim (so_far.before t c le) (λ q. inr (here c q)) (then.before t c (omega (arith, le, so_far.later)) left);
   }
 
   -- what has P has Q
-  pub weaker : (old new : D) (P Q : List ℕ → Type 0) → LeavesOnly moment left_since old new P → ((c : List ℕ) → P c → Q c) → LeavesOnly moment left_since old new Q
+  pub weaker : (old new : D) (P Q : List ℕ → Type 0) → LeavesOnly d old new P → ((c : List ℕ) → P c → Q c) → LeavesOnly d old new Q
   weaker old new P Q all here = record {
     later = all.later;
     each = λ c left. here c (all.each c left);

@@ -129,10 +129,10 @@ scan_fault (Some f) gate count end s lt long told at =
     ap contents s.front_is ∙ contents_front s.bodies rest s.fit some more ∙ ap (λ k. with_bodies s.bodies (bodies_from k 0 rest)) (sym s.place) ∙ ap (with_bodies s.bodies) at ∙ with_bodies-err s.bodies gate
 
 -- a fault of a call is one of the run
-pub fault_on : (e : JournalFault) (damaged other : ℕ → Type 0) (before mid now : ℕ) → before ≤ mid → ((at : ℕ) → damaged at → other at) → IsFault damaged mid now e → IsFault other before now e
-fault_on (Damaged at) damaged other before mid now le on h = on at h
-fault_on Store damaged other before mid now le on h = omega arith
-fault_on Memory damaged other before mid now le on h = tt
+pub fault_on : (e : JournalFault) (damaged other : ℕ → Type 0) (before mid now : ℕ) → mid ≡ before → ((at : ℕ) → damaged at → other at) → IsFault damaged mid now e → IsFault other before now e
+fault_on (Damaged at) damaged other before mid now still on h = (on at h.0, h.1 ∙ still)
+fault_on Store damaged other before mid now still on h = omega arith
+fault_on Memory damaged other before mid now still on h = h ∙ still
 
 -- a new journal's file
 pub began : (d c piece : List ℕ) → length d ≤ 9 → piece ≡ header ++ 0 ∷ [] → Holds 0 piece d c → Rests [] c

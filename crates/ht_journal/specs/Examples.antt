@@ -1,8 +1,6 @@
 -- Worked examples of the definitions. A wrong reading of one fails the check.
-use Rattle.std.specs.Prelude.{◌≡◌, [], ◌∷◌, ◌++◌, replicate, Ok, Err, Some, None, refl}
+use Rattle.std.specs.Prelude.{◌≡◌, [], ◌∷◌, ◌++◌, replicate, Ok, Err, refl}
 use Rattle.ht_journal.specs.Files.{header, length_bytes, length_at, bodies_from, contents, journal_length}
-use Rattle.ht_journal.specs.Parts.{doubt_in}
-use Rattle.ht_journal.specs.Parts.Part.{FrameSync, GateWrite}
 
 -- a file of nine bytes has no body, whatever it holds
 nine_bytes : contents (header ++ 1 ∷ []) ≡ Ok []
@@ -64,10 +62,3 @@ one_body_of_26_bytes = refl
 
 one_body_of_437_bytes : journal_length (replicate 437 0 ∷ []) ≡ 451
 one_body_of_437_bytes = refl
-
--- a failure before the gate is written leaves no doubt, and one from then on does
-no_doubt_from_the_first_sync : doubt_in FrameSync (7 ∷ []) ≡ None
-no_doubt_from_the_first_sync = refl
-
-a_doubt_from_the_gate_on : doubt_in GateWrite (7 ∷ []) ≡ Some (7 ∷ [])
-a_doubt_from_the_gate_on = refl

@@ -1,9 +1,10 @@
 -- What the bytes of a journal file stand for: the header, and then by turns a gate and a frame. A gate
 -- is open where it holds 1. The bodies of the file are those behind its open gates, up to the first gate
 -- that is closed. What follows that gate has no meaning.
-use Rattle.std.specs.Prelude.{◌≡◌, ◌==◌, ℕ, zero, suc, ◌+◌, ◌^◌, ◌<◌, ◌≤◌, ◌&&◌, Bool, List, [], ◌∷◌, ◌++◌, length, take, drop, Result, Ok, Err, nat_le, nat_lt, if◌then◌else◌, bytes_eq}
+use Rattle.std.specs.Prelude.{◌≡◌, ◌==◌, ℕ, zero, suc, ◌+◌, ◌-◌, ◌^◌, ◌<◌, ◌≤◌, ◌&&◌, Bool, List, [], ◌∷◌, ◌++◌, length, take, drop, Result, Ok, Err, nat_le, nat_lt, if◌then◌else◌, bytes_eq}
 use Rattle.std.specs.List.{AllByRecursion}
 use Rattle.std.specs.Int.{w32, to_le_bytes, from_le_bytes}
+use Rattle.ht_outside.specs.Disks.{written}
 use Rattle.ht_journal.specs.declared.limits.TheConstants.{LONGEST_BODY}
 
 -- the first eight bytes of a journal file: HTJ1, and a carriage return, a line feed, the byte 26 and a line feed
@@ -85,3 +86,8 @@ pub record Doubts (bodies : List (List ℕ)) (body : List ℕ) (more : List (Lis
   pub gate : ℕ
   pub rest : List ℕ
   pub split : file ≡ front bodies ++ gate ∷ (frame body ++ (frames more ++ 0 ∷ rest))
+
+-- A body was appended behind the closed gate of a journal of this length: its frame stands there, with a gate 0 behind, and the
+-- gate holds 1. No other byte changed
+abbrev pub IsAppended : ℕ → List ℕ → List ℕ → List ℕ → Type 0
+IsAppended place body old new = new ≡ written (place - 1) (1 ∷ []) (written place (frame body ++ 0 ∷ []) old)

@@ -1,5 +1,6 @@
 -- What holds between a journal and its disk.
-use Rattle.std.specs.Prelude.{◌≡◌, ℕ, ◌+◌, ◌≤◌, Bool, IsTrue, List, length, take, drop, Option, Some, None, IfSome, option_map}
+use Rattle.std.specs.Prelude.{◌≡◌, ℕ, ◌+◌, ◌≤◌, IsTrue, List, length, take, drop, Option, Some, None, IfSome, option_map}
+use Rattle.ht_outside.specs.declared.disk.Disk.{Ghosts}
 use Rattle.ht_journal.specs.Files.{Fit, front}
 use Rattle.ht_journal.specs.Parts.{Stands}
 use Rattle.ht_journal.specs.Pieces.{IsRead}
@@ -16,12 +17,12 @@ behind (Some n) = 5 + n
 
 -- The journal has these bodies: the file has them, with the one in doubt if there is one, as far as the disk tells it, and
 -- so has each image that a crash may leave.
-pub record IsKept {D : Type 0} (gives : D → Option (List ℕ)) (shown : D → ℕ) (tells_images : D → Bool) (may_leave : D → List ℕ → Type 0) (bodies : List (List ℕ)) (state : JournalState) (disk : D) : Type 0 where
+pub record IsKept {D : Type 0} (d : Ghosts D) (bodies : List (List ℕ)) (state : JournalState) (disk : D) : Type 0 where
   pub count : state.count ≡ length bodies
   -- the place behind the closed gate
   pub place : state.length ≡ length (front bodies) + 1
   pub fit : Fit bodies
-  pub told : state.length + behind state.doubt ≤ shown disk
-  pub file : IfSome (gives disk) (Stands bodies (doubt_of state))
-  pub images : IsTrue (tells_images disk) → (image : List ℕ) → may_leave disk image → Stands bodies (doubt_of state) image
-  pub reading : IfSome (gives disk) (IsRead bodies state.reader)
+  pub told : state.length + behind state.doubt ≤ d.shown disk
+  pub file : IfSome (d.gives disk) (Stands bodies (doubt_of state))
+  pub images : IsTrue (d.tells_images disk) → (image : List ℕ) → d.may_leave disk image → Stands bodies (doubt_of state) image
+  pub reading : IfSome (d.gives disk) (IsRead bodies state.reader)

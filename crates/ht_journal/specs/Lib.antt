@@ -3,6 +3,7 @@ pub mod Examples
 pub mod Files
 pub mod Keeping
 pub mod Opening
+pub mod Openings
 pub mod Parts
 pub mod Pieces
 pub mod Quiet

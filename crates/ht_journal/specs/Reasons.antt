@@ -36,14 +36,9 @@ IsSettledBy gate Kept = gate ≡ 1
 IsSettledBy gate Dropped = gate ≡ 1 → ⊥
 IsSettledBy gate Unsettled = ⊤
 
--- when each fault comes: Damaged by what is said of its place, Store where the count of faults rose. Memory is free
+-- when each fault comes: Damaged by what is said of its place, Store where the count of faults rose. Memory is free. The
+-- count stays but at Store
 abbrev pub IsFault : (ℕ → Type 0) → ℕ → ℕ → JournalFault → Type 0
-IsFault damaged before now (Damaged at) = damaged at
+IsFault damaged before now (Damaged at) = damaged at × (now ≡ before)
 IsFault damaged before now StoreFault = Rose before now
-IsFault damaged before now Memory = ⊤
-
--- the same, of an opening that doesn't tell the disk afterwards: Damaged by what is said of its place
-abbrev pub IsDamaged : (ℕ → Type 0) → JournalFault → Type 0
-IsDamaged damaged (Damaged at) = damaged at
-IsDamaged damaged StoreFault = ⊤
-IsDamaged damaged Memory = ⊤
+IsFault damaged before now Memory = now ≡ before

@@ -1,8 +1,9 @@
 ghost use Rattle.std.specs.Prelude.{◌≡◌, ◌≢◌, ◌+◌, ◌≤◌, ◌++◌, ◌∷◌, [], List, ℕ, length, take, Err, None, IfSome, IsErr, IsTrue, OnOk, OnErr, MatchResult};
-ghost use Rattle.ht_outside.specs.Disks.{LeavesOnly};
-ghost use Rattle.ht_journal.specs.Files.{frame};
+ghost use Rattle.ht_outside.specs.Disks.{Both};
+ghost use Rattle.ht_outside.specs.Moments.{LeavesOnly};
+ghost use Rattle.ht_journal.specs.Files.{IsAppended, frame};
 ghost use Rattle.ht_journal.specs.Keeping.{IsKept, doubt_of};
-ghost use Rattle.ht_journal.specs.Parts.{IsInPart, Reads};
+ghost use Rattle.ht_journal.specs.Parts.{IsAppending, Reads};
 ghost use Rattle.ht_journal.specs.Reasons.{HasReason, HasRoom, IsShort};
 ghost use Rattle.ht_journal.specs.Rooms.{IsRoomy};
 
@@ -27,40 +28,36 @@ impl JournalState {
     /// `Store` the body isn't there, or it is in doubt: [`JournalState::doubtful`] says which.
     pub fn append<D: Disk>(&mut self, disk: &mut D, body: &[u8]) -> Result<(), AppendRefusal>
         requires certain { self.old.doubt ≡ None }
-        requires kept { (bodies : List (List ℕ))
-            × IsKept D.gives D.shown D.tells_images D.may_leave bodies self.old disk.old }
+        requires kept { (bodies : List (List ℕ)) × IsKept D.Disk bodies self.old disk.old }
         ensures reason { MatchResult result (λ _. IsShort body.now × HasRoom self.old body.now)
             (HasReason self.old body.now (D.faults disk.old) (D.faults disk.new)) }
-        ensures ok { OnOk result ((bodies : List (List ℕ))
-            → IsKept D.gives D.shown D.tells_images D.may_leave bodies self.old disk.old
-            → IsKept D.gives D.shown D.tells_images D.may_leave (bodies ++ body.now ∷ []) self.new
-            disk.new) }
+        ensures ok { OnOk result ((bodies : List (List ℕ)) → IsKept D.Disk bodies self.old disk.old
+            → IsKept D.Disk (bodies ++ body.now ∷ []) self.new disk.new) }
         ensures certain { OnOk result (self.new.doubt ≡ None) }
         ensures err { OnErr result ((bodies : List (List ℕ))
-            → IsKept D.gives D.shown D.tells_images D.may_leave bodies self.old disk.old
-            → IsKept D.gives D.shown D.tells_images D.may_leave bodies self.new disk.new) }
+            → IsKept D.Disk bodies self.old disk.old → IsKept D.Disk bodies self.new disk.new) }
         // For a caller to whom the bodies don't matter.
-        ensures goes_on { (bodies : List (List ℕ))
-            × IsKept D.gives D.shown D.tells_images D.may_leave bodies self.new disk.new }
+        ensures goes_on { (bodies : List (List ℕ)) × IsKept D.Disk bodies self.new disk.new }
         ensures doubt { IfSome (doubt_of self.new)
             (λ doubt. (doubt ≡ body.now) × (result ≡ Err AppendRefusal.Store)) }
+        ensures written { OnOk result (Both (IsAppended self.old.length body.now)
+            (D.gives disk.old) (D.gives disk.new)) }
         ensures limit { self.new.limit ≡ self.old.limit }
         ensures refused { result ≢ Err AppendRefusal.Store → IsErr result
             → (self.new ≡ self.old) × (disk.new ≡ disk.old) }
         // At every moment since it began, an image holds what one of the four parts may leave.
-        ensures any_part { (bodies : List (List ℕ))
-            → IsKept D.gives D.shown D.tells_images D.may_leave bodies self.old disk.old
+        ensures any_part { (bodies : List (List ℕ)) → IsKept D.Disk bodies self.old disk.old
             → IsTrue (D.tells_images disk.old)
-            → LeavesOnly D.moment D.left_since disk.old disk.new (IsInPart bodies body.now) }
+            → LeavesOnly D.Disk disk.old disk.new (IsAppending bodies body.now) }
         // So it has the bodies from before, or these and the new one.
-        ensures any_moment { (bodies : List (List ℕ))
-            → IsKept D.gives D.shown D.tells_images D.may_leave bodies self.old disk.old
+        ensures any_moment { (bodies : List (List ℕ)) → IsKept D.Disk bodies self.old disk.old
             → IsTrue (D.tells_images disk.old)
-            → LeavesOnly D.moment D.left_since disk.old disk.new (Reads bodies (Some body.now)) }
+            → LeavesOnly D.Disk disk.old disk.new (Reads bodies (Some body.now)) }
         ensures room { D.room disk.new ≡ D.room disk.old }
         ensures in_room { IsRoomy (D.room disk.old) self.old.limit
             → result ≢ Err AppendRefusal.Store }
         ensures faults { D.faults disk.old ≤ D.faults disk.new }
+        ensures still { result ≢ Err AppendRefusal.Store → D.faults disk.new ≡ D.faults disk.old }
         ensures tells { D.tells_images disk.new ≡ D.tells_images disk.old }
     {
         if body.len() > LONGEST_BODY as usize {

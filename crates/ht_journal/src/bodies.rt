@@ -1,9 +1,9 @@
-ghost use Rattle.std.specs.Prelude.{◌≡◌, ◌≢◌, ◌+◌, ◌^◌, ◌<◌, ◌≤◌, ℕ, List, length, take, drop, Err, IfOk, IfErr, IfSome};
+ghost use Rattle.std.specs.Prelude.{◌≡◌, ◌≢◌, ◌+◌, ◌^◌, ◌<◌, ◌≤◌, ℕ, List, length, take, drop, Err, IfOk, IfErr, IfSome, OnOk};
 ghost use Rattle.ht_journal.specs.Bodies.{IsNth};
 ghost use Rattle.ht_journal.specs.Keeping.{IsKept, doubt_of};
 ghost use Rattle.ht_journal.specs.Pieces.{IsPiece};
 ghost use Rattle.ht_journal.specs.Quiet.{IsQuiet};
-ghost use Rattle.ht_journal.specs.Reasons.{IsFault};
+ghost use Rattle.ht_journal.specs.Reasons.{IsFault, IsShort};
 ghost use Rattle.ht_journal.specs.Rooms.{IsRoomy};
 
 use crate::reading::zeros;
@@ -26,14 +26,15 @@ fn body_at<D: Disk>(
     ensures body { IfOk result (λ body.
         (body.at ≡ at)
         × IfSome (D.gives disk.old) (λ file. body.bytes.items ≡ take len (drop at file))) }
+    ensures size { IfOk result (λ body. length body.bytes.items ≡ len) }
     ensures fault { IfErr result (IsFault (λ _. ⊥) (D.faults disk.old) (D.faults disk.new)) }
     ensures piece { IfSome (D.gives disk.old) (IsPiece reader.new) }
     ensures gate { (reader.new.gate ≡ reader.old.gate) × (reader.new.passed ≡ reader.old.passed) }
-    ensures quiet { IsQuiet D.room D.gives D.tells_images D.may_leave D.moment D.left_since disk.old
-        disk.new }
+    ensures quiet { IsQuiet D.Disk disk.old disk.new }
     ensures shown { D.shown disk.new ≡ D.shown disk.old }
     ensures in_room { IsRoomy (D.room disk.old) 0 → result ≢ Err JournalFault.Store }
     ensures faults { D.faults disk.old ≤ D.faults disk.new }
+    ensures still { OnOk result (D.faults disk.new ≡ D.faults disk.old) }
 {
     let mut items = zeros(alloc, len as usize)?;
     reader.read(disk, at, &mut items)?;
@@ -50,6 +51,13 @@ impl JournalState {
         self.count
     }
 
+    /// How many bytes the journal has, up to the closed gate and with it.
+    pub fn length(&self) -> u64
+        ensures { result ≡ self.now.length }
+    {
+        self.length
+    }
+
     /// The nth body, counted from 1. It fails with `Store` or `Memory` alone. Bodies that are asked
     /// for in their order cost one frame each; another one is walked to, from the last place or from
     /// the first.
@@ -60,27 +68,26 @@ impl JournalState {
         n: u32,
     ) -> Result<Body, JournalFault>
         requires number { (1 ≤ n) × (n ≤ self.old.count) }
-        requires kept { (bodies : List (List ℕ))
-            × IsKept D.gives D.shown D.tells_images D.may_leave bodies self.old disk.old }
+        requires kept { (bodies : List (List ℕ)) × IsKept D.Disk bodies self.old disk.old }
         ensures body { IfOk result (λ body.
-            (bodies : List (List ℕ))
-            → IsKept D.gives D.shown D.tells_images D.may_leave bodies self.old disk.old
+            (bodies : List (List ℕ)) → IsKept D.Disk bodies self.old disk.old
             → IfSome (D.gives disk.old) (λ _. IsNth bodies n body.at body.bytes.items)) }
+        // Also where the file isn't told: the body lies in the file's first 2 ^ 32 bytes.
+        ensures bounds { IfOk result (λ body.
+            (body.at + length body.bytes.items ≤ 2 ^ 32) × IsShort body.bytes.items) }
         ensures fault { IfErr result (IsFault (λ _. ⊥) (D.faults disk.old) (D.faults disk.new)) }
-        ensures kept { (bodies : List (List ℕ))
-            → IsKept D.gives D.shown D.tells_images D.may_leave bodies self.old disk.old
-            → IsKept D.gives D.shown D.tells_images D.may_leave bodies self.new disk.new }
+        ensures kept { (bodies : List (List ℕ)) → IsKept D.Disk bodies self.old disk.old
+            → IsKept D.Disk bodies self.new disk.new }
         // For a caller to whom the bodies don't matter.
-        ensures goes_on { (bodies : List (List ℕ))
-            × IsKept D.gives D.shown D.tells_images D.may_leave bodies self.new disk.new }
+        ensures goes_on { (bodies : List (List ℕ)) × IsKept D.Disk bodies self.new disk.new }
         ensures doubt { (self.new.doubt ≡ self.old.doubt)
             × (doubt_of self.new ≡ doubt_of self.old) }
         ensures same { (self.new.count ≡ self.old.count) × (self.new.length ≡ self.old.length)
             × (self.new.limit ≡ self.old.limit) }
-        ensures quiet { IsQuiet D.room D.gives D.tells_images D.may_leave D.moment D.left_since
-            disk.old disk.new }
+        ensures quiet { IsQuiet D.Disk disk.old disk.new }
         ensures in_room { IsRoomy (D.room disk.old) 0 → result ≢ Err JournalFault.Store }
         ensures faults { D.faults disk.old ≤ D.faults disk.new }
+        ensures still { OnOk result (D.faults disk.new ≡ D.faults disk.old) }
     {
         let end = self.length - 1;
         back(&mut self.reader, n);

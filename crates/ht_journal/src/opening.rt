@@ -1,9 +1,10 @@
-ghost use Rattle.std.specs.Prelude.{◌≡◌, ◌≢◌, ◌+◌, ◌^◌, ◌<◌, ◌≤◌, ◌⊎◌, ◌++◌, ℕ, List, [], length, take, drop, bytes_eq, min, vec_len, Ok, Err, None, IfOk, IfErr, IfSome, IsOk, IsTrue, OnOk};
+ghost use Rattle.std.specs.Prelude.{◌≡◌, ◌≢◌, ◌+◌, ◌^◌, ◌<◌, ◌≤◌, ◌⊎◌, ◌++◌, ℕ, List, [], length, take, drop, bytes_eq, min, vec_len, Ok, Err, None, IfOk, IfErr, IfSome, IsOk, IsTrue, OnErr, OnOk};
 ghost use Rattle.ht_outside.specs.Causes.{HasCause};
-ghost use Rattle.ht_outside.specs.Disks.{Both, LeavesOnly, Only};
+ghost use Rattle.ht_outside.specs.Disks.{Both, Only};
+ghost use Rattle.ht_outside.specs.Moments.{LeavesOnly};
 ghost use Rattle.ht_journal.specs.Files.{Fit, Rests, bodies_from, contents, front, header};
-ghost use Rattle.ht_journal.specs.Keeping.{IsKept};
 ghost use Rattle.ht_journal.specs.Opening.{StandsAt};
+ghost use Rattle.ht_journal.specs.Openings.{IsBegun, IsOpened, IsRefused, IsTornBeginning, Opens};
 ghost use Rattle.ht_journal.specs.Pieces.{IsPiece};
 ghost use Rattle.ht_journal.specs.Quiet.{IsQuiet};
 ghost use Rattle.ht_journal.specs.Reasons.{IsFault};
@@ -45,11 +46,11 @@ fn frame_at<D: Disk>(
         (D.faults disk.old) (D.faults disk.new)) }
     ensures piece { IfSome (D.gives disk.old) (IsPiece reader.new) }
     ensures gate { (reader.new.gate ≡ reader.old.gate) × (reader.new.passed ≡ reader.old.passed) }
-    ensures quiet { IsQuiet D.room D.gives D.tells_images D.may_leave D.moment D.left_since disk.old
-        disk.new }
+    ensures quiet { IsQuiet D.Disk disk.old disk.new }
     ensures shown { D.shown disk.new ≡ D.shown disk.old }
     ensures in_room { IsRoomy (D.room disk.old) 0 → result ≢ Err JournalFault.Store }
     ensures faults { D.faults disk.old ≤ D.faults disk.new }
+    ensures still { OnOk result (D.faults disk.new ≡ D.faults disk.old) }
 {
     let mut byte = [0];
     reader.read(disk, gate, &mut byte)?;
@@ -85,11 +86,11 @@ fn scan<D: Disk>(reader: &mut Reader, disk: &mut D, end: u64) -> Result<(u64, u3
         (λ at. IfSome (D.gives disk.old) (λ file. contents file ≡ Err at)) (D.faults disk.old)
         (D.faults disk.new)) }
     ensures gate { (reader.new.gate ≡ reader.old.gate) × (reader.new.passed ≡ reader.old.passed) }
-    ensures quiet { IsQuiet D.room D.gives D.tells_images D.may_leave D.moment D.left_since disk.old
-        disk.new }
+    ensures quiet { IsQuiet D.Disk disk.old disk.new }
     ensures shown { D.shown disk.new ≡ D.shown disk.old }
     ensures in_room { IsRoomy (D.room disk.old) 0 → result ≢ Err JournalFault.Store }
     ensures faults { D.faults disk.old ≤ D.faults disk.new }
+    ensures still { OnOk result (D.faults disk.new ≡ D.faults disk.old) }
 {
     let mut gate = FIRST_GATE;
     let mut count: u32 = 0;
@@ -108,17 +109,20 @@ fn begin<D: Disk>(disk: &mut D) -> Result<(), Failed>
     requires images { IsTrue (D.tells_images disk.old) → (image : List ℕ)
         → D.may_leave disk.old image → length image ≤ 9 }
     ensures file { OnOk result (IfSome (D.gives disk.new) (Rests [])) }
+    ensures written { OnOk result (Both IsBegun (D.gives disk.old) (D.gives disk.new)) }
+    ensures torn { OnErr result (Both IsTornBeginning (D.gives disk.old) (D.gives disk.new)) }
     ensures same { Both (λ file now. contents now ≡ contents file) (D.gives disk.old)
         (D.gives disk.new) }
     ensures durable { OnOk result (IsTrue (D.tells_images disk.old)
         → IfSome (D.gives disk.new) (λ file. Only file (D.may_leave disk.new))) }
     ensures shown { OnOk result (9 ≤ D.shown disk.new) }
     ensures any_moment { IsTrue (D.tells_images disk.old)
-        → LeavesOnly D.moment D.left_since disk.old disk.new (λ image. contents image ≡ Ok []) }
+        → LeavesOnly D.Disk disk.old disk.new (λ image. contents image ≡ Ok []) }
     ensures tells { D.tells_images disk.new ≡ D.tells_images disk.old }
     ensures room { D.room disk.new ≡ D.room disk.old }
     ensures in_room { IsRoomy (D.room disk.old) 9 → IsOk result }
     ensures cause { HasCause (D.faults disk.old) (D.faults disk.new) result }
+    ensures still { OnOk result (D.faults disk.new ≡ D.faults disk.old) }
 {
     stored(disk, 0, &BEGINNING)
 }
@@ -131,11 +135,11 @@ fn is_headed<D: Disk>(reader: &mut Reader, disk: &mut D) -> Result<bool, Failed>
         (λ is. IfSome (D.gives disk.old) (λ file. is ≡ bytes_eq (take 8 file) header)) }
     ensures piece { IfSome (D.gives disk.old) (IsPiece reader.new) }
     ensures gate { (reader.new.gate ≡ reader.old.gate) × (reader.new.passed ≡ reader.old.passed) }
-    ensures quiet { IsQuiet D.room D.gives D.tells_images D.may_leave D.moment D.left_since disk.old
-        disk.new }
+    ensures quiet { IsQuiet D.Disk disk.old disk.new }
     ensures shown { D.shown disk.new ≡ D.shown disk.old }
     ensures in_room { IsRoomy (D.room disk.old) 0 → IsOk result }
     ensures cause { HasCause (D.faults disk.old) (D.faults disk.new) result }
+    ensures still { OnOk result (D.faults disk.new ≡ D.faults disk.old) }
 {
     let mut bytes = [0; 8];
     reader.read(disk, 0, &mut bytes)?;
@@ -152,12 +156,11 @@ fn find<D: Disk>(reader: &mut Reader, disk: &mut D) -> Result<(u64, u32), Journa
         × (IsTrue (D.tells_images disk.new) → (image : List ℕ) → D.may_leave disk.new image
         → Rests bodies image)
         × IfSome (D.gives disk.old) (λ file. contents file ≡ Ok bodies)) }
-    ensures fault { IfErr result (IsFault
-        (λ at. IfSome (D.gives disk.old) (λ file. contents file ≡ Err at)) (D.faults disk.old)
-        (D.faults disk.new)) }
+    ensures refused { IfErr result (IsRefused D.Disk disk.old disk.new) }
+    ensures written { OnOk result (Both IsOpened (D.gives disk.old) (D.gives disk.new)) }
     ensures gate { (reader.new.gate ≡ reader.old.gate) × (reader.new.passed ≡ reader.old.passed) }
     ensures any_moment { IsTrue (D.tells_images disk.old)
-        → LeavesOnly D.moment D.left_since disk.old disk.new (λ image.
+        → LeavesOnly D.Disk disk.old disk.new (λ image.
         D.may_leave disk.old image
         ⊎ IfSome (D.gives disk.old) (λ file. contents image ≡ contents file)) }
     ensures same { Both (λ file now. contents now ≡ contents file) (D.gives disk.old)
@@ -165,6 +168,7 @@ fn find<D: Disk>(reader: &mut Reader, disk: &mut D) -> Result<(u64, u32), Journa
     ensures room { D.room disk.new ≡ D.room disk.old }
     ensures in_room { IsRoomy (D.room disk.old) 9 → result ≢ Err JournalFault.Store }
     ensures faults { D.faults disk.old ≤ D.faults disk.new }
+    ensures still { OnOk result (D.faults disk.new ≡ D.faults disk.old) }
     ensures tells { D.tells_images disk.new ≡ D.tells_images disk.old }
 {
     let length = synced_len(disk)?;
@@ -184,29 +188,7 @@ fn find<D: Disk>(reader: &mut Reader, disk: &mut D) -> Result<(u64, u32), Journa
 /// settling need.
 pub fn open<D: Disk>(alloc: Global, disk: &mut D, limit: u64) -> Result<JournalState, JournalFault>
     requires { limit ≤ 2 ^ 32 }
-    // It finds the bodies of the file, and nothing is in doubt.
-    ensures found { IfOk result (λ state.
-        (bodies : List (List ℕ))
-        × IsKept D.gives D.shown D.tells_images D.may_leave bodies state disk.new
-        × IfSome (D.gives disk.old) (λ file. contents file ≡ Ok bodies)) }
-    ensures fresh { IfOk result (λ state. (state.doubt ≡ None) × (state.limit ≡ limit)) }
-    // Damaged comes exactly where the file is damaged there, and Store where the count of faults rose.
-    ensures fault { IfErr result (IsFault
-        (λ at. IfSome (D.gives disk.old) (λ file. contents file ≡ Err at)) (D.faults disk.old)
-        (D.faults disk.new)) }
-    // At every moment since it began, an image is one from before, or has the bodies that the file had.
-    ensures any_moment { IsTrue (D.tells_images disk.old)
-        → LeavesOnly D.moment D.left_since disk.old disk.new (λ image.
-        D.may_leave disk.old image
-        ⊎ IfSome (D.gives disk.old) (λ file. contents image ≡ contents file)) }
-    // The file has the same bodies afterwards, or is damaged in the same place, also where it is
-    // refused.
-    ensures same { Both (λ file now. contents now ≡ contents file) (D.gives disk.old)
-        (D.gives disk.new) }
-    ensures room { D.room disk.new ≡ D.room disk.old }
-    ensures in_room { IsRoomy (D.room disk.old) 9 → result ≢ Err JournalFault.Store }
-    ensures faults { D.faults disk.old ≤ D.faults disk.new }
-    ensures tells { D.tells_images disk.new ≡ D.tells_images disk.old }
+    ensures { Opens D.Disk limit disk.old disk.new result }
 {
     let buffer = zeros(alloc, LONGEST_BODY as usize + 5)?;
     let mut reader = Reader::new(alloc)?;

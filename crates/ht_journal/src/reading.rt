@@ -41,11 +41,11 @@ impl Reader {
             ((self.new.from ≡ at) × (min (D.shown disk.old) (at + 65536) ≤ at + self.new.held)) }
         ensures piece { IfSome (D.gives disk.old) (IsPiece self.new) }
         ensures gate { (self.new.gate ≡ self.old.gate) × (self.new.passed ≡ self.old.passed) }
-        ensures quiet { IsQuiet D.room D.gives D.tells_images D.may_leave D.moment D.left_since
-            disk.old disk.new }
+        ensures quiet { IsQuiet D.Disk disk.old disk.new }
         ensures shown { D.shown disk.new ≡ D.shown disk.old }
         ensures in_room { IsRoomy (D.room disk.old) 0 → IsOk result }
         ensures cause { HasCause (D.faults disk.old) (D.faults disk.new) result }
+        ensures still { OnOk result (D.faults disk.new ≡ D.faults disk.old) }
     {
         self.held = 0;
         let held = disk.read(at, &mut self.bytes)?;
@@ -62,11 +62,11 @@ impl Reader {
             ((self.new.from ≤ at) × (at + len ≤ self.new.from + self.new.held)) }
         ensures piece { IfSome (D.gives disk.old) (IsPiece self.new) }
         ensures gate { (self.new.gate ≡ self.old.gate) × (self.new.passed ≡ self.old.passed) }
-        ensures quiet { IsQuiet D.room D.gives D.tells_images D.may_leave D.moment D.left_since
-            disk.old disk.new }
+        ensures quiet { IsQuiet D.Disk disk.old disk.new }
         ensures shown { D.shown disk.new ≡ D.shown disk.old }
         ensures in_room { IsRoomy (D.room disk.old) 0 → IsOk result }
         ensures cause { HasCause (D.faults disk.old) (D.faults disk.new) result }
+        ensures still { OnOk result (D.faults disk.new ≡ D.faults disk.old) }
     {
         if at < self.from || at - self.from + len as u64 > self.held as u64 {
             return self.fill(disk, at);
@@ -89,11 +89,11 @@ impl Reader {
         ensures small { (i : ℕ) → slice_index into.new i < 256 }
         ensures piece { IfSome (D.gives disk.old) (IsPiece self.new) }
         ensures gate { (self.new.gate ≡ self.old.gate) × (self.new.passed ≡ self.old.passed) }
-        ensures quiet { IsQuiet D.room D.gives D.tells_images D.may_leave D.moment D.left_since
-            disk.old disk.new }
+        ensures quiet { IsQuiet D.Disk disk.old disk.new }
         ensures shown { D.shown disk.new ≡ D.shown disk.old }
         ensures in_room { IsRoomy (D.room disk.old) 0 → IsOk result }
         ensures cause { HasCause (D.faults disk.old) (D.faults disk.new) result }
+        ensures still { OnOk result (D.faults disk.new ≡ D.faults disk.old) }
     {
         if into.len() > PIECE {
             return read_whole(disk, at, into);

@@ -25,11 +25,11 @@ pub(crate) fn frame_behind<D: Disk>(
         (λ r. IfSome (D.gives disk.old) (IsBehind reader.old.gate end r.0 r.1)) }
     ensures piece { IfSome (D.gives disk.old) (IsPiece reader.new) }
     ensures gate { (reader.new.gate ≡ reader.old.gate) × (reader.new.passed ≡ reader.old.passed) }
-    ensures quiet { IsQuiet D.room D.gives D.tells_images D.may_leave D.moment D.left_since disk.old
-        disk.new }
+    ensures quiet { IsQuiet D.Disk disk.old disk.new }
     ensures shown { D.shown disk.new ≡ D.shown disk.old }
     ensures in_room { IsRoomy (D.room disk.old) 0 → IsOk result }
     ensures cause { HasCause (D.faults disk.old) (D.faults disk.new) result }
+    ensures still { OnOk result (D.faults disk.new ≡ D.faults disk.old) }
 {
     let gate = reader.gate;
     if end - gate < 5 {
@@ -77,11 +77,11 @@ pub(crate) fn pass<D: Disk>(
         → IfSome (D.gives disk.old) (IsRead bodies reader.old)
         → IfSome (D.gives disk.old) (IsRead bodies reader.new) }
     ensures piece { IfSome (D.gives disk.old) (IsPiece reader.new) }
-    ensures quiet { IsQuiet D.room D.gives D.tells_images D.may_leave D.moment D.left_since disk.old
-        disk.new }
+    ensures quiet { IsQuiet D.Disk disk.old disk.new }
     ensures shown { D.shown disk.new ≡ D.shown disk.old }
     ensures in_room { IsRoomy (D.room disk.old) 0 → IsOk result }
     ensures cause { HasCause (D.faults disk.old) (D.faults disk.new) result }
+    ensures still { OnOk result (D.faults disk.new ≡ D.faults disk.old) }
 {
     'gates: while reader.passed < wanted {
         let (at, n) = frame_behind(reader, disk, end)?;

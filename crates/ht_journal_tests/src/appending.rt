@@ -41,9 +41,9 @@ fn added<D: Disk>(
     body: &[u8],
 ) -> Option<Result<(), AppendRefusal>>
     requires { (bodies : List (List ℕ))
-        × IsKept D.gives D.shown D.tells_images D.may_leave bodies journal.old disk.old }
+        × IsKept D.Disk bodies journal.old disk.old }
     ensures { (bodies : List (List ℕ))
-        × IsKept D.gives D.shown D.tells_images D.may_leave bodies journal.new disk.new }
+        × IsKept D.Disk bodies journal.new disk.new }
 {
     if journal.doubtful() {
         return None;
@@ -117,6 +117,25 @@ fn a_journal_has_a_limit(rt: HostRuntime) -> Result<(), Fail> {
         }
         assert_eq!(rt; found(alloc, &mut disk)?.len(), size);
     }
+    Ok(())
+}
+
+// The bytes of a disk's file, of which there are at most 64.
+pub(crate) fn bytes_of<D: Disk>(alloc: Global, disk: &mut D) -> Result<Vec<u8>, Fail> {
+    let mut into = [0; 64];
+    let given = disk.read(0, &mut into)?;
+    Ok(Vec::from_slice(alloc, &into[..given])?)
+}
+
+#[test]
+fn each_byte_of_a_file(rt: HostRuntime) -> Result<(), Fail> {
+    let alloc = rt.alloc();
+    let mut disk = disk(alloc, b"HTJ1\r", &[])?;
+    let added = append_two(alloc, &mut disk, LIMIT, [b"one", b""])?;
+    assert_eq!(rt; added, [Some(Ok(())), Some(Ok(()))]);
+    let bytes = bytes_of(alloc, &mut disk)?;
+    let want = b"HTJ1\r\n\x1a\n\x01\x03\0\0\0one\x01\0\0\0\0\0";
+    assert_eq!(rt; bytes.as_slice(), want.as_slice());
     Ok(())
 }
 

@@ -1,4 +1,4 @@
-use crate::appending::disk;
+use crate::appending::{bytes_of, disk};
 use ht_journal::{Body, JournalFault, open};
 use ht_outside::Disk;
 use std::alloc::{AllocError, Global};
@@ -53,6 +53,62 @@ fn bodies_are_read_in_any_order(rt: HostRuntime) -> Result<(), Fail> {
         let bytes = body.bytes.as_slice();
         assert_eq!(rt; body.at.wrapping_add(12), 25 * u64::from(*n));
         assert!(rt; bytes.len() == 20 && bytes.starts_with(&n.wrapping_sub(1).to_le_bytes()));
+    }
+    Ok(())
+}
+
+// A file, the calls of the disk that fail, the fault, and the file afterwards. Of a file that is begun,
+// call 3 writes and call 4 syncs.
+const REFUSED: [(&[u8], &[u32], JournalFault, &[u8]); 8] = [
+    (
+        b"HTJ2\r\n\x1a\n\0\0",
+        &[],
+        JournalFault::Damaged(0),
+        b"HTJ2\r\n\x1a\n\0\0",
+    ),
+    (
+        b"a foreign text",
+        &[],
+        JournalFault::Damaged(0),
+        b"a foreign text",
+    ),
+    (
+        b"HTJ1\r\n\x1a\n\x01\x02\0\0\0ab",
+        &[],
+        JournalFault::Damaged(8),
+        b"HTJ1\r\n\x1a\n\x01\x02\0\0\0ab",
+    ),
+    (
+        b"a foreign text",
+        &[1],
+        JournalFault::Store,
+        b"a foreign text",
+    ),
+    (
+        b"a foreign text",
+        &[2],
+        JournalFault::Store,
+        b"a foreign text",
+    ),
+    (
+        b"a foreign text",
+        &[3],
+        JournalFault::Store,
+        b"a foreign text",
+    ),
+    (b"short", &[3], JournalFault::Store, b"short"),
+    (b"short", &[4], JournalFault::Store, b"HTJ1\r\n\x1a\n\0"),
+];
+
+#[test]
+fn a_refused_opening_leaves_the_file(rt: HostRuntime) -> Result<(), Fail> {
+    let alloc = rt.alloc();
+    for (bytes, failing, want, left) in REFUSED {
+        let mut disk = disk(alloc, bytes, failing)?;
+        let fault = open(alloc, &mut disk, 1_000).err();
+        assert_eq!(rt; fault, Some(want), "{bytes:?} {failing:?}");
+        let now = bytes_of(alloc, &mut disk)?;
+        assert_eq!(rt; now.as_slice(), left, "{bytes:?} {failing:?}");
     }
     Ok(())
 }

@@ -1,16 +1,16 @@
 -- What a crash may leave of a disk in memory, call by call.
-use Rattle.std.proofs.Common.{◌≡◌, ◌⊎◌, ⊎_elim, inl, inr, ℕ, ◌+◌, ◌<◌, ◌≤◌, ◌&&◌, List, [], ◌∷◌, ◌++◌, length, take, drop, get_or, map, max, min, refl, sym, ap, ◌∙◌, subst, arith, Ok, Err, Result}
-use Rattle.std.specs.Prelude.{OnOk, ⊤, nat_le, nat_lt, if◌then◌else◌}
+use Rattle.std.proofs.Common.{◌≡◌, ◌⊎◌, ⊎_elim, inl, inr, ℕ, ◌+◌, ◌<◌, ◌≤◌, ◌&&◌, true, List, [], ◌∷◌, ◌++◌, length, take, drop, get_or, map, max, min, refl, sym, ap, ◌∙◌, subst, arith, Ok, Err, Result}
+use Rattle.std.specs.Prelude.{OnErr, OnOk, ⊤, nat_le, nat_lt, if◌then◌else◌}
 use Rattle.std.specs.List.{range_with_len}
 use Rattle.std.proofs.lemmas.List.{ext_get_or, get_or-drop, get_or-take, length-drop, length-take}
 use Rattle.std.proofs.lemmas.List.FromFn.{get_or-map-range_with_len, length-map-range_with_len}
 use Rattle.std.proofs.lemmas.Bool.{cases_lt}
 use Rattle.std.proofs.lemmas.Bool.Decides.{nat_tests}
-use Rattle.ht_outside.specs.Disks.{Follows, Holds, Only, Torn, written}
+use Rattle.ht_outside.specs.Disks.{Follows, Holds, KeepsEachImage, MakesEachImage, Only, Torn, written}
 use Rattle.ht_outside.specs.Patches.{PatchOf}
 use Rattle.ht_outside.specs.CrashModel.{IsImage, IsUntouched, Unsynced, present}
 use Rattle.ht_outside.specs.DiskHistory.{after_call, after_calls, stand}
-use Rattle.ht_outside.specs.ImageLaws.{patched-push, present_is_image}
+use Rattle.ht_outside.specs.ImageLaws.{image_after, patched-push, present_is_image}
 use Rattle.ht_outside.specs.TornWrites.{laid_over_torn}
 use Rattle.ht_outside.specs.MemoryDisks.{ScriptedDisk, stands, given_by, IsWriteOf, IsSyncOf}
 use Rattle.ht_outside.specs.declared.disk_call.DiskCall.{DiskCall}
@@ -115,6 +115,9 @@ module _ (bytes : List ℕ) (calls after : List DiskCall) (at : ℕ) (piece : Li
   pub images_written : Follows (Torn at (length piece)) (IsImage (stand bytes calls)) (IsImage (stand bytes after))
   images_written image left = image_before (stand bytes calls) (record { at = at; piece = piece }) image (subst (λ (disk : Unsynced). IsImage disk image) stand_written left)
 
+  pub images_made : (before image : List ℕ) → IsImage (stand bytes calls) before → Torn at (length piece) before image → IsImage (stand bytes after) image
+  images_made before image was torn = subst (λ (disk : Unsynced). IsImage disk image) (sym stand_written) (image_after (stand bytes calls) (record { at = at; piece = piece }) before image was torn)
+
 -- after a sync there is one image
 only_image : (synced image : List ℕ) → IsImage (record { synced = synced; patches = [] }) image → image ≡ synced
 only_image synced image is = ext_get_or 0 image synced (let a = is.no_shorter in let b = is.no_longer in omega arith) (λ place within. is.others place (omega (arith, is.no_longer)) tt)
@@ -142,6 +145,14 @@ module _ {E : Type 0} (old new : ScriptedDisk) (at : ℕ) (piece : List ℕ) whe
   write_follows (Ok u) done image left = images_written old.bytes old.calls _ at piece refl image (subst (λ (disk : ScriptedDisk). IsImage (stands disk) image) done left)
   write_follows (Err e) done image left = (image, subst (λ (disk : ScriptedDisk). IsImage (stands disk) image) done left, still_torn at (length piece) image)
 
+  pub write_makes : (r : Result ⊤ E) → IsWriteOf old new at piece r → OnOk r (MakesEachImage (Torn at (length piece)) true (IsImage (stands old)) (IsImage (stands new)))
+  write_makes (Ok u) done = λ tells before image was torn small. subst (λ (disk : ScriptedDisk). IsImage (stands disk) image) (sym done) (images_made old.bytes old.calls _ at piece refl before image was torn)
+  write_makes (Err e) done = tt
+
+  pub write_keeps : (r : Result ⊤ E) → IsWriteOf old new at piece r → KeepsEachImage true (IsImage (stands old)) (IsImage (stands new))
+  write_keeps (Ok u) done tells image was = subst (λ (disk : ScriptedDisk). IsImage (stands disk) image) (sym done) (images_made old.bytes old.calls _ at piece refl image image was (still_torn at (length piece) image))
+  write_keeps (Err e) done tells image was = subst (λ (disk : ScriptedDisk). IsImage (stands disk) image) (sym done) was
+
 module _ {E : Type 0} (old new : ScriptedDisk) where
   pub sync_only : (r : Result ⊤ E) → IsSyncOf old new r → OnOk r (Only (given_by old) (IsImage (stands new)))
   sync_only (Ok u) done = λ image left. only_synced old.bytes old.calls _ refl image (subst (λ (disk : ScriptedDisk). IsImage (stands disk) image) done left)
@@ -154,3 +165,7 @@ module _ {E : Type 0} (old new : ScriptedDisk) where
   pub sync_leaves : (r : Result ⊤ E) → IsSyncOf old new r → (image : List ℕ) → IsImage (stands new) image → IsImage (stands old) image
   sync_leaves (Ok u) done image left = images_synced old.bytes old.calls _ refl image (subst (λ (disk : ScriptedDisk). IsImage (stands disk) image) done left)
   sync_leaves (Err e) done image left = subst (λ (disk : ScriptedDisk). IsImage (stands disk) image) done left
+
+  pub failed_keeps : (r : Result ⊤ E) → IsSyncOf old new r → OnErr r (KeepsEachImage true (IsImage (stands old)) (IsImage (stands new)))
+  failed_keeps (Ok u) done = tt
+  failed_keeps (Err e) done = λ tells image was. subst (λ (disk : ScriptedDisk). IsImage (stands disk) image) (sym done) was

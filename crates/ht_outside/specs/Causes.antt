@@ -18,3 +18,8 @@ pub record RoseWhere (Failed : Type 0) (before now : ℕ) : Type 0 where
 pub record HasCause {T E : Type 0} (before now : ℕ) (result : Result T E) : Type 0 where
   pub later : before ≤ now
   pub failed : OnErr result (Rose before now)
+
+-- The faults of two objects together: their sum, which stops where one count does. So it rose where one of the two counts
+-- rose, and stands where it stops where one of them does
+abbrev pub together : ℕ → ℕ → ℕ
+together first second = min (first + second) (2 ^ 64 - 1)

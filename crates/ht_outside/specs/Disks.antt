@@ -1,5 +1,5 @@
 -- What the calls of a disk do to its file, and what a crash may leave between two syncs.
-use Rattle.std.specs.Prelude.{◌≡◌, ◌⊎◌, ℕ, ◌+◌, ◌-◌, ◌≤◌, min, max, List, ◌++◌, length, take, drop, replicate, Option, Some, None, ⊤}
+use Rattle.std.specs.Prelude.{◌≡◌, ◌⊎◌, ℕ, ◌+◌, ◌-◌, ◌<◌, ◌≤◌, min, max, Bool, IsTrue, List, ◌++◌, length, take, drop, replicate, slice_index, Option, Some, None, ⊤}
 
 -- the file with a filler behind it, as far as this place
 abbrev pub padded : ℕ → ℕ → List ℕ → List ℕ
@@ -36,6 +36,22 @@ Both step (Some old) (Some new) = step old new
 abbrev pub Follows : (List ℕ → List ℕ → Type 0) → (List ℕ → Type 0) → (List ℕ → Type 0) → Type 0
 Follows step old new = (image : List ℕ) → new image → (before : List ℕ) × old before × step before image
 
+-- these are bytes
+abbrev pub AreBytes : List ℕ → Type 0
+AreBytes file = (k : ℕ) → slice_index file k < 256
+
+-- where images are told, a crash leaves nothing that it might not have left before
+abbrev pub AddsNoImage : Bool → (List ℕ → Type 0) → (List ℕ → Type 0) → Type 0
+AddsNoImage tells old new = IsTrue tells → (image : List ℕ) → new image → old image
+
+-- where images are told, a crash may still leave each file that it might have left before
+abbrev pub KeepsEachImage : Bool → (List ℕ → Type 0) → (List ℕ → Type 0) → Type 0
+KeepsEachImage tells old new = IsTrue tells → (image : List ℕ) → old image → new image
+
+-- where images are told, a crash may leave each file of bytes that a step makes of one that it might have left before
+abbrev pub MakesEachImage : (List ℕ → List ℕ → Type 0) → Bool → (List ℕ → Type 0) → (List ℕ → Type 0) → Type 0
+MakesEachImage step tells old new = IsTrue tells → (before image : List ℕ) → old before → step before image → AreBytes image → new image
+
 -- a crash leaves this and nothing else
 abbrev pub Only : List ℕ → (List ℕ → Type 0) → Type 0
 Only file may_leave = (image : List ℕ) → may_leave image → image ≡ file
@@ -45,10 +61,3 @@ pub record Elapses (before now : ℕ) (past since : ℕ → List ℕ → Type 0)
   pub later : before ≤ now
   pub nothing_else : (t : ℕ) (image : List ℕ) → t ≤ before → since t image → past t image ⊎ may_leave image
   pub keeps : (t : ℕ) (image : List ℕ) → t ≤ before → past t image → since t image
-
--- a crash at any moment since the old state leaves a file that has P
-pub record LeavesOnly {D : Type 0} (moment : D → ℕ) (left_since : D → ℕ → List ℕ → Type 0) (old new : D) (P : List ℕ → Type 0) : Type 0 where
-  pub later : moment old ≤ moment new
-  pub each : (image : List ℕ) → left_since new (moment old) image → P image
-  -- for a run that began earlier
-  pub before : (t : ℕ) (image : List ℕ) → t ≤ moment old → left_since new t image → left_since old t image ⊎ P image

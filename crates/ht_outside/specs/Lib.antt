@@ -6,6 +6,7 @@ pub mod Disks
 pub mod Examples
 pub mod ImageLaws
 pub mod MemoryDisks
+pub mod Moments
 pub mod Patches
 pub mod Replays
 pub mod Rooms

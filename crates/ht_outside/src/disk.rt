@@ -1,6 +1,6 @@
 ghost use Rattle.std.specs.Prelude.{◌≡◌, ◌+◌, ◌<◌, ◌≤◌, ℕ, Bool, List, Option, min, max, length, take, drop, slice_index, Some, IfOk, IfSome, IsOk, IsTrue, OnErr, OnOk};
 ghost use Rattle.ht_outside.specs.Causes.{HasCause};
-ghost use Rattle.ht_outside.specs.Disks.{Both, Elapses, Follows, Holds, Only, Torn};
+ghost use Rattle.ht_outside.specs.Disks.{AddsNoImage, Both, Elapses, Follows, Holds, KeepsEachImage, MakesEachImage, Only, Torn};
 
 use crate::Failed;
 
@@ -9,6 +9,8 @@ use crate::Failed;
 /// The crash model. Between two syncs each written range and the part past the old end may hold
 /// any bytes. Other bytes stay. A crash may leave the file's end anywhere from the old end to the
 /// present one. After a sync that succeeds a crash leaves what a read gives.
+///
+/// A disk that tells its images tells all of the model and no others.
 ///
 /// No call makes a disk begin or cease to tell its file, its images or its room. A call that
 /// fails, other than a write, changes nothing that a read gives.
@@ -36,7 +38,8 @@ pub trait Disk {
     /// What a crash at some moment from that one on might have left.
     ghost left_since: { Self → ℕ → List ℕ → Type 0 };
 
-    /// How many calls failed. The count stops at 18446744073709551615.
+    /// How many calls failed. The count stops at 18446744073709551615, and only a call that fails
+    /// raises it.
     ghost faults: { Self → ℕ };
 
     /// Goes over to the file of this name, and keeps what it holds. The shown length is 0 then.
@@ -44,14 +47,17 @@ pub trait Disk {
         ensures shown { shown self.new ≡ 0 }
         ensures file { gives self.new ≡ gives self.old }
         ensures tells { tells_images self.new ≡ tells_images self.old }
-        ensures crash { IsTrue (tells_images self.old) → (image : List ℕ) → may_leave self.new image
-            → may_leave self.old image }
+        ensures crash { AddsNoImage (tells_images self.old) (may_leave self.old)
+            (may_leave self.new) }
+        ensures each { KeepsEachImage (tells_images self.old) (may_leave self.old)
+            (may_leave self.new) }
         ensures time { IsTrue (tells_images self.old)
             → Elapses (moment self.old) (moment self.new) (left_since self.old)
             (left_since self.new) (may_leave self.new) }
         ensures same_room { room self.new ≡ room self.old }
         ensures in_room { IfSome (room self.old) (λ _. IsOk result) }
-        ensures cause { HasCause (faults self.old) (faults self.new) result };
+        ensures cause { HasCause (faults self.old) (faults self.new) result }
+        ensures still { OnOk result (faults self.new ≡ faults self.old) };
 
     /// The length of the file in bytes, which is shown from then on.
     fn len(&mut self) -> Result<u64, Failed>
@@ -60,14 +66,17 @@ pub trait Disk {
         ensures shown { OnErr result (shown self.new ≡ shown self.old) }
         ensures file { gives self.new ≡ gives self.old }
         ensures tells { tells_images self.new ≡ tells_images self.old }
-        ensures crash { IsTrue (tells_images self.old) → (image : List ℕ) → may_leave self.new image
-            → may_leave self.old image }
+        ensures crash { AddsNoImage (tells_images self.old) (may_leave self.old)
+            (may_leave self.new) }
+        ensures each { KeepsEachImage (tells_images self.old) (may_leave self.old)
+            (may_leave self.new) }
         ensures time { IsTrue (tells_images self.old)
             → Elapses (moment self.old) (moment self.new) (left_since self.old)
             (left_since self.new) (may_leave self.new) }
         ensures same_room { room self.new ≡ room self.old }
         ensures in_room { IfSome (room self.old) (λ _. IsOk result) }
-        ensures cause { HasCause (faults self.old) (faults self.new) result };
+        ensures cause { HasCause (faults self.old) (faults self.new) result }
+        ensures still { OnOk result (faults self.new ≡ faults self.old) };
 
     /// Gives the bytes from `at` on, and answers how many. These are at least those up to the
     /// shown length, as far as `into` takes them: where the file has fewer, the read fails.
@@ -79,14 +88,17 @@ pub trait Disk {
         ensures shown { shown self.new ≡ shown self.old }
         ensures file { gives self.new ≡ gives self.old }
         ensures tells { tells_images self.new ≡ tells_images self.old }
-        ensures crash { IsTrue (tells_images self.old) → (image : List ℕ) → may_leave self.new image
-            → may_leave self.old image }
+        ensures crash { AddsNoImage (tells_images self.old) (may_leave self.old)
+            (may_leave self.new) }
+        ensures each { KeepsEachImage (tells_images self.old) (may_leave self.old)
+            (may_leave self.new) }
         ensures time { IsTrue (tells_images self.old)
             → Elapses (moment self.old) (moment self.new) (left_since self.old)
             (left_since self.new) (may_leave self.new) }
         ensures same_room { room self.new ≡ room self.old }
         ensures in_room { IfSome (room self.old) (λ _. IsOk result) }
-        ensures cause { HasCause (faults self.old) (faults self.new) result };
+        ensures cause { HasCause (faults self.old) (faults self.new) result }
+        ensures still { OnOk result (faults self.new ≡ faults self.old) };
 
     /// Writes the piece over what is there from `at` on, and past the end. Where `at` is past the
     /// end, zeros come between. A write that fails may have changed bytes of its own range and
@@ -102,13 +114,18 @@ pub trait Disk {
         ensures tells { tells_images self.new ≡ tells_images self.old }
         ensures crash { IsTrue (tells_images self.old)
             → Follows (Torn at (length piece.now)) (may_leave self.old) (may_leave self.new) }
+        ensures each { KeepsEachImage (tells_images self.old) (may_leave self.old)
+            (may_leave self.new) }
+        ensures makes { OnOk result (MakesEachImage (Torn at (length piece.now))
+            (tells_images self.old) (may_leave self.old) (may_leave self.new)) }
         ensures time { IsTrue (tells_images self.old)
             → Elapses (moment self.old) (moment self.new) (left_since self.old)
             (left_since self.new) (may_leave self.new) }
         ensures same_room { room self.new ≡ room self.old }
         ensures in_room { OnErr result
             (IfSome (room self.old) (λ most. most < at + length piece.now)) }
-        ensures cause { HasCause (faults self.old) (faults self.new) result };
+        ensures cause { HasCause (faults self.old) (faults self.new) result }
+        ensures still { OnOk result (faults self.new ≡ faults self.old) };
 
     /// After it, a crash leaves what a read gives.
     fn sync(&mut self) -> Result<(), Failed>
@@ -117,14 +134,17 @@ pub trait Disk {
         ensures shown { shown self.new ≡ shown self.old }
         ensures file { gives self.new ≡ gives self.old }
         ensures tells { tells_images self.new ≡ tells_images self.old }
-        ensures crash { IsTrue (tells_images self.old) → (image : List ℕ) → may_leave self.new image
-            → may_leave self.old image }
+        ensures crash { AddsNoImage (tells_images self.old) (may_leave self.old)
+            (may_leave self.new) }
+        ensures each { OnErr result (KeepsEachImage (tells_images self.old) (may_leave self.old)
+            (may_leave self.new)) }
         ensures time { IsTrue (tells_images self.old)
             → Elapses (moment self.old) (moment self.new) (left_since self.old)
             (left_since self.new) (may_leave self.new) }
         ensures same_room { room self.new ≡ room self.old }
         ensures in_room { IfSome (room self.old) (λ _. IsOk result) }
-        ensures cause { HasCause (faults self.old) (faults self.new) result };
+        ensures cause { HasCause (faults self.old) (faults self.new) result }
+        ensures still { OnOk result (faults self.new ≡ faults self.old) };
 
     /// A disk that tells its images tells its file, and what a read gives is one of the images.
     ghost now_is: { (disk : Self) → IsTrue (tells_images disk) → (file : List ℕ) × (gives disk ≡ Some file) × may_leave disk file };

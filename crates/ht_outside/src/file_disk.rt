@@ -2,8 +2,9 @@ ghost use Rattle.std.specs.Prelude.{◌≡◌, ◌≤◌, false, length, None, I
 ghost use Rattle.ht_outside.specs.Causes.{Rose};
 
 use crate::{Disk, Failed};
-use std::fs::{File, OpenOptions, TryLockError};
+use std::fs::{File, OpenOptions};
 use std::io;
+use std::os::fd::AsRawFd;
 use std::os::unix::fs::FileExt;
 use std::path::Path;
 use std::rt::Files;
@@ -139,24 +140,33 @@ fn open<R: Files<File = File>>(files: &R, held: Option<&File>, name: &str) -> io
     how.read(true).write(true).create(true);
     let file = how.open(files, name)?;
     sync_folder(files, name)?;
-    lock(&file, held)?;
+    go_over(&file, held)?;
     Ok(file)
 }
 
-// Asks for an exclusive lock. The object's own one is given back before, since it may be of the
-// same file, and asked for again where the new one isn't given.
-fn lock(file: &File, held: Option<&File>) -> Result<(), TryLockError> {
+// Takes the file. The object's own one is given back before, since it may be the same file, and asked
+// for again where the new one isn't given.
+fn go_over(file: &File, held: Option<&File>) -> io::Result<()> {
     let Some(held) = held else {
-        return file.try_lock();
+        return take(file);
     };
-    if let Err(fault) = held.unlock() {
-        return Err(TryLockError::Error(fault));
-    }
-    let locked = file.try_lock();
-    if locked.is_err() {
+    held.unlock()?;
+    let taken = take(file);
+    if taken.is_err() {
         let _ = held.try_lock();
     }
-    locked
+    taken
+}
+
+// Asks for an exclusive lock. What the system holds of the file is dropped, as far as it takes it for
+// written: where a write to the device failed in an earlier run, it isn't what the device has.
+fn take(file: &File) -> io::Result<()> {
+    file.try_lock()?;
+    let advised = libc::posix_fadvise(file.as_raw_fd(), 0, 0, libc::POSIX_FADV_DONTNEED);
+    if advised != 0 {
+        return Err(io::Error::from_raw_os_error(advised));
+    }
+    Ok(())
 }
 
 fn sync_folder<R: Files<File = File>>(files: &R, name: &str) -> io::Result<()> {

@@ -1,7 +1,7 @@
 ghost use Rattle.std.specs.Prelude.{◌≡◌, ◌+◌, ◌-◌, ◌^◌, ◌<◌, ◌≤◌, ◌==◌, ◌++◌, ◌∷◌, [], ◌||◌, ℕ, List, true, max, min, length, take, drop, slice_index, Some, None, IfOk, IsErr, OnOk, OnErr, MatchResult, is_err};
 ghost use Rattle.std.specs.List.{list_any};
 ghost use Rattle.ht_outside.specs.Causes.{HasCause, next_count};
-ghost use Rattle.ht_outside.specs.Disks.{Elapses, Follows, Holds, Only, Torn, written};
+ghost use Rattle.ht_outside.specs.Disks.{Elapses, Follows, Holds, KeepsEachImage, MakesEachImage, Only, Torn, written};
 ghost use Rattle.ht_outside.specs.CrashModel.{IsImage};
 ghost use Rattle.ht_outside.specs.DiskHistory.{LeftSince};
 ghost use Rattle.ht_outside.specs.MemoryDisks.{IsPicked, IsSyncOf, IsWriteOf, disk_of, done_call, earlier, failed_call, given_by, is_from, is_to_fail, stands};
@@ -107,6 +107,7 @@ impl MemoryDisk {
         ensures fails { is_to_fail self.old ≡ true → IsErr result }
         ensures done { IsWriteOf self.old self.new at piece.now result }
         ensures cause { HasCause self.old.faults self.new.faults result }
+        ensures still { OnOk result (self.new.faults ≡ self.old.faults) }
     {
         pass(
             &mut self.asked,
@@ -131,6 +132,7 @@ impl MemoryDisk {
         ensures fails { is_to_fail self.old ≡ true → IsErr result }
         ensures done { IsSyncOf self.old self.new result }
         ensures cause { HasCause self.old.faults self.new.faults result }
+        ensures still { OnOk result (self.new.faults ≡ self.old.faults) }
     {
         pass(
             &mut self.asked,
@@ -238,6 +240,7 @@ impl Disk for MemoryDisk {
         ensures done { MatchResult result (λ _. self.new ≡ done_call self.old 0 self.old.calls)
             (λ _. self.new ≡ record (failed_call self.old) { shown = 0 }) }
         ensures cause { HasCause self.old.faults self.new.faults result }
+        ensures still { OnOk result (self.new.faults ≡ self.old.faults) }
     {
         self.shown = 0;
         pass(
@@ -254,6 +257,7 @@ impl Disk for MemoryDisk {
         ensures done { MatchResult result (λ n. self.new ≡ done_call self.old n self.old.calls)
             (λ _. self.new ≡ failed_call self.old) }
         ensures cause { HasCause self.old.faults self.new.faults result }
+        ensures still { OnOk result (self.new.faults ≡ self.old.faults) }
     {
         pass(
             &mut self.asked,
@@ -276,6 +280,7 @@ impl Disk for MemoryDisk {
             (λ _. self.new ≡ done_call self.old self.old.shown self.old.calls)
             (λ _. self.new ≡ failed_call self.old) }
         ensures cause { HasCause self.old.faults self.new.faults result }
+        ensures still { OnOk result (self.new.faults ≡ self.old.faults) }
     {
         pass(
             &mut self.asked,
@@ -294,10 +299,15 @@ impl Disk for MemoryDisk {
             (Torn at (length piece.now) (given_by self.old) (given_by self.new)) }
         ensures crash { Follows (Torn at (length piece.now)) (IsImage (stands self.old))
             (IsImage (stands self.new)) }
+        ensures each { KeepsEachImage true (IsImage (stands self.old))
+            (IsImage (stands self.new)) }
+        ensures makes { OnOk result (MakesEachImage (Torn at (length piece.now)) true
+            (IsImage (stands self.old)) (IsImage (stands self.new))) }
         ensures time { Elapses (length self.old.calls) (length self.new.calls)
             (LeftSince self.old.bytes self.old.calls) (LeftSince self.new.bytes self.new.calls)
             (IsImage (stands self.new)) }
         ensures cause { HasCause self.old.faults self.new.faults result }
+        ensures still { OnOk result (self.new.faults ≡ self.old.faults) }
     {
         self.store(at, piece)
     }
@@ -309,10 +319,13 @@ impl Disk for MemoryDisk {
         ensures file { given_by self.new ≡ given_by self.old }
         ensures crash { (image : List ℕ) → IsImage (stands self.new) image
             → IsImage (stands self.old) image }
+        ensures each { OnErr result (KeepsEachImage true (IsImage (stands self.old))
+            (IsImage (stands self.new))) }
         ensures time { Elapses (length self.old.calls) (length self.new.calls)
             (LeftSince self.old.bytes self.old.calls) (LeftSince self.new.bytes self.new.calls)
             (IsImage (stands self.new)) }
         ensures cause { HasCause self.old.faults self.new.faults result }
+        ensures still { OnOk result (self.new.faults ≡ self.old.faults) }
     {
         self.note_sync()
     }

@@ -1,4 +1,4 @@
-ghost use Rattle.std.specs.Prelude.{◌≡◌, ◌+◌, ◌-◌, ◌<◌, ◌≤◌, ℕ, false, min, length, take, drop, slice_index, Ok, Some, None, IfOk, OnErr, ⊤, is_err, nat_lt};
+ghost use Rattle.std.specs.Prelude.{◌≡◌, ◌+◌, ◌-◌, ◌<◌, ◌≤◌, ℕ, false, min, length, take, drop, slice_index, Ok, Some, None, IfOk, OnErr, OnOk, ⊤, is_err, nat_lt};
 ghost use Rattle.ht_outside.specs.Causes.{HasCause};
 ghost use Rattle.ht_outside.specs.Disks.{Torn};
 ghost use Rattle.ht_outside.specs.Rooms.{IsRoomWrite, empty_room};
@@ -109,6 +109,7 @@ impl Disk for RoomDisk {
         ensures done { IsRoomWrite self.old self.new at piece.now result }
         ensures torn { OnErr result (Torn at (length piece.now) self.old.file self.new.file) }
         ensures cause { HasCause self.old.faults self.new.faults result }
+        ensures still { OnOk result (self.new.faults ≡ self.old.faults) }
     {
         if is_past(self.room, at, piece.len()) || lay_over(&mut self.file, 0, at, piece).is_err() {
             self.faults = self.faults.saturating_add(1);

@@ -1,8 +1,10 @@
 use ht_base::{Bytes, Memory};
 use ht_outside::{Disk, Failed, FileDisk, MemoryDisk, RoomDisk};
 use std::alloc::Global;
+use std::rt::Clock;
 use std::test::Fail;
-use std::{env, fs, process};
+use std::time::Duration;
+use std::{env, fs, process, thread};
 
 fn disk(alloc: Global, bytes: &[u8], failing: &[u32]) -> Result<MemoryDisk, Memory> {
     let failing = Vec::from_slice(alloc, failing)?;
@@ -134,5 +136,38 @@ fn a_file_is_a_disk(rt: HostRuntime) -> Result<(), Fail> {
     assert_eq!(rt; read, Ok((9005, 9005, 0)));
     assert_eq!(rt; &into[4092..4102], b"xxmiddlexx".as_slice());
     assert_eq!(rt; &into[8998..9005], b"xx\0\0end".as_slice());
+    Ok(())
+}
+
+// Attaches a file whose lock another program may have, with up to 5,000 trials, a millisecond apart.
+fn attach_soon<D: Disk + Send>(clock: &impl Clock, disk: &mut D, name: &str) -> bool {
+    for _ in 0..5_000 {
+        if disk.attach(name).is_ok() {
+            return true;
+        }
+        thread::sleep(clock, Duration::from_millis(1));
+    }
+    false
+}
+
+// A device that takes no bytes and can't be synced, and then a file that can.
+#[test]
+fn a_sync_that_failed_fails_for_good(rt: HostRuntime) -> Result<(), Fail> {
+    let alloc = rt.alloc();
+    let number = process::id(rt.process());
+    let name = format!(in alloc; "ht_outside-{number}.lost")?;
+    let path = env::temp_dir(&rt)?.join(alloc, name.as_str())?;
+    let mut disk = FileDisk::new(&rt);
+    let attached = attach_soon(&rt, &mut disk, "/dev/full");
+    let full = [disk.write_at(0, b"x"), disk.sync()];
+    let plain = [
+        disk.attach(path.as_str()),
+        disk.write_at(0, b"x"),
+        disk.sync(),
+    ];
+    fs::remove_file(&rt, path.as_path())?;
+    assert!(rt; attached, "/dev/full is locked");
+    assert_eq!(rt; full, [Err(Failed), Err(Failed)]);
+    assert_eq!(rt; plain, [Ok(()), Ok(()), Err(Failed)]);
     Ok(())
 }

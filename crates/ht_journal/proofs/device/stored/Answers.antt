@@ -9,15 +9,18 @@ returns-in_err-write_at-clause-any_moment g c tells =
     let disk = c.args.disk.now in
     let n = length c.args.piece.now in
     let P : List ℕ → Type 0 = λ f. (d : List ℕ) × g.D.Disk.may_leave disk d × Torn c.args.at n d f in
-    let at_start = started g.D.Disk.moment g.D.Disk.left_since disk P (λ f left. (f, g.met.D.Disk.only_now disk f tells left, still_torn c.args.at n f)) in
-    goes_on g.D.Disk.moment g.D.Disk.left_since disk disk c.write_at.new.self P _ at_start (c.write_at.ensures.time tells) (c.write_at.ensures.crash tells)
+    let at_start = started g.D.Disk disk P (λ f left. (f, g.met.D.Disk.only_now disk f tells left, still_torn c.args.at n f)) in
+    goes_on g.D.Disk disk disk c.write_at.new.self P _ at_start (c.write_at.ensures.time tells) (c.write_at.ensures.crash tells)
+
+pub returns-clause-crash : goal.returns-clause-crash
+returns-clause-crash g c tells image now = c.write_at.ensures.crash tells image (c.sync.ensures.crash (subst IsTrue (sym c.write_at.ensures.tells) tells) image now)
 
 pub returns-clause-any_moment : goal.returns-clause-any_moment
 returns-clause-any_moment g c tells =
     let disk = c.args.disk.now in
     let n = length c.args.piece.now in
     let P : List ℕ → Type 0 = λ f. (d : List ℕ) × g.D.Disk.may_leave disk d × Torn c.args.at n d f in
-    let at_start = started g.D.Disk.moment g.D.Disk.left_since disk P (λ f left. (f, g.met.D.Disk.only_now disk f tells left, still_torn c.args.at n f)) in
-    let behind = goes_on g.D.Disk.moment g.D.Disk.left_since disk disk c.write_at.new.self P _ at_start (c.write_at.ensures.time tells) (c.write_at.ensures.crash tells) in
+    let at_start = started g.D.Disk disk P (λ f left. (f, g.met.D.Disk.only_now disk f tells left, still_torn c.args.at n f)) in
+    let behind = goes_on g.D.Disk disk disk c.write_at.new.self P _ at_start (c.write_at.ensures.time tells) (c.write_at.ensures.crash tells) in
     let still = subst IsTrue (sym c.write_at.ensures.tells) tells in
-    goes_on g.D.Disk.moment g.D.Disk.left_since disk c.write_at.new.self c.sync.new.self P _ behind (c.sync.ensures.time still) (λ f now. c.write_at.ensures.crash tells f (c.sync.ensures.crash still f now))
+    goes_on g.D.Disk disk c.write_at.new.self c.sync.new.self P _ behind (c.sync.ensures.time still) (λ f now. c.write_at.ensures.crash tells f (c.sync.ensures.crash still f now))

@@ -1,12 +1,22 @@
-use Rattle.std.proofs.Common.{◌≡◌, ◌≤◌, ◌++◌, ◌∷◌, [], length, Ok, arith}
+use Rattle.std.proofs.Common.{refl, inr, ◌≡◌, ◌≤◌, ◌++◌, ◌∷◌, [], length, Ok, arith}
 use Rattle.ht_journal.specs.Files.{contents, header}
+use Rattle.ht_journal.specs.Openings.{IsBegun, IsTornBeginning, beginning}
+use Rattle.ht_journal.proofs.Begun.{begun_file, both_at_err, both_at_ok}
 use Rattle.ht_journal.proofs.Moments.{weaker, both_weaker}
 use Rattle.ht_journal.proofs.Scans.{begins, by_result, begin_torn, begin_held}
 use Rattle.ht_journal.proofs.opening.begin.Goals as goal
 
 pub returns-clause-any_moment : goal.returns-clause-any_moment
 returns-clause-any_moment g c tells =
-    weaker g.D.Disk.moment g.D.Disk.left_since c.args.disk.now c.stored.new.disk _ (λ f. contents f ≡ Ok []) (c.stored.ensures.any_moment tells) (λ f h. begins h.0 f _ (c.requires.images tells h.0 h.1) (omega arith) h.2)
+    weaker g.D.Disk c.args.disk.now c.stored.new.disk _ (λ f. contents f ≡ Ok []) (c.stored.ensures.any_moment tells) (λ f h. begins h.0 f _ (c.requires.images tells h.0 h.1) (omega arith) h.2)
+
+pub returns-clause-written : goal.returns-clause-written
+returns-clause-written g c =
+    both_at_ok c.stored.result _ IsBegun (g.D.Disk.gives c.args.disk.now) (g.D.Disk.gives c.stored.new.disk) (λ f. length f ≤ 9) c.requires.short (λ d f short holds. begun_file d f beginning short refl holds) c.stored.ensures.written
+
+pub returns-clause-torn : goal.returns-clause-torn
+returns-clause-torn g c =
+    both_at_err c.stored.result _ IsTornBeginning (g.D.Disk.gives c.args.disk.now) (g.D.Disk.gives c.stored.new.disk) (λ f. length f ≤ 9) c.requires.short (λ d f short t. inr (short, let l = t.no_longer in omega arith)) c.stored.ensures.torn
 
 pub returns-clause-same : goal.returns-clause-same
 returns-clause-same g c =

@@ -33,9 +33,9 @@ frames-preserved g c =
     let stands = subst (λ (found : Option ℕ). IfSome (g.D.Disk.gives c.frames.disk) (λ f. StandsAt c.frames.gate f found)) c.in-Some.is c.in_ok-n.ensures.stands in
     let told = told_same o (g.D.Disk.gives c.frames.disk) (λ f. StandsAt c.frames.gate f (Some n)) i.quiet.file stands in
     record {
-      quiet = quiet_on g.D.Disk.room g.D.Disk.gives g.D.Disk.tells_images g.D.Disk.may_leave g.D.Disk.moment g.D.Disk.left_since c.args.disk.now c.frames.disk c.frame_at.new.disk i.quiet c.frame_at.ensures.quiet;
+      quiet = quiet_on g.D.Disk c.args.disk.now c.frames.disk c.frame_at.new.disk i.quiet c.frame_at.ensures.quiet;
       shown = c.frame_at.ensures.shown ∙ i.shown;
-      faults = omega (arith, i.faults, c.frame_at.ensures.faults);
+      faults = c.in_ok-n.ensures.still ∙ i.faults;
       piece = told_same o (g.D.Disk.gives c.frames.disk) (IsPiece c.frame_at.new.reader) i.quiet.file c.frame_at.ensures.piece;
       passed = (c.frame_at.ensures.gate.0 ∙ i.passed.0, c.frame_at.ensures.gate.1 ∙ i.passed.1);
       range = omega (arith, whole.1, c.from.ensures);

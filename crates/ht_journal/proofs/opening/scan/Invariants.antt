@@ -1,4 +1,4 @@
-use Rattle.std.proofs.Common.{◌≡◌, ◌-◌, ◌<◌, ◌≤◌, IfSome}
+use Rattle.std.proofs.Common.{◌≡◌, ◌-◌, ◌<◌, IfSome}
 use Rattle.ht_journal.specs.Opening.{IsScanned}
 use Rattle.ht_journal.specs.Quiet.{IsQuiet}
 use Rattle.ht_journal.specs.Pieces.{IsPiece}
@@ -6,9 +6,9 @@ use Rattle.ht_journal.proofs.opening.scan.Given as goal
 
 abbrev pub invariant-frames : goal.invariant-frames
 invariant-frames g l = record {
-  quiet : IsQuiet g.D.Disk.room g.D.Disk.gives g.D.Disk.tells_images g.D.Disk.may_leave g.D.Disk.moment g.D.Disk.left_since l.fn.disk l.disk;
+  quiet : IsQuiet g.D.Disk l.fn.disk l.disk;
   shown : g.D.Disk.shown l.disk ≡ g.D.Disk.shown l.fn.disk;
-  faults : g.D.Disk.faults l.fn.disk ≤ g.D.Disk.faults l.disk;
+  faults : g.D.Disk.faults l.disk ≡ g.D.Disk.faults l.fn.disk;
   piece : IfSome (g.D.Disk.gives l.fn.disk) (IsPiece l.reader);
   passed : (l.reader.gate ≡ l.fn.reader.gate) × (l.reader.passed ≡ l.fn.reader.passed);
   range : l.gate < l.end;

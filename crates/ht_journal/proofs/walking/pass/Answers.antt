@@ -16,9 +16,9 @@ gates-preserved g c =
     let piece = told_same o before (IsPiece c.frame_behind.new.reader) i.quiet.file e.piece in
     let behind = told_same o before (IsBehind c.gates.reader.gate c.args.end c.in_ok-at.at c.in_ok-at.n) i.quiet.file c.in_ok-at.ensures.behind in
     record {
-      quiet = quiet_on g.D.Disk.room g.D.Disk.gives g.D.Disk.tells_images g.D.Disk.may_leave g.D.Disk.moment g.D.Disk.left_since c.args.disk.now c.gates.disk c.frame_behind.new.disk i.quiet e.quiet;
+      quiet = quiet_on g.D.Disk c.args.disk.now c.gates.disk c.frame_behind.new.disk i.quiet e.quiet;
       shown = e.shown ∙ i.shown;
-      faults = omega (arith, i.faults, e.cause.later);
+      faults = c.in_ok-at.ensures.still ∙ i.faults;
       piece = piece;
       passed = omega (arith, e.gate.1);
       within = omega (arith, w.0, c.from.ensures);

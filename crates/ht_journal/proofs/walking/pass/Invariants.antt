@@ -7,9 +7,9 @@ use Rattle.ht_journal.proofs.walking.pass.Given as goal
 
 abbrev pub invariant-gates : goal.invariant-gates
 invariant-gates g l = record {
-  quiet : IsQuiet g.D.Disk.room g.D.Disk.gives g.D.Disk.tells_images g.D.Disk.may_leave g.D.Disk.moment g.D.Disk.left_since l.fn.disk l.disk;
+  quiet : IsQuiet g.D.Disk l.fn.disk l.disk;
   shown : g.D.Disk.shown l.disk ≡ g.D.Disk.shown l.fn.disk;
-  faults : g.D.Disk.faults l.fn.disk ≤ g.D.Disk.faults l.disk;
+  faults : g.D.Disk.faults l.disk ≡ g.D.Disk.faults l.fn.disk;
   piece : IfSome (g.D.Disk.gives l.fn.disk) (IsPiece l.reader);
   passed : l.reader.passed ≤ l.wanted;
   within : l.reader.gate ≤ l.end;

@@ -5,5 +5,5 @@ use Rattle.ht_journal_tests.proofs.appending.found.Given as goal
 abbrev pub invariant-loop-n : goal.invariant-loop-n
 invariant-loop-n g l = record {
   counted : l.journal.count ≡ l.n-end;
-  kept : (bodies : List (List ℕ)) × IsKept g.D.Disk.gives g.D.Disk.shown g.D.Disk.tells_images g.D.Disk.may_leave bodies l.journal l.disk;
+  kept : (bodies : List (List ℕ)) × IsKept g.D.Disk bodies l.journal l.disk;
 }

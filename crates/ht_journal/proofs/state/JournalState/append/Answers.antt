@@ -6,24 +6,24 @@ use Rattle.ht_journal.proofs.Frames.{length-front_push}
 use Rattle.ht_journal.proofs.InParts.{part_reads, no_part, first_parts, last_parts}
 use Rattle.ht_journal.proofs.Moments.{weaker, told_weaker}
 use Rattle.ht_journal.proofs.Passed.{told_forgets, told_forgets_twice, told_grows}
-use Rattle.ht_journal.proofs.Writes.{from_certain, to_certain, at_err, file_behind, images_behind, file_staged, file_gate, images_gate, file_opened, images_told, fit_push, framed, buffered, length-staged, in_doubt}
+use Rattle.ht_journal.proofs.Writes.{appended, from_certain, to_certain, at_err, file_behind, images_behind, file_staged, file_gate, images_gate, file_opened, images_told, fit_push, framed, buffered, length-staged, in_doubt}
 use Rattle.ht_journal.proofs.state.JournalState.append.Goals as goal
 
 pub returns-then-body-clause-any_part : goal.returns-then-body-clause-any_part
 returns-then-body-clause-any_part g c bodies k tells =
     let disk = c.args.disk.now in
-    no_part g.D.Disk.moment g.D.Disk.left_since g.D.Disk.may_leave bodies c.args.body.now k.fit disk (λ image left. g.met.D.Disk.only_now disk image tells left) (λ image now. from_certain _ _ c.requires.certain bodies image (k.images tells image now))
+    no_part g.D.Disk bodies c.args.body.now k.fit disk (λ image left. g.met.D.Disk.only_now disk image tells left) (λ image now. from_certain _ _ c.requires.certain bodies image (k.images tells image now))
 
 pub returns-then-body-clause-any_moment : goal.returns-then-body-clause-any_moment
-returns-then-body-clause-any_moment g c bodies k tells = weaker g.D.Disk.moment g.D.Disk.left_since _ _ _ _ (returns-then-body-clause-any_part g c bodies k tells) (part_reads bodies c.args.body.now)
+returns-then-body-clause-any_moment g c bodies k tells = weaker g.D.Disk _ _ _ _ (returns-then-body-clause-any_part g c bodies k tells) (part_reads bodies c.args.body.now)
 
 pub returns-then-end-self-clause-any_part : goal.returns-then-end-self-clause-any_part
 returns-then-end-self-clause-any_part g c bodies k tells =
     let disk = c.args.disk.now in
-    no_part g.D.Disk.moment g.D.Disk.left_since g.D.Disk.may_leave bodies c.args.body.now k.fit disk (λ image left. g.met.D.Disk.only_now disk image tells left) (λ image now. from_certain _ _ c.requires.certain bodies image (k.images tells image now))
+    no_part g.D.Disk bodies c.args.body.now k.fit disk (λ image left. g.met.D.Disk.only_now disk image tells left) (λ image now. from_certain _ _ c.requires.certain bodies image (k.images tells image now))
 
 pub returns-then-end-self-clause-any_moment : goal.returns-then-end-self-clause-any_moment
-returns-then-end-self-clause-any_moment g c bodies k tells = weaker g.D.Disk.moment g.D.Disk.left_since _ _ _ _ (returns-then-end-self-clause-any_part g c bodies k tells) (part_reads bodies c.args.body.now)
+returns-then-end-self-clause-any_moment g c bodies k tells = weaker g.D.Disk _ _ _ _ (returns-then-end-self-clause-any_part g c bodies k tells) (part_reads bodies c.args.body.now)
 
 pub returns-in_err-stored-clause-err : goal.returns-in_err-stored-clause-err
 returns-in_err-stored-clause-err g c =
@@ -49,10 +49,10 @@ returns-in_err-stored-clause-err g c =
 
 pub returns-in_err-stored-clause-any_part : goal.returns-in_err-stored-clause-any_part
 returns-in_err-stored-clause-any_part g c bodies k tells =
-    first_parts g.D.Disk.moment g.D.Disk.left_since g.D.Disk.may_leave bodies c.args.body.now k.fit c.args.disk.now c.stored.new.disk _ _ k.place (λ image now. from_certain _ _ c.requires.certain bodies image (k.images tells image now)) (c.stored.ensures.any_moment tells)
+    first_parts g.D.Disk bodies c.args.body.now k.fit c.args.disk.now c.stored.new.disk _ _ k.place (λ image now. from_certain _ _ c.requires.certain bodies image (k.images tells image now)) (c.stored.ensures.any_moment tells)
 
 pub returns-in_err-stored-clause-any_moment : goal.returns-in_err-stored-clause-any_moment
-returns-in_err-stored-clause-any_moment g c bodies k tells = weaker g.D.Disk.moment g.D.Disk.left_since _ _ _ _ (returns-in_err-stored-clause-any_part g c bodies k tells) (part_reads bodies c.args.body.now)
+returns-in_err-stored-clause-any_moment g c bodies k tells = weaker g.D.Disk _ _ _ _ (returns-in_err-stored-clause-any_part g c bodies k tells) (part_reads bodies c.args.body.now)
 
 pub returns-in_err-stored-2-clause-any_part : goal.returns-in_err-stored-2-clause-any_part
 returns-in_err-stored-2-clause-any_part g c bodies k tells =
@@ -65,11 +65,11 @@ returns-in_err-stored-2-clause-any_part g c bodies k tells =
     let staged = file_staged bodies body _ _ k.place is _ _ told c.in_ok-stored.ensures.written in
     let still = subst IsTrue (sym c.stored.ensures.tells) tells in
     let doubts = images_told (g.D.Disk.gives mid) (g.D.Disk.may_leave mid) (Doubts bodies body []) (g.met.D.Disk.now_is mid still) (c.in_ok-stored.ensures.durable tells) staged in
-    let first = first_parts g.D.Disk.moment g.D.Disk.left_since g.D.Disk.may_leave bodies body k.fit disk mid _ _ k.place (λ image now. from_certain _ _ c.requires.certain bodies image (k.images tells image now)) (c.stored.ensures.any_moment tells) in
-    last_parts g.D.Disk.moment g.D.Disk.left_since g.D.Disk.may_leave bodies body k.fit disk mid c.stored-2.new.disk _ (fit_push bodies body k.fit (omega arith) (omega (arith, k.place))) (omega (arith, k.place)) first doubts (c.stored-2.ensures.any_moment still)
+    let first = first_parts g.D.Disk bodies body k.fit disk mid _ _ k.place (λ image now. from_certain _ _ c.requires.certain bodies image (k.images tells image now)) (c.stored.ensures.any_moment tells) in
+    last_parts g.D.Disk bodies body k.fit disk mid c.stored-2.new.disk _ (fit_push bodies body k.fit (omega arith) (omega (arith, k.place))) (omega (arith, k.place)) first doubts (c.stored-2.ensures.any_moment still)
 
 pub returns-in_err-stored-2-clause-any_moment : goal.returns-in_err-stored-2-clause-any_moment
-returns-in_err-stored-2-clause-any_moment g c bodies k tells = weaker g.D.Disk.moment g.D.Disk.left_since _ _ _ _ (returns-in_err-stored-2-clause-any_part g c bodies k tells) (part_reads bodies c.args.body.now)
+returns-in_err-stored-2-clause-any_moment g c bodies k tells = weaker g.D.Disk _ _ _ _ (returns-in_err-stored-2-clause-any_part g c bodies k tells) (part_reads bodies c.args.body.now)
 
 pub returns-clause-any_part : goal.returns-clause-any_part
 returns-clause-any_part g c bodies k tells =
@@ -82,11 +82,11 @@ returns-clause-any_part g c bodies k tells =
     let staged = file_staged bodies body _ _ k.place is _ _ told c.in_ok-stored.ensures.written in
     let still = subst IsTrue (sym c.stored.ensures.tells) tells in
     let doubts = images_told (g.D.Disk.gives mid) (g.D.Disk.may_leave mid) (Doubts bodies body []) (g.met.D.Disk.now_is mid still) (c.in_ok-stored.ensures.durable tells) staged in
-    let first = first_parts g.D.Disk.moment g.D.Disk.left_since g.D.Disk.may_leave bodies body k.fit disk mid _ _ k.place (λ image now. from_certain _ _ c.requires.certain bodies image (k.images tells image now)) (c.stored.ensures.any_moment tells) in
-    last_parts g.D.Disk.moment g.D.Disk.left_since g.D.Disk.may_leave bodies body k.fit disk mid c.stored-2.new.disk _ (fit_push bodies body k.fit (omega arith) (omega (arith, k.place))) (omega (arith, k.place)) first doubts (c.stored-2.ensures.any_moment still)
+    let first = first_parts g.D.Disk bodies body k.fit disk mid _ _ k.place (λ image now. from_certain _ _ c.requires.certain bodies image (k.images tells image now)) (c.stored.ensures.any_moment tells) in
+    last_parts g.D.Disk bodies body k.fit disk mid c.stored-2.new.disk _ (fit_push bodies body k.fit (omega arith) (omega (arith, k.place))) (omega (arith, k.place)) first doubts (c.stored-2.ensures.any_moment still)
 
 pub returns-clause-any_moment : goal.returns-clause-any_moment
-returns-clause-any_moment g c bodies k tells = weaker g.D.Disk.moment g.D.Disk.left_since _ _ _ _ (returns-clause-any_part g c bodies k tells) (part_reads bodies c.args.body.now)
+returns-clause-any_moment g c bodies k tells = weaker g.D.Disk _ _ _ _ (returns-clause-any_part g c bodies k tells) (part_reads bodies c.args.body.now)
 
 pub returns-in_err-stored-2-clause-doubt : goal.returns-in_err-stored-2-clause-doubt
 returns-in_err-stored-2-clause-doubt g c =
@@ -161,6 +161,13 @@ returns-in_err-stored-2-clause-goes_on g c =
     let p = err_from_is_err_and c.from_residual-in_err-stored-2.result c.from_residual-in_err-stored-2.ensures.1 in
     let k = c.requires.kept in
     (k.0, from_err c.from_residual-in_err-stored-2.result p.0 p.1 (returns-in_err-stored-2-clause-err g c) k.0 k.1)
+
+pub returns-clause-written : goal.returns-clause-written
+returns-clause-written g c =
+    let body = c.args.body.now in
+    let items = buffered c.args.self.now.buffer.len c.stage.new.buffer c.args.self.now.buffer.items c.deref.result.now c.deref.ensures.value (omega arith) in
+    let is = ap (take (length body + 5)) items ∙ c.stage.ensures in
+    appended c.args.self.now.length body _ (g.D.Disk.gives c.args.disk.now) (g.D.Disk.gives c.stored.new.disk) (g.D.Disk.gives c.stored-2.new.disk) is c.in_ok-stored.ensures.written c.in_ok-stored-2.ensures.written
 
 pub returns-clause-goes_on : goal.returns-clause-goes_on
 returns-clause-goes_on g c = let k = c.requires.kept in (k.0 ++ c.args.body.now ∷ [], returns-clause-ok g c k.0 k.1)

@@ -16,7 +16,7 @@ returns-in_err-pass-clause-kept g c bodies k =
     let has = told_weaker o _ (HasFront bodies) (stands_front bodies (doubt_of s)) k.file in
     let begun = told_weaker o (IsRead bodies s.reader) (IsRead bodies c.back.new.reader) (λ f r. c.back.ensures.read bodies f r) k.reading in
     let there = c.pass.ensures.read bodies k.fit (omega (arith, k.place)) (omega (arith, k.count)) has begun in
-    kept_on g.D.Disk.room g.D.Disk.gives g.D.Disk.shown g.D.Disk.tells_images g.D.Disk.may_leave g.D.Disk.moment g.D.Disk.left_since bodies s _ disk c.pass.new.disk c.pass.ensures.quiet c.pass.ensures.shown refl refl refl refl there k
+    kept_on g.D.Disk bodies s _ disk c.pass.new.disk c.pass.ensures.quiet c.pass.ensures.shown refl refl refl refl there k
 
 pub returns-in_err-pass-clause-goes_on : goal.returns-in_err-pass-clause-goes_on
 returns-in_err-pass-clause-goes_on g c = let k = c.requires.kept in (k.0, returns-in_err-pass-clause-kept g c k.0 k.1)
@@ -26,27 +26,27 @@ returns-in_err-at-clause-kept g c bodies k =
     let s = c.args.self.now in
     let disk = c.args.disk.now in
     let o = g.D.Disk.gives disk in
-    let q2 = quiet_on g.D.Disk.room g.D.Disk.gives g.D.Disk.tells_images g.D.Disk.may_leave g.D.Disk.moment g.D.Disk.left_since disk c.pass.new.disk c.frame_behind.new.disk c.pass.ensures.quiet c.frame_behind.ensures.quiet in
+    let q2 = quiet_on g.D.Disk disk c.pass.new.disk c.frame_behind.new.disk c.pass.ensures.quiet c.frame_behind.ensures.quiet in
     let has = told_weaker o _ (HasFront bodies) (stands_front bodies (doubt_of s)) k.file in
     let begun = told_weaker o (IsRead bodies s.reader) (IsRead bodies c.back.new.reader) (λ f r. c.back.ensures.read bodies f r) k.reading in
     let there = c.pass.ensures.read bodies k.fit (omega (arith, k.place)) (omega (arith, k.count)) has begun in
     let piece = told_same o (g.D.Disk.gives c.pass.new.disk) (IsPiece c.frame_behind.new.reader) c.pass.ensures.quiet.file c.frame_behind.ensures.piece in
     let now = told_piece o bodies c.pass.new.reader c.frame_behind.new.reader c.frame_behind.ensures.gate.0 c.frame_behind.ensures.gate.1 piece there in
-    kept_on g.D.Disk.room g.D.Disk.gives g.D.Disk.shown g.D.Disk.tells_images g.D.Disk.may_leave g.D.Disk.moment g.D.Disk.left_since bodies s _ disk c.frame_behind.new.disk q2 (c.frame_behind.ensures.shown ∙ c.pass.ensures.shown) refl refl refl refl now k
+    kept_on g.D.Disk bodies s _ disk c.frame_behind.new.disk q2 (c.frame_behind.ensures.shown ∙ c.pass.ensures.shown) refl refl refl refl now k
 
 pub returns-in_err-body-clause-kept : goal.returns-in_err-body-clause-kept
 returns-in_err-body-clause-kept g c bodies k =
     let s = c.args.self.now in
     let disk = c.args.disk.now in
     let o = g.D.Disk.gives disk in
-    let q2 = quiet_on g.D.Disk.room g.D.Disk.gives g.D.Disk.tells_images g.D.Disk.may_leave g.D.Disk.moment g.D.Disk.left_since disk c.pass.new.disk c.frame_behind.new.disk c.pass.ensures.quiet c.frame_behind.ensures.quiet in
-    let q3 = quiet_on g.D.Disk.room g.D.Disk.gives g.D.Disk.tells_images g.D.Disk.may_leave g.D.Disk.moment g.D.Disk.left_since disk c.frame_behind.new.disk c.body_at.new.disk q2 c.body_at.ensures.quiet in
+    let q2 = quiet_on g.D.Disk disk c.pass.new.disk c.frame_behind.new.disk c.pass.ensures.quiet c.frame_behind.ensures.quiet in
+    let q3 = quiet_on g.D.Disk disk c.frame_behind.new.disk c.body_at.new.disk q2 c.body_at.ensures.quiet in
     let has = told_weaker o _ (HasFront bodies) (stands_front bodies (doubt_of s)) k.file in
     let begun = told_weaker o (IsRead bodies s.reader) (IsRead bodies c.back.new.reader) (λ f r. c.back.ensures.read bodies f r) k.reading in
     let there = c.pass.ensures.read bodies k.fit (omega (arith, k.place)) (omega (arith, k.count)) has begun in
     let piece = told_same o (g.D.Disk.gives c.frame_behind.new.disk) (IsPiece c.body_at.new.reader) q2.file c.body_at.ensures.piece in
     let now = told_piece o bodies c.pass.new.reader c.body_at.new.reader (c.body_at.ensures.gate.0 ∙ c.frame_behind.ensures.gate.0) (c.body_at.ensures.gate.1 ∙ c.frame_behind.ensures.gate.1) piece there in
-    kept_on g.D.Disk.room g.D.Disk.gives g.D.Disk.shown g.D.Disk.tells_images g.D.Disk.may_leave g.D.Disk.moment g.D.Disk.left_since bodies s _ disk c.body_at.new.disk q3 (c.body_at.ensures.shown ∙ c.frame_behind.ensures.shown ∙ c.pass.ensures.shown) refl refl refl refl now k
+    kept_on g.D.Disk bodies s _ disk c.body_at.new.disk q3 (c.body_at.ensures.shown ∙ c.frame_behind.ensures.shown ∙ c.pass.ensures.shown) refl refl refl refl now k
 
 pub returns-clause-body : goal.returns-clause-body
 returns-clause-body g c bodies k =
@@ -54,7 +54,7 @@ returns-clause-body g c bodies k =
     let disk = c.args.disk.now in
     let o = g.D.Disk.gives disk in
     let end = s.length - 1 in
-    let q2 = quiet_on g.D.Disk.room g.D.Disk.gives g.D.Disk.tells_images g.D.Disk.may_leave g.D.Disk.moment g.D.Disk.left_since disk c.pass.new.disk c.frame_behind.new.disk c.pass.ensures.quiet c.frame_behind.ensures.quiet in
+    let q2 = quiet_on g.D.Disk disk c.pass.new.disk c.frame_behind.new.disk c.pass.ensures.quiet c.frame_behind.ensures.quiet in
     let has = told_weaker o _ (HasFront bodies) (stands_front bodies (doubt_of s)) k.file in
     let begun = told_weaker o (IsRead bodies s.reader) (IsRead bodies c.back.new.reader) (λ f r. c.back.ensures.read bodies f r) k.reading in
     let there = c.pass.ensures.read bodies k.fit (omega (arith, k.place)) (omega (arith, k.count)) has begun in
@@ -71,8 +71,8 @@ returns-clause-kept g c bodies k =
     let disk = c.args.disk.now in
     let o = g.D.Disk.gives disk in
     let end = s.length - 1 in
-    let q2 = quiet_on g.D.Disk.room g.D.Disk.gives g.D.Disk.tells_images g.D.Disk.may_leave g.D.Disk.moment g.D.Disk.left_since disk c.pass.new.disk c.frame_behind.new.disk c.pass.ensures.quiet c.frame_behind.ensures.quiet in
-    let q3 = quiet_on g.D.Disk.room g.D.Disk.gives g.D.Disk.tells_images g.D.Disk.may_leave g.D.Disk.moment g.D.Disk.left_since disk c.frame_behind.new.disk c.body_at.new.disk q2 c.body_at.ensures.quiet in
+    let q2 = quiet_on g.D.Disk disk c.pass.new.disk c.frame_behind.new.disk c.pass.ensures.quiet c.frame_behind.ensures.quiet in
+    let q3 = quiet_on g.D.Disk disk c.frame_behind.new.disk c.body_at.new.disk q2 c.body_at.ensures.quiet in
     let has = told_weaker o _ (HasFront bodies) (stands_front bodies (doubt_of s)) k.file in
     let begun = told_weaker o (IsRead bodies s.reader) (IsRead bodies c.back.new.reader) (λ f r. c.back.ensures.read bodies f r) k.reading in
     let there = c.pass.ensures.read bodies k.fit (omega (arith, k.place)) (omega (arith, k.count)) has begun in
@@ -80,7 +80,7 @@ returns-clause-kept g c bodies k =
     let piece = told_same o (g.D.Disk.gives c.frame_behind.new.disk) (IsPiece c.body_at.new.reader) q2.file c.body_at.ensures.piece in
     let passed : c.pass.new.reader.passed ≡ c.args.n - 1 = c.in_ok-pass.ensures.passed.1 in
     let now = told_step o bodies c.pass.new.reader _ end c.in_ok-at.at c.in_ok-at.len k.fit (omega (arith, k.place)) (omega (arith, k.count)) has there behind piece (ap (λ n. c.in_ok-at.at + n) c.from.ensures) (omega arith) in
-    kept_on g.D.Disk.room g.D.Disk.gives g.D.Disk.shown g.D.Disk.tells_images g.D.Disk.may_leave g.D.Disk.moment g.D.Disk.left_since bodies s _ disk c.body_at.new.disk q3 (c.body_at.ensures.shown ∙ c.frame_behind.ensures.shown ∙ c.pass.ensures.shown) refl refl refl refl now k
+    kept_on g.D.Disk bodies s _ disk c.body_at.new.disk q3 (c.body_at.ensures.shown ∙ c.frame_behind.ensures.shown ∙ c.pass.ensures.shown) refl refl refl refl now k
 
 pub returns-in_err-at-clause-goes_on : goal.returns-in_err-at-clause-goes_on
 returns-in_err-at-clause-goes_on g c = let k = c.requires.kept in (k.0, returns-in_err-at-clause-kept g c k.0 k.1)

@@ -13,17 +13,17 @@ use Rattle.ht_journal.proofs.state.JournalState.settle.Goals as goal
 pub returns-in_default-look-clause-any_moment : goal.returns-in_default-look-clause-any_moment
 returns-in_default-look-clause-any_moment g c bodies k tells =
     let s = c.args.self.now in
-    weaker g.D.Disk.moment g.D.Disk.left_since c.args.disk.now c.look.new.disk _ (Reads bodies (doubt_of s)) (c.look.ensures.any_moment tells) (λ f now. stands_reads bodies s.buffer.items s.length s.doubt k.fit k.place s.doubted f (k.images tells f now))
+    weaker g.D.Disk c.args.disk.now c.look.new.disk _ (Reads bodies (doubt_of s)) (c.look.ensures.any_moment tells) (λ f now. stands_reads bodies s.buffer.items s.length s.doubt k.fit k.place s.doubted f (k.images tells f now))
 
 pub returns-then-gate-ne1-clause-any_moment : goal.returns-then-gate-ne1-clause-any_moment
 returns-then-gate-ne1-clause-any_moment g c bodies k tells =
     let s = c.args.self.now in
-    weaker g.D.Disk.moment g.D.Disk.left_since c.args.disk.now c.look.new.disk _ (Reads bodies (doubt_of s)) (c.look.ensures.any_moment tells) (λ f now. stands_reads bodies s.buffer.items s.length s.doubt k.fit k.place s.doubted f (k.images tells f now))
+    weaker g.D.Disk c.args.disk.now c.look.new.disk _ (Reads bodies (doubt_of s)) (c.look.ensures.any_moment tells) (λ f now. stands_reads bodies s.buffer.items s.length s.doubt k.fit k.place s.doubted f (k.images tells f now))
 
 pub returns-clause-any_moment : goal.returns-clause-any_moment
 returns-clause-any_moment g c bodies k tells =
     let s = c.args.self.now in
-    weaker g.D.Disk.moment g.D.Disk.left_since c.args.disk.now c.look.new.disk _ (Reads bodies (doubt_of s)) (c.look.ensures.any_moment tells) (λ f now. stands_reads bodies s.buffer.items s.length s.doubt k.fit k.place s.doubted f (k.images tells f now))
+    weaker g.D.Disk c.args.disk.now c.look.new.disk _ (Reads bodies (doubt_of s)) (c.look.ensures.any_moment tells) (λ f now. stands_reads bodies s.buffer.items s.length s.doubt k.fit k.place s.doubted f (k.images tells f now))
 
 pub returns-then-gate-ne1-clause-settled : goal.returns-then-gate-ne1-clause-settled
 returns-then-gate-ne1-clause-settled g c bodies body e k =
