@@ -1,4 +1,4 @@
-use Rattle.std.proofs.Common.{◌≡◌, ◌≤◌, List, length, None, ap, sym, ◌∙◌, subst, arith}
+use Rattle.std.proofs.Common.{◌≡◌, ◌≤◌, List, length, None, refl, ap, sym, ◌∙◌, subst, arith}
 use Rattle.ht_base.specs.declared.operation.Op.TheVariants.{Claim}
 use Rattle.ht_base.specs.declared.state.State.TheVariants.{Reserved}
 use Rattle.ht_base.specs.Moment.{last_moment}
@@ -31,7 +31,7 @@ commit-requires-clause-sound c =
     let fine : IsSoundSlot t.people (length (planned t p).rows) mine = subst R (sym same) (record {
       person = omega arith;
       numbered = (omega arith, omega arith);
-      task = (omega arith, omega arith);
+      task = (refl, omega arith);
       kept = ((omega arith, omega arith), tt);
     }) in
     let none : (p.changes).slot ≡ None = ap (λ (x : PlanOf). (x.changes).slot) c.in_ok-plan.ensures in
