@@ -1,4 +1,4 @@
-use Rattle.std.proofs.Common.{◌≡◌, sym, subst}
+use Rattle.std.proofs.Common.{◌≡◌, rules, sym, subst}
 use Rattle.ht_tree.specs.Soundness.{IsSound}
 use Rattle.ht_tree.specs.Tables.{TablesOf}
 use Rattle.ht_tree.proofs.PublicLaws.{no_plan_fits, planned_nothing}
@@ -11,5 +11,5 @@ turn-requires-clause-plan g c =
     let S : TablesOf → Type 0 = λ u. IsSound u in
     record {
       fits = no_plan_fits t p c.in_ok-plan.ensures;
-      sound = subst S (sym (planned_nothing t p c.in_ok-plan.ensures)) ?;
+      sound = subst S (sym (planned_nothing t p c.in_ok-plan.ensures)) (search rules);
     }
