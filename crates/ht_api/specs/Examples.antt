@@ -326,6 +326,7 @@ refusals_ascend refusal.NotSkipable = refl
 refusals_ascend refusal.UntilPast = refl
 refusals_ascend (refusal.SubRefused sub) = refl
 refusals_ascend (refusal.Limit limit) = refl
+refusals_ascend refusal.Store = refl
 refusals_ascend refusal.Spent = refl
 refusals_ascend refusal.Memory = refl
 

@@ -6,7 +6,7 @@ use Rattle.ht_base.specs.declared.limits.TheConstants.{LONGEST_NAME}
 use Rattle.ht_base.specs.declared.reply.Answer.{Answer}
 use Rattle.ht_base.specs.declared.reply.Answer.TheVariants.{Done, Turned, Sheet, Refused}
 use Rattle.ht_base.specs.declared.reply.Limit.{Limit}
-use Rattle.ht_base.specs.declared.reply.Limit.TheVariants.{Tasks, Comments}
+use Rattle.ht_base.specs.declared.reply.Limit.TheVariants.{Tasks, Comments, Journal}
 use Rattle.ht_base.specs.declared.reply.Refusal.{Refusal}
 use Rattle.ht_base.specs.declared.reply.Refusal.TheVariants as refusal
 use Rattle.ht_base.specs.declared.reply.Unknown.TheVariants as unknown
@@ -30,6 +30,7 @@ counted_fault name key number = fault name ((key, whole number) ∷ [])
 abbrev pub limit_name : Limit → List ℕ
 limit_name Tasks = codes "tasks"
 limit_name Comments = codes "comments"
+limit_name Journal = codes "journal"
 
 abbrev pub refusal_data : Refusal → Data
 refusal_data refusal.Head = fault (codes "Head") []
@@ -60,6 +61,7 @@ refusal_data refusal.NotSkipable = fault (codes "NotSkipable") []
 refusal_data refusal.UntilPast = fault (codes "UntilPast") []
 refusal_data (refusal.SubRefused sub) = named_fault (codes "SubRefused") (codes "sub") sub
 refusal_data (refusal.Limit limit) = named_fault (codes "Limit") (codes "limit") (limit_name limit)
+refusal_data refusal.Store = fault (codes "Store") []
 refusal_data refusal.Spent = fault (codes "Spent") []
 refusal_data refusal.Memory = fault (codes "Memory") []
 

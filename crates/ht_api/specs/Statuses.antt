@@ -32,6 +32,7 @@ refusal_status refusal.NotSkipable = 422
 refusal_status refusal.UntilPast = 422
 refusal_status (refusal.SubRefused sub) = 422
 refusal_status (refusal.Limit limit) = 507
+refusal_status refusal.Store = 503
 refusal_status refusal.Spent = 503
 refusal_status refusal.Memory = 500
 

@@ -43,6 +43,8 @@ pub(crate) fn put_refusal(refusal: &Refusal, writer: &mut Writer) -> Result<(), 
         Refusal::SubRefused(sub) => put_named_fault("SubRefused", "sub", sub, writer),
         Refusal::Limit(Limit::Tasks) => put_limit_fault("tasks", writer),
         Refusal::Limit(Limit::Comments) => put_limit_fault("comments", writer),
+        Refusal::Limit(Limit::Journal) => put_limit_fault("journal", writer),
+        Refusal::Store => put_fault("Store", writer),
         Refusal::Spent => put_fault("Spent", writer),
         Refusal::Memory => put_fault("Memory", writer),
     }

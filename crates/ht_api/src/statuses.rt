@@ -39,7 +39,7 @@ fn status_of_refusal(refusal: &Refusal) -> u16
         Refusal::NoOutput(_) | Refusal::NotSkipable => 422,
         Refusal::UntilPast | Refusal::SubRefused(_) => 422,
         Refusal::Limit(_) => 507,
-        Refusal::Spent => 503,
+        Refusal::Store | Refusal::Spent => 503,
         Refusal::Memory => 500,
     }
 }

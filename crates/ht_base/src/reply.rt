@@ -7,6 +7,8 @@ pub enum Limit {
     Tasks,
     /// `MOST_COMMENTS`.
     Comments,
+    /// The length that the office gives its journal.
+    Journal,
 }
 
 /// What a command names that isn't there.
@@ -70,6 +72,9 @@ pub enum Refusal {
     /// The task has no entry of this name whose sub task could be made now.
     SubRefused(Name),
     Limit(Limit),
+    /// A disk failed in this call. What the event would leave is in doubt or isn't kept, or an earlier
+    /// doubt still stands.
+    Store,
     /// The caller's turns are spent. Nothing was changed.
     Spent,
     /// There is not enough memory. Nothing was changed.
