@@ -21,7 +21,7 @@ use Rattle.ht_models.specs.Model.{FinishOf, ModelOf}
 use Rattle.ht_entries.specs.SubEntries.{SubEntry, sub_entry}
 use Rattle.ht_tree.specs.declared.row.Row.{Row}
 use Rattle.ht_tree.specs.Creating.{bare_row}
-use Rattle.ht_tree.specs.Examples.{office}
+use Rattle.ht_finding.specs.Examples.{office}
 use Rattle.ht_tree.specs.Tables.{TablesOf, empty_tables}
 
 abbrev pub at : Moment

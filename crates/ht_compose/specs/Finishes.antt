@@ -20,7 +20,7 @@ use Rattle.ht_entries.specs.Finishes.{Setting}
 use Rattle.ht_models.specs.Kinded.{parts_of}
 use Rattle.ht_models.specs.Model.{FinishOf, ModelOf}
 use Rattle.ht_tree.specs.declared.row.Row.{Row}
-use Rattle.ht_tree.specs.Assigning.{is_true}
+use Rattle.ht_finding.specs.Assigning.{is_true}
 use Rattle.ht_tree.specs.Creating.{sees}
 
 -- ---- the finish that is chosen

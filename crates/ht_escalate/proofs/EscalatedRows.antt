@@ -12,12 +12,13 @@ use Rattle.ht_expr.specs.Assignments.{Assignment, is_individual}
 use Rattle.ht_models.specs.Model.{DeadlineOf, EscalationOf, ModelOf}
 use Rattle.ht_models.specs.Reassigning.{ReassignsOwned}
 use Rattle.ht_tree.specs.declared.row.Row.{Row}
-use Rattle.ht_tree.specs.Assigning.{is_found, potential_owners, Sight}
+use Rattle.ht_finding.specs.Assigning.{is_found, potential_owners, Sight}
 use Rattle.ht_tree.specs.Creating.{seen_in}
 use Rattle.ht_base.specs.State.{is_final}
 use Rattle.ht_tree.specs.Soundness.{IsHeld, IsHeldBy, IsSoundRow, is_created, is_owned, is_ownerless, is_suspended, needs_owner}
 use Rattle.ht_tree.specs.Tables.{TablesOf, directory, model_of}
-use Rattle.ht_tree.proofs.PublicLaws.{all_selected, none_excluded, selected_ascends, taken_ascends, taken_below}
+use Rattle.ht_finding.proofs.PublicLaws.{none_excluded, selected_ascends}
+use Rattle.ht_tree.proofs.PublicLaws.{all_selected, taken_ascends, taken_below}
 use Rattle.ht_escalate.proofs.NewOwners.{of_this}
 
 -- ---- states

@@ -19,7 +19,7 @@ use Rattle.ht_models.specs.Reassigning.{ReassignOwned}
 use Rattle.ht_people.specs.Directory.{DirectoryOf}
 use Rattle.ht_tree.specs.declared.notice.Notice.{Notice}
 use Rattle.ht_tree.specs.declared.row.Row.{Row}
-use Rattle.ht_tree.specs.Assigning.{Sight}
+use Rattle.ht_finding.specs.Assigning.{Sight}
 use Rattle.ht_tree.specs.Creating.{seen_in}
 use Rattle.ht_base.specs.State.{is_final}
 use Rattle.ht_tree.specs.Plans.{Goes, IsNext, Lends, PlanOf, planned}

@@ -15,12 +15,13 @@ use Rattle.ht_models.specs.Model.{DeadlineOf, EscalationOf, ModelOf}
 use Rattle.ht_people.specs.Membership.{everybody}
 use Rattle.ht_tree.specs.declared.notice.Notice.{Notice}
 use Rattle.ht_tree.specs.declared.row.Row.{Row}
-use Rattle.ht_tree.specs.Assigning.{Sight, is_found}
+use Rattle.ht_finding.specs.Assigning.{Sight, is_found}
 use Rattle.ht_tree.specs.Plans.{Goes, PlanOf, planned}
 use Rattle.ht_tree.specs.Rows.{row_at}
 use Rattle.ht_tree.specs.Soundness.{IsSound, IsSoundNotice, has_escalation}
 use Rattle.ht_tree.specs.Tables.{TablesOf, directory, model_of, with_notice}
-use Rattle.ht_tree.proofs.PublicLaws.{all_selected, notice_sound, selected_ascends}
+use Rattle.ht_finding.proofs.PublicLaws.{selected_ascends}
+use Rattle.ht_tree.proofs.PublicLaws.{all_selected, notice_sound}
 
 -- ---- the tables are sound with them
 

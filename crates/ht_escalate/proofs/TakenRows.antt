@@ -10,7 +10,7 @@ use Rattle.ht_expr.specs.Assignments.{Assignment, is_individual}
 use Rattle.ht_models.specs.Model.{DeadlineOf, ModelOf}
 use Rattle.ht_people.specs.Directory.{DirectoryOf}
 use Rattle.ht_tree.specs.declared.row.Row.{Row}
-use Rattle.ht_tree.specs.Assigning.{potential_owners, Sight}
+use Rattle.ht_finding.specs.Assigning.{potential_owners, Sight}
 use Rattle.ht_tree.specs.Creating.{seen_in}
 use Rattle.ht_base.specs.State.{is_final}
 use Rattle.ht_tree.specs.Soundness.{is_created, is_suspended}

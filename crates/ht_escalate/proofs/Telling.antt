@@ -7,7 +7,7 @@ use Rattle.ht_escalate.specs.Escalating.{is_triggered, triggered}
 use Rattle.ht_models.specs.Model.{EscalationOf}
 use Rattle.ht_models.specs.Shown as shown
 use Rattle.ht_models.specs.declared.model.Escalation.{Escalation}
-use Rattle.ht_tree.specs.Assigning.{Sight}
+use Rattle.ht_finding.specs.Assigning.{Sight}
 use Rattle.ht_tree.specs.declared.notice.Notice.{Notice}
 
 module _ (N : EscalationOf → Option Notice) (s : Sight) where

@@ -13,7 +13,7 @@ use Rattle.ht_models.specs.Model.{DeadlineOf, EscalationOf, ModelOf}
 use Rattle.ht_people.specs.Directory.{DirectoryOf}
 use Rattle.ht_tree.specs.declared.notice.Notice.{Notice}
 use Rattle.ht_tree.specs.declared.row.Row.{Row}
-use Rattle.ht_tree.specs.Assigning.{Sight, is_true, potential_owners, resolved}
+use Rattle.ht_finding.specs.Assigning.{Sight, is_true, potential_owners, resolved}
 use Rattle.ht_tree.specs.Creating.{seen_in}
 pub use Rattle.ht_tree.specs.Passed.{taken_with}
 use Rattle.ht_tree.specs.Plans.{Goes, PlanOf, planned}

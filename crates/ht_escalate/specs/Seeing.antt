@@ -12,7 +12,7 @@ use Rattle.ht_models.specs.Shown as shown
 use Rattle.ht_people.specs.Directory.{DirectoryOf}
 use Rattle.ht_tree.specs.declared.notice.Notice.{Notice}
 use Rattle.ht_tree.specs.declared.row.Row.{Row}
-use Rattle.ht_tree.specs.Assigning.{Sight, potential_owners}
+use Rattle.ht_finding.specs.Assigning.{Sight, potential_owners}
 use Rattle.ht_tree.specs.Creating.{seen_in, sees}
 use Rattle.ht_tree.specs.Plans.{IsSoundPlan, PlanOf, planned}
 use Rattle.ht_tree.specs.Tables as tables

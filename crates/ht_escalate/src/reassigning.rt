@@ -3,17 +3,19 @@ ghost use Rattle.ht_base.specs.Persons.{Ascends, has};
 ghost use Rattle.ht_escalate.specs.Escalating as spec;
 ghost use Rattle.ht_escalate.specs.Seeing as seeing;
 ghost use Rattle.ht_escalate.specs.Seeing.{IsSeen, env_of, kinds_of, people_of, row_of, sight_of};
+ghost use Rattle.ht_expr.specs.AssignmentKinds.{Assigns};
 ghost use Rattle.ht_expr.specs.Assignments.{is_individual};
 ghost use Rattle.ht_expr.specs.Shown as tree;
-ghost use Rattle.ht_models.specs.Kinded.{Assigns, Ends};
+ghost use Rattle.ht_models.specs.Kinded.{Ends};
 ghost use Rattle.ht_models.specs.Shown as shown;
 
 use crate::seen::Seen;
 use crate::triggering::is_triggered;
 use ht_base::{Memory, Persons, State};
 use ht_expr::{Assign, Env};
+use ht_finding::without;
 use ht_models::Deadline;
-use ht_tree::{Row, resolve_seen, without};
+use ht_tree::{Row, resolve_seen};
 use std::alloc::Global;
 
 /// To whom a task is given, and whether by a group.

@@ -1,3 +1,4 @@
+pub mod AssignmentKinds
 pub mod Assignments
 pub mod Building
 pub mod Codes

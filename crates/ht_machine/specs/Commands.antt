@@ -21,7 +21,7 @@ use Rattle.ht_owner.specs.Effects.{Effect, does, effect, refuses}
 use Rattle.ht_people.specs.Directory.{DirectoryOf}
 use Rattle.ht_tree.specs.declared.row.Row.{Row}
 use Rattle.ht_tree.specs.Creating.{is_full, new_row}
-use Rattle.ht_tree.specs.Giving.{refused_part, values_given}
+use Rattle.ht_finding.specs.Giving.{refused_part, values_given}
 use Rattle.ht_tree.specs.Tables.{TablesOf, directory, model_at, model_named, model_of, task_row, with_row}
 use Rattle.ht_machine.specs.Following.{Spreads}
 use Rattle.ht_machine.specs.Gate.{Gate, gate, opens, shuts}

@@ -42,7 +42,8 @@ use Rattle.ht_tree.specs.declared.slot.Kept.{Kept}
 use Rattle.ht_tree.specs.declared.slot.Kept.TheVariants as reply
 use Rattle.ht_tree.specs.declared.slot.Slot.{Slot}
 use Rattle.ht_tree.specs.Creating.{new_row}
-use Rattle.ht_tree.specs.Examples.{office, shut, unit}
+use Rattle.ht_finding.specs.Examples.{office}
+use Rattle.ht_tree.specs.Examples.{shut, unit}
 use Rattle.ht_tree.specs.RowDues.{first_due}
 use Rattle.ht_tree.specs.Tables.{TablesOf, empty_tables}
 

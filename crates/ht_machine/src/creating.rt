@@ -11,10 +11,11 @@ ghost use Rattle.ht_tree.specs.Plans.{IsSoundPlan, planned};
 
 use ht_base::{Limit, Memory, Moment, Name, Parts, Person, Refusal, TaskId, Unknown};
 use ht_compose::activate;
+use ht_finding::{refused_part, values_given};
 use ht_models::Model;
 use ht_owner::ActRefusal;
 use ht_people::Directory;
-use ht_tree::{CreateRefusal, Plan, Tables, refused_part, values_given};
+use ht_tree::{CreateRefusal, Plan, Tables};
 use std::alloc::Global;
 
 /// Plans a new task of the model with this name, or else of the first, and its activation, unless it

@@ -12,9 +12,9 @@ use Rattle.ht_expr.specs.Trees.{Tree, an_assignment, an_expression}
 use Rattle.ht_expr.specs.declared.assignment.Assign.{Assign}
 use Rattle.ht_expr.specs.declared.refusal.ExprRefusal.{ExprRefusal}
 use Rattle.ht_expr.specs.declared.refusal.ExprRefusal.TheVariants as refusal
+use Rattle.ht_expr.specs.AssignmentKinds.{Assigns}
 use Rattle.ht_expr.proofs.PublicLaws.{one_written}
 use Rattle.ht_models.specs.Expressions.{Asked, IsRefused, One, Spells, asked, assignment, expression}
-use Rattle.ht_models.specs.Kinded.{Assigns}
 use Rattle.ht_models.specs.Reading.{IsIfAny, IsOr}
 use Rattle.ht_models.specs.Shown.{tree_or}
 

@@ -1,15 +1,14 @@
 -- The expressions, assignments and finishes of a model that was read speak of the parts that the model
 -- declares, each as its kind is.
-use Rattle.std.specs.Prelude.{◌≡◌, true, All, List, ◌++◌, map, Some, IfSome}
+use Rattle.std.specs.Prelude.{◌≡◌, All, List, ◌++◌, map, Some, IfSome}
 use Rattle.ht_base.specs.declared.kind.Kind.{Kind}
 use Rattle.ht_base.specs.declared.kind.Kind.TheVariants.{Int, Truth}
 use Rattle.ht_base.specs.Kinds.{kind_of_how}
-use Rattle.ht_expr.specs.declared.assignment.Assign.{Assign}
+use Rattle.ht_expr.specs.AssignmentKinds.{Assigns}
 use Rattle.ht_expr.specs.declared.kinds.Side.TheVariants.{Input, Output}
 use Rattle.ht_expr.specs.Kinds.{Declared, declared_kind}
-use Rattle.ht_expr.specs.KindTable.{assigns, kind_of}
+use Rattle.ht_expr.specs.KindTable.{kind_of}
 use Rattle.ht_expr.specs.Nodes.{ExprOf}
-use Rattle.ht_expr.specs.Shown.{AreDeclared, shown}
 use Rattle.ht_models.specs.declared.model.Deadline.{Deadline}
 use Rattle.ht_models.specs.declared.model.Escalation.{Escalation}
 use Rattle.ht_models.specs.declared.model.Finish.{Finish}
@@ -25,11 +24,6 @@ parts_of input output = map (λ p. (Input, p.name, p.kind)) input ++ map (λ p. 
 pub record IsOfKind (kinds : Declared) (kind : Kind) (e : ExprOf) : Type 0 where
   pub declared : e.kinds ≡ kinds
   pub is : kind_of kinds e.tree ≡ Some kind
-
--- an assignment whose parts are persons, and whose conditions are truths
-pub record Assigns (kinds : Declared) (a : Assign) : Type 0 where
-  pub declared : AreDeclared kinds a
-  pub fits : assigns kinds (shown a) ≡ true
 
 pub record Escalates (kinds : Declared) (e : Escalation) : Type 0 where
   pub when : IfSome e.when (IsOfKind kinds Truth)

@@ -1,8 +1,9 @@
 ghost use Rattle.std.specs.Prelude.{◌≡◌, ◌≢◌, IfErr, IfOk, IfSome, option_map};
+ghost use Rattle.ht_expr.specs.AssignmentKinds.{Assigns};
 ghost use Rattle.ht_expr.specs.Shown.{shown};
 ghost use Rattle.ht_expr.specs.Trees.{nobody};
 ghost use Rattle.ht_models.specs.Expressions.{IsRefused, One, Spells, asked, assignment, expression};
-ghost use Rattle.ht_models.specs.Kinded.{Assigns, IsOfKind};
+ghost use Rattle.ht_models.specs.Kinded.{IsOfKind};
 ghost use Rattle.ht_models.specs.Reading.{IsIfAny, IsOr};
 
 use ht_base::{Kind, Txt};

@@ -49,11 +49,12 @@ use Rattle.ht_rules.specs.Judging.{verdict}
 use Rattle.ht_rules.proofs.PublicLaws.{IsCaller, IsNamed, caller_is_potential, named_is_delegate}
 use Rattle.ht_tree.specs.declared.comments.Comment.{Comment}
 use Rattle.ht_tree.specs.declared.row.Row.{Row}
-use Rattle.ht_tree.specs.Giving.{values_given}
+use Rattle.ht_finding.specs.Giving.{values_given}
 use Rattle.ht_tree.specs.Roles.{roles_in}
 use Rattle.ht_tree.specs.Soundness.{AreApart, ArePeople, IsHeldBy, IsSoundRow, is_suspended, needs_owner}
 use Rattle.ht_tree.specs.Tables.{TablesOf, model_of}
-use Rattle.ht_tree.proofs.PublicLaws.{all_selected, filed_of, given_output_held, has_selected, selected_apart, selected_ascends, updated_held}
+use Rattle.ht_finding.proofs.PublicLaws.{has_selected, selected_apart, selected_ascends}
+use Rattle.ht_tree.proofs.PublicLaws.{all_selected, filed_of, given_output_held, updated_held}
 
 both_true : (a b : Bool) → (a && b) ≡ true → b ≡ true
 both_true true b h = h

@@ -25,7 +25,7 @@ use Rattle.ht_owner.specs.Suspending.{end_at}
 use Rattle.ht_people.specs.Directory.{DirectoryOf, find}
 use Rattle.ht_people.specs.Membership.{everybody}
 use Rattle.ht_tree.specs.declared.row.Row.{Row}
-use Rattle.ht_tree.specs.Giving.{values_given}
+use Rattle.ht_finding.specs.Giving.{values_given}
 
 -- the row after it and what follows on others, or why it isn't done
 pub data Effect : Type 0 where

@@ -29,7 +29,8 @@ use Rattle.ht_owner.specs.Suspending.{end_at}
 use Rattle.ht_tree.specs.declared.comments.Comment.{Comment}
 use Rattle.ht_tree.specs.declared.row.Row.{Row}
 use Rattle.ht_tree.specs.Creating.{bare_row}
-use Rattle.ht_tree.specs.Examples.{office, unit}
+use Rattle.ht_finding.specs.Examples.{office}
+use Rattle.ht_tree.specs.Examples.{unit}
 
 abbrev at : ℕ → Moment
 at n = record { 0 = n }

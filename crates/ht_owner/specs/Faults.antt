@@ -27,9 +27,9 @@ use Rattle.ht_owner.specs.Suspending.{end_at}
 use Rattle.ht_people.specs.Directory as people
 use Rattle.ht_people.specs.Directory.{DirectoryOf}
 use Rattle.ht_tree.specs.declared.row.Row.{Row}
-use Rattle.ht_tree.specs.Assigning.{resolved}
+use Rattle.ht_finding.specs.Assigning.{resolved}
 use Rattle.ht_tree.specs.Creating.{seen_in}
-use Rattle.ht_tree.specs.Giving.{refused_part}
+use Rattle.ht_finding.specs.Giving.{refused_part}
 
 -- ---- each fault
 

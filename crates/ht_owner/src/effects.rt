@@ -16,9 +16,10 @@ use crate::naming::{forwarded, persons_named, with_named, without_named};
 use crate::suspending::end_at;
 use crate::{ActRefusal, Follow};
 use ht_base::{Command, Memory, Moment, Name, Op, Parts, Person, RoleList, Values};
+use ht_finding::values_given;
 use ht_models::Model;
 use ht_people::Directory;
-use ht_tree::{Comment, Plan, Row, Tables, values_given};
+use ht_tree::{Comment, Plan, Row, Tables};
 use std::alloc::Global;
 use std::mem;
 

@@ -13,9 +13,10 @@ use ht_base::{
     RoleList, Unknown, Values,
 };
 use ht_entries::{Delegation, Part};
+use ht_finding::refused_part;
 use ht_models::Model;
 use ht_people::Directory;
-use ht_tree::{Plan, Row, Tables, refused_part, resolve};
+use ht_tree::{Plan, Row, Tables, resolve};
 use std::alloc::Global;
 
 /// Why a command on a task of this model isn't done, if it isn't.

@@ -12,7 +12,7 @@ use Rattle.ht_expr.specs.Assignments.{Assignment}
 use Rattle.ht_models.specs.Model.{ModelOf}
 use Rattle.ht_tree.specs.declared.row.Row.{Row}
 use Rattle.ht_expr.specs.Values.{Outcome, a_moment, a_number, a_person, a_text, a_truth, nothing}
-use Rattle.ht_tree.specs.Assigning.{Sight, is_found, potential_owners, resolved}
+use Rattle.ht_finding.specs.Assigning.{Sight, is_found, potential_owners, resolved}
 use Rattle.ht_tree.specs.declared.comments.Comment.{Comment}
 use Rattle.std.specs.List.{All}
 use Rattle.ht_tree.specs.Creating.{IsInput, bare_row, level_of, new_row, parent_row, role_or, seen, with_priority}
@@ -24,8 +24,7 @@ use Rattle.ht_base.specs.Moment.{last_moment}
 use Rattle.ht_tree.specs.Soundness.{AreKnown, Fits, FitsIn, IsFiled, IsHeldBy, IsSound, IsSoundIn, IsSoundRow, IsWhose, needs_owner}
 use Rattle.ht_tree.specs.Tables.{TablesOf, administrators_of, stakeholders_of, task_row}
 use Rattle.ht_tree.proofs.Putting.{row_at-put_in}
-use Rattle.ht_tree.proofs.Excluding.{none_excluded}
-use Rattle.ht_tree.proofs.Selecting.{selected_ascends}
+use Rattle.ht_finding.proofs.PublicLaws.{none_excluded, selected_ascends}
 
 -- whoever is selected is a person
 selected_persons : (t : TablesOf) (test : ℕ → Bool) (from n : ℕ) → from + n ≤ length t.people.persons → AllBelow (length t.people.persons) (filter test (range_with_len from n))

@@ -28,10 +28,10 @@ use Rattle.ht_models.specs.Kinded.{parts_of}
 use Rattle.ht_entries.specs.Parts.{Part}
 use Rattle.ht_people.specs.declared.entries.PersonEntry.{PersonEntry}
 use Rattle.ht_people.specs.Directory.{DirectoryOf, find as find_person}
-use Rattle.ht_tree.specs.Assigning.{find_user}
-use Rattle.ht_tree.specs.Giving.{moment_given, part_named, value_of, values_given}
+use Rattle.ht_finding.specs.Assigning.{find_user}
+use Rattle.ht_finding.specs.Giving.{moment_given, part_named, value_of, values_given}
 use Rattle.ht_tree.specs.Soundness.{AreHeld, is_declared, is_known, is_short, is_timely}
-use Rattle.ht_tree.proofs.Selecting.{below_is}
+use Rattle.ht_finding.proofs.PublicLaws.{below_is}
 
 -- the kind of each part is the one that is declared for it
 abbrev DeclaresOf : Declared → Side → List Part → Type 0

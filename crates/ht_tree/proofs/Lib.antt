@@ -5,7 +5,6 @@ mod Coming
 mod Counting
 mod DueRows
 mod DuesInStep
-mod Excluding
 mod Families
 mod FewSubs
 mod Filing
@@ -17,17 +16,14 @@ mod LeastDues
 mod Mapped
 mod OneByOne
 mod OnlyOne
-mod PartsGiven
 mod Passed
 mod Places
-mod Plain
 mod Planning
 pub mod PublicLaws
 mod Putting
 mod Replacing
 mod Rows
 mod Seeing
-mod Selecting
 mod Slots
 mod Sounding
 mod Steps

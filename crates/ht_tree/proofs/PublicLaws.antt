@@ -3,7 +3,6 @@ pub use Rattle.ht_tree.proofs.Activation.{by_people}
 pub use Rattle.ht_tree.proofs.Again.{IsPutAgain, filed_of, lent_file, put_again_of}
 pub use Rattle.ht_tree.proofs.DueRows.{HasRow, IsOfDeadline, IsOfRow, all_dues_ascend, changed_there, due_of_row, kept_or_changed, means_due, row_of_due}
 pub use Rattle.ht_tree.proofs.DuesInStep.{changed_ascend, has_planned, of_changed}
-pub use Rattle.ht_tree.proofs.Excluding.{none_excluded}
 pub use Rattle.ht_tree.proofs.HeldGiven.{given_held, given_output_held, updated_held}
 pub use Rattle.ht_tree.proofs.Filing.{file_of}
 pub use Rattle.ht_tree.proofs.Fitting.{all_selected, sound_row_fits}
@@ -13,7 +12,6 @@ pub use Rattle.ht_tree.proofs.Passed.{taken_ascends, taken_below}
 pub use Rattle.ht_tree.proofs.Putting.{length-put_in, put_new, put_old, row_at-put_in}
 pub use Rattle.ht_tree.proofs.Rows.{some_at}
 pub use Rattle.ht_tree.proofs.Seeing.{row_seen}
-pub use Rattle.ht_tree.proofs.Selecting.{below_has, joined_by, rest_below, either_of, first_of_two, has_selected, if_ok, selected, selected_apart, selected_ascends}
 pub use Rattle.ht_tree.proofs.Slots.{new_slot_found, other_slot_found, slot_is, slots_with_ascend}
 pub use Rattle.ht_tree.proofs.Sounding.{notice_sound, slot_sound, sound_at, within}
 pub use Rattle.ht_tree.proofs.SubTasks.{lower, no_sub_task}

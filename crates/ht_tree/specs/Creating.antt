@@ -15,7 +15,7 @@ use Rattle.ht_models.specs.Kinded.{parts_of}
 use Rattle.ht_models.specs.Model.{ModelOf}
 use Rattle.ht_people.specs.Directory.{DirectoryOf}
 use Rattle.ht_tree.specs.declared.row.Row.{Row}
-use Rattle.ht_tree.specs.Assigning.{Sight, potential_owners, resolved, sight}
+use Rattle.ht_finding.specs.Assigning.{Sight, potential_owners, resolved, sight}
 use Rattle.ht_tree.specs.Families.{sub_tasks}
 use Rattle.ht_tree.specs.Soundness.{AreHeld}
 use Rattle.ht_tree.specs.Sizes.{total_size}

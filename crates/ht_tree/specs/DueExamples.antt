@@ -11,7 +11,7 @@ use Rattle.ht_entries.specs.declared.deadlines.DeadlineKind.TheVariants.{Start, 
 use Rattle.ht_models.specs.Model.{DeadlineOf, ModelOf}
 use Rattle.ht_tree.specs.declared.row.Row.{Row}
 use Rattle.ht_tree.specs.Creating.{bare_row}
-use Rattle.ht_tree.specs.Examples.{office}
+use Rattle.ht_finding.specs.Examples.{office}
 use Rattle.ht_tree.specs.RowDues.{all_dues, changed_dues, deadline_moment, row_dues}
 use Rattle.ht_tree.specs.Tables.{empty_tables}
 

@@ -1,10 +1,8 @@
 pub mod Activation
-pub mod Assigning
 pub mod Creating
 pub mod DueExamples
 pub mod Examples
 pub mod Families
-pub mod Giving
 pub mod Kept
 pub mod KeptIndex
 pub mod Passed

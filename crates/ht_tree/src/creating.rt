@@ -1,14 +1,15 @@
 ghost use Rattle.std.specs.Prelude.{◌≡◌, ◌<◌, ◌≤◌, ◌+◌, ◌^◌, false, true, [], IfOk, IfSome, IsTrue, OnErr, OnOk, None, Some, Err, length, option_map, pos};
 ghost use Rattle.std.specs.Option.{option_map_or};
 ghost use Rattle.ht_base.specs.Moment.{last_moment};
+ghost use Rattle.ht_expr.specs.AssignmentKinds.{Assigns};
 ghost use Rattle.ht_expr.specs.Environment.{has_parts};
 ghost use Rattle.ht_expr.specs.Kinds.{Declared};
 ghost use Rattle.ht_expr.specs.Shown.{shown};
 ghost use Rattle.ht_expr.specs.Values.{a_number, value};
-ghost use Rattle.ht_models.specs.Kinded.{Assigns, IsKinded, parts_of};
+ghost use Rattle.ht_models.specs.Kinded.{IsKinded, parts_of};
 ghost use Rattle.ht_models.specs.Model.{ModelOf};
 ghost use Rattle.ht_models.specs.Shown.{model_of};
-ghost use Rattle.ht_tree.specs.Assigning.{potential_owners, resolved, sight};
+ghost use Rattle.ht_finding.specs.Assigning.{potential_owners, resolved, sight};
 ghost use Rattle.ht_tree.specs.Creating as spec;
 ghost use Rattle.ht_tree.specs.Creating.{IsInput, is_full, level_of, role_or, sight_by};
 ghost use Rattle.ht_tree.specs.Families.{MayCome};
@@ -16,13 +17,13 @@ ghost use Rattle.ht_tree.specs.Plans.{GoesByRow, IsPlanOf, planned};
 ghost use Rattle.ht_tree.specs.Soundness.{KeepsSound};
 ghost use Rattle.ht_tree.specs.Tables.{model_at};
 
-use crate::assigning::{found, without};
 use crate::{Comments, Plan, Row, Tables, Taken};
 use ht_base::{
     LOWEST_PRIORITY, MIDDLE_PRIORITY, MOST_TASKS, Memory, Moment, Person, Persons, State, TaskId,
     Values,
 };
 use ht_expr::{Assign, Env, Subs};
+use ht_finding::{found, without};
 use ht_models::Model;
 use ht_people::Directory;
 use std::alloc::Global;

@@ -1,5 +1,5 @@
-//! The rows of the tasks, whom a people assignment finds, and planned changes: a plan is prepared
-//! with all the memory that it takes, and then its commit gives just the planned rows.
+//! The rows of the tasks, whom the assignments of a row's model find for it, and planned changes: a plan
+//! is prepared with all the memory that it takes, and then its commit gives just the planned rows.
 #![tactic(auto)]
 
 mod activating;
@@ -9,7 +9,6 @@ mod comments;
 mod creating;
 mod exchanging;
 mod family;
-mod giving;
 mod index;
 mod least_dues;
 mod notice;
@@ -23,12 +22,11 @@ mod tables;
 mod taken;
 
 pub use activating::{owner_by, state_by};
-pub use assigning::{env, env_with, resolve, resolve_seen, see, without};
+pub use assigning::{env, env_with, resolve, resolve_seen, see};
 pub use changed_dues::{dues_after, dues_behind, is_due};
 pub use comments::{Comment, Comments};
 pub use creating::{CreateRefusal, create};
 pub use family::sub_tasks;
-pub use giving::{refused_part, values_given};
 pub use least_dues::least_changed;
 pub use notice::Notice;
 pub use plan::Plan;

@@ -5,7 +5,7 @@ use Rattle.ht_expr.specs.Assignments.{Assignment, is_individual}
 use Rattle.ht_expr.specs.Shown as tree
 use Rattle.ht_models.specs.Model.{ModelOf}
 use Rattle.ht_models.specs.Shown as shown
-use Rattle.ht_tree.specs.Assigning.{Sight, potential_owners, resolved}
+use Rattle.ht_finding.specs.Assigning.{Sight, potential_owners, resolved}
 use Rattle.ht_tree.specs.Creating.{seen_in}
 use Rattle.ht_tree.specs.Plans.{planned}
 use Rattle.ht_tree.specs.Tables.{directory, model_of}

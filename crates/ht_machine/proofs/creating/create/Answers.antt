@@ -15,7 +15,7 @@ use Rattle.ht_models.specs.Shown.{model_of}
 use Rattle.ht_owner.specs.declared.refusal.ActRefusal.{ActRefusal}
 use Rattle.ht_people.specs.Directory.{DirectoryOf}
 use Rattle.ht_tree.specs.Creating.{IsInput, new_row}
-use Rattle.ht_tree.specs.Giving.{values_given}
+use Rattle.ht_finding.specs.Giving.{values_given}
 use Rattle.ht_tree.specs.Plans.{Goes, planned}
 use Rattle.ht_tree.specs.Soundness.{AreHeld}
 use Rattle.ht_tree.specs.Tables.{TablesOf, directory, model_at, with_row}

@@ -2,7 +2,7 @@ use Rattle.std.proofs.Common.{◌≡◌, ℕ, nat_lt, Bool, ◌&&◌, ◌||◌, 
 use Rattle.ht_base.specs.Persons.{has}
 use Rattle.ht_owner.specs.Effects.{is_forwarder}
 use Rattle.ht_owner.specs.Naming.{is_named}
-use Rattle.ht_tree.proofs.PublicLaws.{below_has, joined_by, rest_below, either_of, if_ok}
+use Rattle.ht_finding.proofs.PublicLaws.{below_has, joined_by, rest_below, either_of, if_ok}
 use Rattle.ht_owner.proofs.naming.forwarded.Goals as goal
 
 pub returns : goal.returns

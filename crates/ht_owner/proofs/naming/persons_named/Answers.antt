@@ -1,7 +1,7 @@
 use Rattle.std.proofs.Common.{◌≡◌, ℕ, nat_lt, ◌&&◌, List, length, take, ap, ◌∙◌, arith}
 use Rattle.std.proofs.lemmas.List.{take_all}
 use Rattle.ht_owner.specs.Naming.{is_named}
-use Rattle.ht_tree.proofs.PublicLaws.{selected}
+use Rattle.ht_finding.proofs.PublicLaws.{selected}
 use Rattle.ht_owner.proofs.naming.persons_named.Goals as goal
 
 pub returns : goal.returns

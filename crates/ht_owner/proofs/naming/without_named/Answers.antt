@@ -1,7 +1,7 @@
 use Rattle.std.proofs.Common.{◌&&◌, not, length}
 use Rattle.ht_base.specs.Persons.{has}
 use Rattle.ht_owner.specs.Naming.{is_named}
-use Rattle.ht_tree.proofs.PublicLaws.{below_has, joined_by, first_of_two}
+use Rattle.ht_finding.proofs.PublicLaws.{below_has, joined_by, first_of_two}
 use Rattle.ht_owner.proofs.naming.without_named.Goals as goal
 
 pub returns : goal.returns

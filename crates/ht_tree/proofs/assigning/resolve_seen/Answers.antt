@@ -1,24 +1,24 @@
 use Rattle.ht_tree.specs.Rows.{model_in}
 use Rattle.std.proofs.Common.{◌≡◌, ℕ, true, List, [], Option, Some, None, IfSome, IsTrue, length, refl, ap, sym, subst, ◌∙◌}
+use Rattle.ht_expr.specs.AssignmentKinds.{Assigns}
 use Rattle.ht_expr.specs.Assignments.{is_plain}
 use Rattle.ht_expr.specs.declared.assignment.Assign.{Assign}
 use Rattle.ht_expr.specs.declared.environment.Env.{Env}
 use Rattle.ht_expr.specs.Environment.{has_parts}
 use Rattle.ht_expr.specs.Kinds.{Declared}
 use Rattle.ht_expr.specs.Shown.{shown}
-use Rattle.ht_models.specs.Kinded.{Assigns, parts_of}
+use Rattle.ht_finding.proofs.PublicLaws.{if_ok, resolved_same}
+use Rattle.ht_models.specs.Kinded.{parts_of}
 use Rattle.ht_models.specs.Model.{ModelOf}
 use Rattle.ht_people.specs.Directory.{DirectoryOf}
 use Rattle.ht_tree.specs.declared.row.Row.{Row}
-use Rattle.ht_tree.specs.Assigning.{resolved, sight}
+use Rattle.ht_finding.specs.Assigning.{resolved, sight}
 use Rattle.ht_tree.specs.Creating.{seen_in}
 use Rattle.ht_tree.specs.Plans.{planned}
 use Rattle.ht_tree.specs.Soundness.{IsHeldBy}
 use Rattle.ht_tree.specs.Tables.{directory, model_of}
-use Rattle.ht_tree.proofs.Plain.{resolved_same}
 use Rattle.ht_tree.proofs.Rows.{some_at}
 use Rattle.ht_tree.proofs.Seeing.{row_seen}
-use Rattle.ht_tree.proofs.Selecting.{if_ok}
 use Rattle.ht_tree.proofs.assigning.resolve_seen.Goals as goal
 
 of_model : {A : Type 0} (P : A → Type 0) (o : Option A) (x : A) → o ≡ Some x → IfSome o P → P x

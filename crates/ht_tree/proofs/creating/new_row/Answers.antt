@@ -14,7 +14,7 @@ use Rattle.ht_models.specs.Model.{ModelOf}
 use Rattle.ht_models.specs.Shown.{model_of}
 use Rattle.ht_tree.specs.declared.comments.Comment.{Comment}
 use Rattle.ht_tree.specs.declared.row.Row.{Row}
-use Rattle.ht_tree.specs.Assigning.{Sight, potential_owners, resolved, sight}
+use Rattle.ht_finding.specs.Assigning.{Sight, potential_owners, resolved, sight}
 use Rattle.ht_tree.specs.Creating.{bare_row, env_of, level_of, new_row, parent_row, role_or, seen, with_priority}
 use Rattle.ht_tree.specs.Plans.{planned}
 use Rattle.ht_tree.specs.Tables.{TablesOf, model_at}

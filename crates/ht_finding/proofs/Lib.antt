@@ -1,0 +1,5 @@
+mod Excluding
+mod PartsGiven
+mod Plain
+pub mod PublicLaws
+mod Selecting

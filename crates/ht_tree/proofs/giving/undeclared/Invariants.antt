@@ -1,6 +1,0 @@
-use Rattle.std.proofs.Common.{◌≡◌, drop}
-use Rattle.ht_tree.specs.Giving.{undeclared}
-use Rattle.ht_tree.proofs.giving.undeclared.Given as goal
-
-abbrev pub invariant-loop-name : goal.invariant-loop-name
-invariant-loop-name l = undeclared l.parts l.name-items ≡ undeclared l.parts (drop l.name-index l.name-items)
