@@ -5,7 +5,7 @@ use Rattle.ht_base.specs.declared.task_id.TaskId.{TaskId}
 use Rattle.ht_compose.specs.Finding.{rows_of}
 use Rattle.ht_compose.specs.Finishes.{all_ended, chosen, chosen_by, completed, default, first_true}
 use Rattle.ht_compose.proofs.Entries.{completed_again, completed_among, ended_among, subs_again}
-use Rattle.ht_expr.specs.declared.environment.Env.{Env}
+use Rattle.ht_value.specs.declared.environment.Env.{Env}
 use Rattle.ht_models.specs.Model.{FinishOf, ModelOf}
 use Rattle.ht_tree.specs.declared.row.Row.{Row}
 use Rattle.ht_tree.specs.Creating.{sees}

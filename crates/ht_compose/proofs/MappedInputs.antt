@@ -13,7 +13,7 @@ use Rattle.ht_base.specs.declared.values.Values.{Values}
 use Rattle.ht_base.specs.Values.{value_of}
 use Rattle.ht_compose.specs.Items.{mapped}
 use Rattle.ht_expr.specs.declared.kinds.Side.TheVariants.{Input}
-use Rattle.ht_expr.specs.Environment.{may_be}
+use Rattle.ht_value.specs.Environment.{may_be}
 use Rattle.ht_models.specs.Kinded.{parts_of}
 use Rattle.ht_models.specs.MappedInputs.{IsMappedPair}
 use Rattle.ht_models.specs.Model.{ModelOf}

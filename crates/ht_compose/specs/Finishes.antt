@@ -11,11 +11,11 @@ use Rattle.ht_base.specs.Kinds.{kind_of_how, kind_of_value}
 use Rattle.ht_base.specs.Values.{put, value_of}
 use Rattle.ht_base.specs.State.{is_completed, is_final}
 use Rattle.ht_tree.specs.Families.{is_of_entry}
-use Rattle.ht_expr.specs.declared.environment.Env.{Env}
+use Rattle.ht_value.specs.declared.environment.Env.{Env}
 use Rattle.ht_expr.specs.Kinds.{Declared}
 use Rattle.ht_expr.specs.KindTable.{same_kind}
 use Rattle.ht_expr.specs.Trees.{Tree}
-use Rattle.ht_expr.specs.Values.{value}
+use Rattle.ht_value.specs.Values.{value}
 use Rattle.ht_entries.specs.Finishes.{Setting}
 use Rattle.ht_models.specs.Kinded.{parts_of}
 use Rattle.ht_models.specs.Model.{FinishOf, ModelOf}

@@ -4,7 +4,7 @@ ghost use Rattle.ht_base.specs.Values.{value_of};
 ghost use Rattle.ht_compose.specs.Finding.{Finds, rows_of};
 ghost use Rattle.ht_compose.specs.Finishes as spec;
 ghost use Rattle.ht_compose.specs.Finishes.{Sets, chosen_by, default, of_kind, with_result};
-ghost use Rattle.ht_expr.specs.Environment.{has_parts};
+ghost use Rattle.ht_value.specs.Environment.{has_parts};
 ghost use Rattle.ht_expr.specs.Kinds.{Declared};
 ghost use Rattle.ht_expr.specs.KindTable.{same_kind};
 ghost use Rattle.ht_models.specs.Kinded.{HasTruth, IsKinded, parts_of};
@@ -16,9 +16,10 @@ ghost use Rattle.ht_tree.specs.Tables.{model_of, task_row};
 use ht_aggregate::aggregate;
 use ht_base::{How, Memory, Name, TaskId, Value, ValueList, Values};
 use ht_entries::Setting;
-use ht_expr::{Env, is_of_kind};
+use ht_expr::is_of_kind;
 use ht_models::{Finish, Model};
 use ht_tree::{Plan, Row, Tables, env_with};
+use ht_value::{Env, truth};
 use std::alloc::Global;
 
 /// The output that a composite task with these sub tasks has when it finishes, as it would be after the
@@ -104,7 +105,7 @@ fn applies(finish: &Finish, env: &Env) -> bool
         → result ≡ spec.applies kinds env.now (shown.finish_of finish.now) }
 {
     match &finish.when {
-        Some(condition) => condition.truth(env),
+        Some(condition) => truth(condition, env),
         None => false,
     }
 }

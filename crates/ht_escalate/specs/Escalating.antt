@@ -8,7 +8,7 @@ use Rattle.ht_base.specs.declared.state.State.TheVariants.{Ready, Reserved, InPr
 use Rattle.ht_base.specs.declared.task_id.TaskId.{TaskId}
 use Rattle.ht_base.specs.Persons.{has}
 use Rattle.ht_expr.specs.Assignments.{Assignment, is_individual}
-use Rattle.ht_expr.specs.Values.{value}
+use Rattle.ht_value.specs.Values.{value}
 use Rattle.ht_models.specs.Model.{DeadlineOf, EscalationOf, ModelOf}
 use Rattle.ht_people.specs.Directory.{DirectoryOf}
 use Rattle.ht_tree.specs.declared.notice.Notice.{Notice}

@@ -4,7 +4,7 @@ use Rattle.ht_escalate.specs.declared.reassigning.Owners.{Owners}
 use Rattle.ht_escalate.specs.declared.seen.Seen.{Seen}
 use Rattle.ht_escalate.specs.Escalating.{first_reassignment, given_to}
 use Rattle.ht_expr.specs.Assignments.{Assignment, is_individual}
-use Rattle.ht_expr.specs.declared.environment.Env.{Env}
+use Rattle.ht_value.specs.declared.environment.Env.{Env}
 use Rattle.ht_expr.specs.Kinds.{Declared}
 use Rattle.ht_models.specs.Kinded.{parts_of}
 use Rattle.ht_models.specs.Model.{DeadlineOf, ModelOf}

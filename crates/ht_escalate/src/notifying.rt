@@ -7,9 +7,9 @@ ghost use Rattle.ht_models.specs.Shown as shown;
 use crate::seen::Seen;
 use crate::triggering::is_triggered;
 use ht_base::{Memory, Moment};
-use ht_expr::Env;
 use ht_models::{Deadline, Escalation};
 use ht_tree::{Notice, Plan, resolve_seen};
+use ht_value::Env;
 use std::alloc::Global;
 
 /// The notifications that a deadline of a task sends at its due moment, in the order of its escalations.

@@ -12,10 +12,11 @@ ghost use Rattle.ht_models.specs.Shown as shown;
 use crate::seen::Seen;
 use crate::triggering::is_triggered;
 use ht_base::{Memory, Persons, State};
-use ht_expr::{Assign, Env};
+use ht_expr::Assign;
 use ht_finding::without;
 use ht_models::Deadline;
 use ht_tree::{Row, resolve_seen};
+use ht_value::Env;
 use std::alloc::Global;
 
 /// To whom a task is given, and whether by a group.

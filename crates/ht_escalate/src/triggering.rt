@@ -2,17 +2,18 @@ ghost use Rattle.std.specs.Prelude.{◌≡◌, IfOk, IfSome, IsTrue, OnOk};
 ghost use Rattle.ht_base.specs.declared.kind.Kind.TheVariants.{Truth};
 ghost use Rattle.ht_escalate.specs.Escalating as spec;
 ghost use Rattle.ht_escalate.specs.Seeing.{IsSeen, env_of, kinds_of, sight_of};
-ghost use Rattle.ht_expr.specs.Environment.{has_parts};
+ghost use Rattle.ht_value.specs.Environment.{has_parts};
 ghost use Rattle.ht_expr.specs.Kinds.{Declared};
-ghost use Rattle.ht_expr.specs.Values as values;
+ghost use Rattle.ht_value.specs.Values as values;
 ghost use Rattle.ht_models.specs.Kinded.{Escalates, IsOfKind};
 ghost use Rattle.ht_models.specs.Shown as shown;
 
 use crate::seen::Seen;
 use ht_base::Memory;
-use ht_expr::{Env, Expr};
+use ht_expr::Expr;
 use ht_models::Escalation;
 use ht_tree::see;
+use ht_value::{Env, truth};
 use std::alloc::Global;
 
 /// Whether the condition of an escalation is true of a task. Without a condition nothing of the task is
@@ -48,5 +49,5 @@ fn is_true(condition: &Expr, env: &Env) -> bool
     ensures { (kinds : Declared) → IsOfKind kinds Truth condition.now
         → values.value kinds env.now (condition.now).tree ≡ values.a_truth result }
 {
-    condition.truth(env)
+    truth(condition, env)
 }

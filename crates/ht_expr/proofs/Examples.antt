@@ -1,13 +1,11 @@
 -- Worked examples of what a text is read as, or why it isn't. A wrong reading of one fails the check.
 use Rattle.std.proofs.Common.{arith}
-use Rattle.std.specs.Prelude.{◌≡◌, ◌∷◌, ◌++◌, [], refl, replicate, codes, Ok, Err, true, pos, negsuc}
+use Rattle.std.specs.Prelude.{◌∷◌, ◌++◌, [], refl, replicate, codes, Ok, Err, true}
 use Rattle.ht_base.specs.declared.kind.Kind.TheVariants.{Person, Text}
-use Rattle.ht_expr.specs.declared.environment.Env.{Env}
 use Rattle.ht_expr.specs.declared.kinds.Side.TheVariants.{Input}
 use Rattle.ht_expr.specs.declared.operator.Operator.TheVariants as operator
 use Rattle.ht_expr.specs.declared.refusal.ExprRefusal.TheVariants as refusal
-use Rattle.ht_expr.specs.Trees.{Tree, an_assignment, an_expression, integer, truth, priority, text, part, negative, binary, nobody, everybody, initiator, user, group, except, when}
-use Rattle.ht_expr.specs.Values.{a_number, a_truth, value}
+use Rattle.ht_expr.specs.Trees.{an_assignment, an_expression, integer, truth, priority, text, part, binary, nobody, everybody, initiator, user, group, except, when}
 use Rattle.ht_expr.proofs.Walking.{IsAnswer, kind_row, long_row, shape_row, spelled_row, token_row, tree_row}
 
 left_and_right : IsAnswer [] an_assignment (codes "except(everybody, initiator)") (Ok (except everybody initiator))
@@ -76,36 +74,7 @@ nothing = shape_row [] _ _ _ (omega arith) refl refl refl refl
 blanks_at_the_end : IsAnswer [] an_assignment (codes "user('anna'  ") (Err (refusal.Shape 13))
 blanks_at_the_end = shape_row [] _ _ _ (omega arith) refl refl refl refl
 
--- texts with their values or their wrong kinds
-
-abbrev seven : Tree
-seven = binary operator.Equal (binary operator.Plus (integer 1) (binary operator.Times (integer 2) (integer 3))) (integer 7)
-
-seven_is_read : IsAnswer [] an_expression (codes "1 + 2 * 3 == 7") (Ok seven)
-seven_is_read =
-    tree_row [] _ _ _
-    (spelled_row _ _ _ (omega arith, omega arith, ((omega arith, omega arith, ((omega arith, omega arith, tt), (omega arith, omega arith, ((omega arith, omega arith, tt), (omega arith, omega arith, tt))))), (omega arith, omega arith, tt))) refl refl refl refl) refl
-
-seven_is_true : (env : Env) → value [] env seven ≡ a_truth true
-seven_is_true env = refl
-
-abbrev above : Tree
-above = binary operator.Plus (integer 9223372036854775807) (integer 1)
-
-above_is_read : IsAnswer [] an_expression (codes "9223372036854775807 + 1") (Ok above)
-above_is_read = tree_row [] _ _ _ (spelled_row _ _ _ (omega arith, omega arith, ((omega arith, omega arith, tt), (omega arith, omega arith, tt))) refl refl refl refl) refl
-
-above_is_clamped : (env : Env) → value [] env above ≡ a_number (pos 9223372036854775807)
-above_is_clamped env = refl
-
-abbrev below : Tree
-below = binary operator.Minus (negative (integer 9223372036854775807)) (integer 2)
-
-below_is_read : IsAnswer [] an_expression (codes "-9223372036854775807 - 2") (Ok below)
-below_is_read = tree_row [] _ _ _ (spelled_row _ _ _ (omega arith, omega arith, ((omega arith, omega arith, (omega arith, omega arith, tt)), (omega arith, omega arith, tt))) refl refl refl refl) refl
-
-below_is_clamped : (env : Env) → value [] env below ≡ a_number (negsuc 9223372036854775807)
-below_is_clamped env = refl
+-- texts of wrong kinds, or of right ones
 
 no_number_equals_a_text : IsAnswer [] an_expression (codes "priority == 'a'") (Err refusal.BadKind)
 no_number_equals_a_text = kind_row [] _ _ (binary operator.Equal priority (text (codes "a"))) (spelled_row _ _ _ (omega arith, omega arith, ((omega arith, omega arith, tt), (omega arith, omega arith, tt))) refl refl refl refl) refl

@@ -1,7 +1,5 @@
-mod Agreeing
 mod Answering
 mod Checking
-mod Clamping
 mod Computing
 mod Examples
 mod Firsts

@@ -2,11 +2,10 @@ pub mod AssignmentKinds
 pub mod Assignments
 pub mod Building
 pub mod Codes
-pub mod Environment
-pub mod Evaluating
 pub mod Examples
 pub mod Expected
 pub mod Keywords
+pub mod KindExamples
 pub mod KindTable
 pub mod Kinds
 pub mod Nodes
@@ -15,5 +14,3 @@ pub mod Scanning
 pub mod Shown
 pub mod Tokens
 pub mod Trees
-pub mod ValueExamples
-pub mod Values

@@ -1,15 +1,12 @@
-ghost use Rattle.std.specs.Prelude.{◌≡◌, IfOk, IsSome, IsTrue, Some};
-ghost use Rattle.ht_base.specs.declared.kind.Kind.TheVariants.{Int, Truth};
-ghost use Rattle.ht_expr.specs.Environment.{has_parts};
+ghost use Rattle.std.specs.Prelude.{◌≡◌, IfOk, IsSome, Some};
 ghost use Rattle.ht_expr.specs.KindTable.{kind_of};
+ghost use Rattle.ht_expr.specs.Nodes.{shown_node};
 ghost use Rattle.ht_expr.specs.Reading.{IsOnly, Reads};
 ghost use Rattle.ht_expr.specs.Shown.{expr_answer};
 ghost use Rattle.ht_expr.specs.Trees.{an_expression};
-ghost use Rattle.ht_expr.specs.Values as values;
 
 use crate::node::Node;
-use crate::operating::{number, truth};
-use crate::{Env, ExprRefusal, Kinds, building, evaluating, expected, kinding, levels};
+use crate::{ExprRefusal, Kinds, building, expected, kinding, levels};
 use ht_base::{Kind, Memory};
 use std::alloc::Global;
 use std::marker::Model;
@@ -65,27 +62,17 @@ impl Expr {
         }
     }
 
-    /// The value of an expression of kind Int. It takes no memory.
-    pub fn int(&self, env: &Env) -> i64
-        requires kind { kind_of self.now.kinds self.now.tree ≡ Some Int }
-        requires parts { IsTrue (has_parts self.now.kinds env.now) }
-        ensures { values.value self.now.kinds env.now self.now.tree ≡ values.a_number result }
+    /// The tree that its text was read into.
+    pub fn node(&self) -> &Node
+        ensures { shown_node result.now ≡ self.now.tree }
     {
-        match number(evaluating::value(&self.node, &self.kinds, env)) {
-            Some(number) => number,
-            None => 0,
-        }
+        &self.node
     }
 
-    /// The value of an expression of kind Truth. It takes no memory.
-    pub fn truth(&self, env: &Env) -> bool
-        requires kind { kind_of self.now.kinds self.now.tree ≡ Some Truth }
-        requires parts { IsTrue (has_parts self.now.kinds env.now) }
-        ensures { values.value self.now.kinds env.now self.now.tree ≡ values.a_truth result }
+    /// The parts that are declared for it.
+    pub fn kinds(&self) -> &Kinds
+        ensures { result.now ≡ self.now.kinds }
     {
-        match truth(evaluating::value(&self.node, &self.kinds, env)) {
-            Some(truth) => truth,
-            None => false,
-        }
+        &self.kinds
     }
 }

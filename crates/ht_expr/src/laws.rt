@@ -1,15 +1,10 @@
-//! Laws of reading and of values, for proofs alone: the functions do nothing.
-ghost use Rattle.std.specs.Prelude.{◌≡◌, ◌≢◌, ◌≤◌, ℕ, IsTrue, List, Result, Some, length};
+//! Laws of reading, for proofs alone: the functions do nothing.
+ghost use Rattle.std.specs.Prelude.{◌≡◌, ◌≢◌, ◌≤◌, ℕ, List, Result, length};
 ghost use Rattle.std.specs.Str.{IsUtf8};
 ghost use Rattle.ht_base.specs.declared.limits.TheConstants.{MOST_TOKENS};
-ghost use Rattle.ht_base.specs.declared.kind.Kind.{Kind};
-ghost use Rattle.ht_expr.specs.Environment.{has_parts};
 ghost use Rattle.ht_expr.specs.Kinds.{Declared};
-ghost use Rattle.ht_expr.specs.KindTable.{kind_of};
 ghost use Rattle.ht_expr.specs.Reading.{AreWritable, IsWritten, Reads};
 ghost use Rattle.ht_expr.specs.Trees.{Fits, Tree, tokens_of};
-ghost use Rattle.ht_expr.specs.Values.{kind_of_outcome, value};
-ghost use Rattle.ht_expr.specs.declared.environment.Env.{Env};
 ghost use Rattle.ht_expr.specs.declared.levels.TheConstants as levels;
 ghost use Rattle.ht_expr.specs.declared.refusal.ExprRefusal.{ExprRefusal};
 
@@ -32,12 +27,4 @@ pub fn each_tree_has_a_text()
     ensures { (level : ℕ) (a : Tree) → Fits level a → AreWritable (tokens_of a)
         → length (tokens_of a) ≤ MOST_TOKENS
         → (text : List ℕ) × IsUtf8 text × IsWritten level text a }
-{}
-
-/// An expression that has a kind gives a value of this kind, where the declared parts that have values
-/// have them of theirs.
-pub fn each_kind_has_a_value()
-    ensures { (kinds : Declared) (env : Env) (tree : Tree) (kind : Kind)
-        → IsTrue (has_parts kinds env) → kind_of kinds tree ≡ Some kind
-        → kind_of_outcome (value kinds env tree) ≡ Some kind }
 {}

@@ -17,7 +17,7 @@ pub enum Count {
 /// The tree of an expression, as it is written. A contract sees it by `shown_node`, as a tree of the
 /// grammar.
 #[derive(Drop)]
-pub(crate) enum Node {
+pub enum Node {
     /// A whole number, up to 9,223,372,036,854,775,807.
     Number(u64),
     Text(Txt),

@@ -2,6 +2,6 @@
 #![tactic(auto)]
 
 #[cfg(test)]
-mod reading;
+mod kinds;
 #[cfg(test)]
-mod values;
+mod reading;

@@ -7,10 +7,10 @@ use Rattle.ht_base.specs.Persons.{has}
 use Rattle.ht_base.specs.declared.value.Value.{Value}
 use Rattle.ht_base.specs.declared.value.Value.TheVariants as values
 use Rattle.ht_expr.specs.Assignments.{Assignment, nobody, everybody, initiator, part, user, group, union, intersect, except, when}
-use Rattle.ht_expr.specs.declared.environment.Env.{Env}
-use Rattle.ht_expr.specs.Environment.{given}
+use Rattle.ht_value.specs.declared.environment.Env.{Env}
+use Rattle.ht_value.specs.Environment.{given}
 use Rattle.ht_expr.specs.Kinds.{Declared}
-use Rattle.ht_expr.specs.Values.{Outcome, a_truth, value}
+use Rattle.ht_value.specs.Values.{Outcome, a_truth, value}
 use Rattle.ht_people.specs.Directory.{DirectoryOf, find}
 use Rattle.ht_people.specs.Membership as people
 use Rattle.ht_people.specs.Membership.{is_member}

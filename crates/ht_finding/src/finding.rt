@@ -1,7 +1,7 @@
 ghost use Rattle.std.specs.Prelude.{◌≡◌, ◌<◌, IfOk, IsTrue, length, option_map};
 ghost use Rattle.ht_expr.specs.AssignmentKinds.{Assigns};
 ghost use Rattle.ht_expr.specs.Assignments.{Assignment, group, part, user};
-ghost use Rattle.ht_expr.specs.Environment.{has_parts};
+ghost use Rattle.ht_value.specs.Environment.{has_parts};
 ghost use Rattle.ht_expr.specs.Kinds.{Declared};
 ghost use Rattle.ht_expr.specs.Shown.{shown};
 ghost use Rattle.ht_finding.specs.Assigning as spec;
@@ -10,8 +10,9 @@ ghost use Rattle.ht_people.specs.Directory.{DirectoryOf};
 ghost use Rattle.ht_people.specs.Membership as membership;
 
 use ht_base::{Memory, Name, Person, Persons, Value};
-use ht_expr::{Assign, Env, Side};
+use ht_expr::{Assign, Side};
 use ht_people::{Directory, except, intersect, union};
+use ht_value::{Env, truth};
 use std::alloc::Global;
 
 /// The persons of the directory whom an assignment finds in an environment, in ascending order
@@ -53,7 +54,7 @@ pub fn found(
             except(alloc, &first, &second)
         }
         Assign::When(test, a, b) => {
-            if test.truth(env) {
+            if truth(test, env) {
                 found(alloc, people, env, a)
             } else {
                 found(alloc, people, env, b)

@@ -11,7 +11,7 @@ use Rattle.ht_base.specs.declared.values.Values.{Values}
 use Rattle.ht_expr.specs.Assignments.{Assignment}
 use Rattle.ht_models.specs.Model.{ModelOf}
 use Rattle.ht_tree.specs.declared.row.Row.{Row}
-use Rattle.ht_expr.specs.Values.{Outcome, a_moment, a_number, a_person, a_text, a_truth, nothing}
+use Rattle.ht_value.specs.Values.{Outcome, a_moment, a_number, a_person, a_text, a_truth, nothing}
 use Rattle.ht_finding.specs.Assigning.{Sight, is_found, potential_owners, resolved}
 use Rattle.ht_tree.specs.declared.comments.Comment.{Comment}
 use Rattle.std.specs.List.{All}

@@ -22,7 +22,7 @@ use Rattle.ht_base.specs.Values.{is_before, put, updated}
 use Rattle.ht_base.proofs.PublicLaws.{found_within}
 use Rattle.ht_expr.specs.declared.kinds.Side.{Side}
 use Rattle.ht_expr.specs.declared.kinds.Side.TheVariants.{Input, Output}
-use Rattle.ht_expr.specs.Environment.{may_be}
+use Rattle.ht_value.specs.Environment.{may_be}
 use Rattle.ht_expr.specs.Kinds.{Declared, declared_kind, same_side}
 use Rattle.ht_models.specs.Kinded.{parts_of}
 use Rattle.ht_entries.specs.Parts.{Part}

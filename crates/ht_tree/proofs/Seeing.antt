@@ -4,10 +4,10 @@ use Rattle.std.proofs.lemmas.Bool.{and_parts}
 use Rattle.std.specs.List.{list_all}
 use Rattle.ht_base.specs.declared.value.Value.{Value}
 use Rattle.ht_base.specs.declared.values.Values.{Values}
-use Rattle.ht_expr.specs.declared.environment.Env.{Env}
+use Rattle.ht_value.specs.declared.environment.Env.{Env}
 use Rattle.ht_expr.specs.declared.kinds.Side.{Side}
 use Rattle.ht_expr.specs.declared.kinds.Side.TheVariants.{Input, Output}
-use Rattle.ht_expr.specs.Environment.{has_parts, may_be, values_fit}
+use Rattle.ht_value.specs.Environment.{has_parts, may_be, values_fit}
 use Rattle.ht_expr.specs.Kinds.{Declared, declared_kind}
 use Rattle.ht_models.specs.Kinded.{parts_of}
 use Rattle.ht_models.specs.Model.{ModelOf}

@@ -8,9 +8,9 @@ use Rattle.ht_base.specs.declared.state.State.TheVariants.{Created}
 use Rattle.ht_base.specs.declared.task_id.TaskId.{TaskId}
 use Rattle.ht_base.specs.declared.values.Values.{Values}
 use Rattle.ht_expr.specs.Assignments.{Assignment, is_individual}
-use Rattle.ht_expr.specs.declared.environment.Env.{Env}
+use Rattle.ht_value.specs.declared.environment.Env.{Env}
 use Rattle.ht_expr.specs.declared.kinds.Side.TheVariants.{Input}
-use Rattle.ht_expr.specs.Values.{Outcome, a_number, value}
+use Rattle.ht_value.specs.Values.{Outcome, a_number, value}
 use Rattle.ht_models.specs.Kinded.{parts_of}
 use Rattle.ht_models.specs.Model.{ModelOf}
 use Rattle.ht_people.specs.Directory.{DirectoryOf}

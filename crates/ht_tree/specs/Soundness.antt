@@ -17,7 +17,7 @@ use Rattle.ht_base.specs.Persons.{AllBelow, Ascends, has}
 use Rattle.ht_base.specs.State.{contains_state}
 use Rattle.ht_expr.specs.declared.kinds.Side.{Side}
 use Rattle.ht_expr.specs.declared.kinds.Side.TheVariants.{Input, Output}
-use Rattle.ht_expr.specs.Environment.{may_be}
+use Rattle.ht_value.specs.Environment.{may_be}
 use Rattle.ht_expr.specs.Kinds.{Declared, declared_kind}
 use Rattle.ht_models.specs.Kinded.{parts_of}
 use Rattle.ht_models.specs.Model.{DeadlineOf, ModelOf}

@@ -11,8 +11,9 @@ ghost use Rattle.ht_tree.specs.Tables.{directory, model_of};
 
 use crate::{Plan, Row, Tables, sub_tasks};
 use ht_base::{Memory, Persons, TaskId, Values};
-use ht_expr::{Assign, Env, Subs};
+use ht_expr::Assign;
 use ht_finding::found;
+use ht_value::{Env, Subs};
 use std::alloc::Global;
 
 /// The environment of a row, which expressions and assignments see: with the sub tasks as they would be

@@ -2,10 +2,10 @@ ghost use Rattle.std.specs.Prelude.{◌≡◌, ◌<◌, ◌≤◌, ◌+◌, ◌^
 ghost use Rattle.std.specs.Option.{option_map_or};
 ghost use Rattle.ht_base.specs.Moment.{last_moment};
 ghost use Rattle.ht_expr.specs.AssignmentKinds.{Assigns};
-ghost use Rattle.ht_expr.specs.Environment.{has_parts};
+ghost use Rattle.ht_value.specs.Environment.{has_parts};
 ghost use Rattle.ht_expr.specs.Kinds.{Declared};
 ghost use Rattle.ht_expr.specs.Shown.{shown};
-ghost use Rattle.ht_expr.specs.Values.{a_number, value};
+ghost use Rattle.ht_value.specs.Values.{a_number, value};
 ghost use Rattle.ht_models.specs.Kinded.{IsKinded, parts_of};
 ghost use Rattle.ht_models.specs.Model.{ModelOf};
 ghost use Rattle.ht_models.specs.Shown.{model_of};
@@ -22,10 +22,11 @@ use ht_base::{
     LOWEST_PRIORITY, MIDDLE_PRIORITY, MOST_TASKS, Memory, Moment, Person, Persons, State, TaskId,
     Values,
 };
-use ht_expr::{Assign, Env, Subs};
+use ht_expr::Assign;
 use ht_finding::{found, without};
 use ht_models::Model;
 use ht_people::Directory;
+use ht_value::{Env, Subs, int};
 use std::alloc::Global;
 use thiserror::Error;
 
@@ -199,7 +200,7 @@ fn priority_of(model: &Model, env: &Env) -> u8
         env.now (model_of model.now).priority) }
 {
     match &model.priority {
-        Some(expression) => level(expression.int(env)),
+        Some(expression) => level(int(expression, env)),
         None => MIDDLE_PRIORITY,
     }
 }

@@ -4,8 +4,8 @@ use Rattle.ht_compose.specs.Finishes.{Sets, completed}
 use Rattle.ht_compose.proofs.Choosing.{chosen_is, completed_is, held_by}
 use Rattle.ht_compose.proofs.SeenRows.{row_seen}
 use Rattle.ht_compose.proofs.finishing.finish.Goals as goal
-use Rattle.ht_expr.specs.declared.environment.Env.{Env}
-use Rattle.ht_expr.specs.Environment.{has_parts}
+use Rattle.ht_value.specs.declared.environment.Env.{Env}
+use Rattle.ht_value.specs.Environment.{has_parts}
 use Rattle.ht_entries.specs.Finishes.{Setting}
 use Rattle.ht_models.specs.Kinded.{parts_of}
 use Rattle.ht_models.specs.Model.{FinishOf, ModelOf}

@@ -2,8 +2,8 @@ use Rattle.std.proofs.Common.{◌≡◌, Option, Some, length, IsTrue, sym, subs
 use Rattle.ht_base.specs.declared.kind.Kind.TheVariants.{Truth}
 use Rattle.ht_escalate.proofs.NewOwners.{of_this}
 use Rattle.ht_escalate.proofs.triggering.is_triggered.Goals as goal
-use Rattle.ht_expr.specs.declared.environment.Env.{Env}
-use Rattle.ht_expr.specs.Environment.{has_parts}
+use Rattle.ht_value.specs.declared.environment.Env.{Env}
+use Rattle.ht_value.specs.Environment.{has_parts}
 use Rattle.ht_models.specs.Kinded.{IsOfKind, parts_of}
 use Rattle.ht_models.specs.Model.{ModelOf}
 use Rattle.ht_models.specs.Shown as shown

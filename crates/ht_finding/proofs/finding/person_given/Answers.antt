@@ -2,7 +2,7 @@ use Rattle.std.proofs.Common.{◌≡◌, ℕ, ◌==◌, false, List, ◌∷◌, 
 use Rattle.std.specs.Option.{option_map_or}
 use Rattle.ht_base.specs.declared.value.Value.{Value}
 use Rattle.ht_expr.specs.Assignments.{part}
-use Rattle.ht_expr.specs.Environment.{given}
+use Rattle.ht_value.specs.Environment.{given}
 use Rattle.ht_expr.specs.Kinds.{Declared}
 use Rattle.ht_expr.specs.declared.kinds.Side.TheVariants.{Input}
 use Rattle.ht_people.specs.Membership.{everybody}

@@ -3,8 +3,8 @@ use Rattle.std.proofs.Common.{◌≡◌, ℕ, true, List, [], Option, Some, None
 use Rattle.ht_expr.specs.AssignmentKinds.{Assigns}
 use Rattle.ht_expr.specs.Assignments.{is_plain}
 use Rattle.ht_expr.specs.declared.assignment.Assign.{Assign}
-use Rattle.ht_expr.specs.declared.environment.Env.{Env}
-use Rattle.ht_expr.specs.Environment.{has_parts}
+use Rattle.ht_value.specs.declared.environment.Env.{Env}
+use Rattle.ht_value.specs.Environment.{has_parts}
 use Rattle.ht_expr.specs.Kinds.{Declared}
 use Rattle.ht_expr.specs.Shown.{shown}
 use Rattle.ht_finding.proofs.PublicLaws.{if_ok, resolved_same}

@@ -6,9 +6,9 @@ use Rattle.ht_base.specs.declared.state.State.TheVariants.{Created}
 use Rattle.ht_base.specs.declared.task_id.TaskId.{TaskId}
 use Rattle.ht_base.specs.declared.values.Values.{Values}
 use Rattle.ht_expr.specs.Assignments.{is_individual}
-use Rattle.ht_expr.specs.declared.environment.Env.{Env}
+use Rattle.ht_value.specs.declared.environment.Env.{Env}
 use Rattle.ht_expr.specs.Kinds.{Declared}
-use Rattle.ht_expr.specs.Values.{value}
+use Rattle.ht_value.specs.Values.{value}
 use Rattle.ht_models.specs.Kinded.{parts_of}
 use Rattle.ht_models.specs.Model.{ModelOf}
 use Rattle.ht_models.specs.Shown.{model_of}

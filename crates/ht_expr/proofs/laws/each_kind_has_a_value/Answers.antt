@@ -1,5 +1,0 @@
-use Rattle.ht_expr.proofs.Agreeing.{has_kind}
-use Rattle.ht_expr.proofs.laws.each_kind_has_a_value.Goals as goal
-
-pub returns : goal.returns
-returns c = has_kind

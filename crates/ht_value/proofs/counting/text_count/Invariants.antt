@@ -1,0 +1,12 @@
+use Rattle.std.proofs.Common.{◌≡◌, ◌≤◌, take}
+use Rattle.std.specs.Prelude.{◌&&◌, count_by}
+use Rattle.ht_base.specs.State.{is_completed}
+use Rattle.ht_base.specs.Values.{value_of}
+use Rattle.ht_value.specs.Environment.{is_text}
+use Rattle.ht_value.proofs.counting.text_count.Given as goal
+
+abbrev pub invariant-loop-state : goal.invariant-loop-state
+invariant-loop-state l = record {
+  few : l.number ≤ l.state-index;
+  so_far : l.number ≡ count_by (λ s. is_completed s.0 && is_text l.text (value_of l.part s.1)) (take l.state-index l.state-items);
+}

@@ -1,0 +1,4 @@
+pub mod Environment
+pub mod Evaluating
+pub mod ValueExamples
+pub mod Values
