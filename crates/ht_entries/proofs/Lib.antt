@@ -1,6 +1,6 @@
-mod AscendingPairs
 mod Days
 mod InstantCuts
 mod InstantExamples
 mod InstantTexts
+mod Pairs
 mod Words

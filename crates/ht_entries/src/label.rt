@@ -68,6 +68,8 @@ impl KeyShape for Label {
 
     ghost of_key = { label };
 
+    ghost spelling = { λ label. label };
+
     fn read_key(key: &str) -> Option<Label> {
         Label::of(key)
     }

@@ -1,15 +1,6 @@
-ghost use Rattle.std.specs.Prelude.{◌≡◌, [], IfErr, IfOk, None, Some, codes, option_map};
-ghost use Rattle.toml.specs.Data.{get_member};
-ghost use Rattle.toml.specs.View.{table_view, view};
-ghost use Rattle.ht_base.specs.Values.{Ascend};
-ghost use Rattle.ht_toml.specs.Entries.{each};
-ghost use Rattle.ht_toml.specs.Keys.{otherwise};
-ghost use Rattle.ht_toml.specs.Values.{row_of, rows, table_of};
-ghost use Rattle.ht_entries.specs.Labels.{label, label_of};
-
 use crate::label::Label;
 use ht_base::Name;
-use ht_toml::{Misfit, Named, Shape, TableShape, has_only, pairs, required, table_shape};
+use ht_toml::{Misfit, Named, Shape, TableShape, has_only, pairs_at, required, table_shape};
 use std::alloc::{AllocError, Global};
 use std::marker::Model;
 use toml::{Table, Value};
@@ -66,44 +57,7 @@ impl TableShape for SubEntry {
         Ok(SubEntry {
             name: required::<Label>(alloc, table, "name")?.0,
             model: required(alloc, table, "model")?,
-            input: input_of(alloc, table)?,
+            input: pairs_at(alloc, table, "input")?,
         })
     }
-}
-
-/// The pairs of the table at `input`, whose keys ascend.
-fn input_of(alloc: Global, table: &Table) -> Result<Vec<(Label, Label)>, Misfit>
-    ensures ok { IfOk result (λ pairs.
-        otherwise [] (table_of label label_of) (codes "input") (table_view table.now)
-        ≡ Some pairs.items) }
-    ensures misfit { IfErr result (λ e. e ≡ Misfit.Shape
-        → otherwise [] (table_of label label_of) (codes "input") (table_view table.now) ≡ None) }
-    ensures ascend { IfOk result (λ pairs. Ascend pairs.items) }
-{
-    let Some(value) = input_value(table) else {
-        return Ok(Vec::new(alloc));
-    };
-    match value.as_table() {
-        Some(table) => ascending_pairs(alloc, table),
-        None => Err(Misfit::Shape),
-    }
-}
-
-fn input_value(table: &Table) -> Option<&Value>
-    ensures { option_map (λ v. view v.now) result
-        ≡ get_member (codes "input") (table_view table.now) }
-{
-    table.get("input")
-}
-
-fn ascending_pairs(alloc: Global, table: &Table) -> Result<Vec<(Label, Label)>, Misfit>
-    ensures ok { IfOk result
-        (λ pairs. each (row_of label label_of) (rows (table_view table.now)) ≡ Some pairs.items) }
-    ensures misfit { IfErr result (λ e.
-        e ≡ Misfit.Shape → each (row_of label label_of) (rows (table_view table.now)) ≡ None) }
-    ensures ascend { IfOk result (λ pairs. Ascend pairs.items) }
-{
-    // That the keys ascend is told by their iterator.
-    let _ = table.keys();
-    pairs(alloc, table)
 }

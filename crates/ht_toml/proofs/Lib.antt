@@ -1,4 +1,5 @@
 pub mod PublicLaws
+mod KeyOrder
 mod ReadEntries
 mod ReadRows
 mod Refusing

@@ -3,7 +3,7 @@ use Rattle.std.specs.Prelude.{◌≡◌, refl, ℕ, List, [], ◌∷◌, Some, N
 use Rattle.toml.specs.Data.{Members, array, as_bool, as_str, boolean, integer, item, member, no_items, no_members, string, table}
 use Rattle.ht_base.specs.Name.{name_of}
 use Rattle.ht_toml.specs.Keys.{◌also◌, exactly_one, keyed, optional, otherwise, required, under}
-use Rattle.ht_toml.specs.Values.{list_of, named, table_of, whole_of, word_of}
+use Rattle.ht_toml.specs.Values.{KeysAscend, list_of, named, table_of, whole_of, word_of}
 
 -- flag = true, name = "anna"
 abbrev sample : Members
@@ -131,3 +131,9 @@ none_of_three = refl
 
 two_of_three : exactly_one (true ∷ false ∷ true ∷ []) ≡ false
 two_of_three = refl
+
+keys_that_ascend : KeysAscend {B = ℕ} (λ k. k) ((codes "a", 2) ∷ (codes "b", 1) ∷ [])
+keys_that_ascend = (refl, tt)
+
+the_same_key_twice : KeysAscend {B = ℕ} (λ k. k) ((codes "a", 1) ∷ (codes "a", 2) ∷ []) → ⊥
+the_same_key_twice ascend = let before = ascend.0 in cc

@@ -1,7 +1,8 @@
 -- What a value says, by its kind.
-use Rattle.std.specs.Prelude.{ℕ, ◌&&◌, ℤ, pos, negsuc, nat_le, List, [], ◌∷◌, Option, Some, None, option_map, bytes_eq, if◌then◌else◌}
+use Rattle.std.specs.Prelude.{ℕ, ◌&&◌, ℤ, pos, negsuc, nat_le, List, [], ◌∷◌, Option, Some, None, map, option_map, bytes_eq, if◌then◌else◌}
 use Rattle.std.specs.Option.{option_and_then}
 use Rattle.ht_base.specs.Name.{name_of}
+use Rattle.ht_base.specs.Values.{Ascend}
 use Rattle.toml.specs.Data.{Data, Members, no_members, member, as_integer, as_str, as_table}
 use Rattle.ht_toml.specs.Entries.{each}
 use Rattle.ht_toml.specs.Tables.{entries_of}
@@ -43,3 +44,7 @@ row_of key of row = option_and_then (λ k. option_map (pair k) (of row.1)) (key 
 
 abbrev pub table_of : {A B : Type 0} → (List ℕ → Option A) → (Data → Option B) → Data → Option (List (A × B))
 table_of key of d = option_and_then (λ ms. each (row_of key of) (rows ms)) (as_table d)
+
+-- the keys, as they are spelled, ascend
+abbrev pub KeysAscend : {A B : Type 0} → (A → List ℕ) → List (A × B) → Type 0
+KeysAscend spelling ps = Ascend (map (λ p. pair (spelling p.0) p.1) ps)

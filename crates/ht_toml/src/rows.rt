@@ -1,4 +1,4 @@
-ghost use Rattle.std.specs.Prelude.{◌≡◌, [], IfErr, IfOk, List, None, Option, Some, ℕ};
+ghost use Rattle.std.specs.Prelude.{◌≡◌, [], IfErr, IfOk, IfSome, List, None, Option, Some, ℕ};
 ghost use Rattle.toml.specs.Data.{Data};
 ghost use Rattle.toml.specs.View.{table_view, view};
 ghost use Rattle.ht_toml.specs.Entries as entries;
@@ -16,8 +16,12 @@ pub trait KeyShape: Sized + Drop {
     /// What a key of this shape says.
     ghost of_key: { List ℕ → Option Self };
 
+    /// How a key of this shape is spelled.
+    ghost spelling: { Self → List ℕ };
+
     fn read_key(key: &str) -> Option<Self>
-        ensures { result ≡ of_key key.now };
+        ensures value { result ≡ of_key key.now }
+        ensures spelled { IfSome result (λ k. spelling k ≡ key.now) };
 }
 
 impl<T: Drop> From<AllocFailed<T>> for Misfit {
@@ -36,6 +40,8 @@ impl KeyShape for Name {
 
     ghost of_key = { name_of };
 
+    ghost spelling = { λ name. name };
+
     fn read_key(key: &str) -> Option<Name> {
         Name::of(key.as_bytes())
     }
@@ -49,6 +55,7 @@ pub fn pairs<K: KeyShape, V: Shape>(alloc: Global, table: &Table) -> Result<Vec<
     ensures misfit { IfErr result (λ e.
         e ≡ Misfit.Shape
         → entries.each (spec.row_of K.of_key V.of) (spec.rows (table_view table.now)) ≡ None) }
+    ensures ascend { IfOk result (λ pairs. spec.KeysAscend K.spelling pairs.items) }
 {
     let mut pairs = Vec::new(alloc);
     for (key, value) in table {
@@ -75,6 +82,7 @@ pub fn pairs_at<K: KeyShape, V: Shape>(
     ensures misfit { IfErr result (λ e.
         e ≡ Misfit.Shape
         → otherwise [] (spec.table_of K.of_key V.of) key.now (table_view table.now) ≡ None) }
+    ensures ascend { IfOk result (λ pairs. spec.KeysAscend K.spelling pairs.items) }
 {
     let Some(value) = value_at(table, key) else {
         return Ok(Vec::new(alloc));
