@@ -1,6 +1,7 @@
 -- Worked examples of the definitions. A wrong reading of one fails the check.
-use Rattle.std.specs.Prelude.{◌≡◌, refl, ℕ, List, [], ◌∷◌, ◌++◌, Some, codes, true, false, slice_index}
-use Rattle.std.proofs.Common.{ap, arith, inl, lit<, lit≤}
+use Rattle.std.specs.Prelude.{◌≡◌, refl, ℕ, zero, suc, ◌<◌, ◌≤◌, List, [], ◌∷◌, ◌++◌, Some, codes, true, false, slice_index}
+use Rattle.std.proofs.Common.{ap, arith, inl, ⊎_elim, lit<, lit≤}
+use Rattle.ht_outside.specs.Causes.{together}
 use Rattle.ht_outside.specs.Clocks.{IsNext, later, moment_of}
 use Rattle.ht_outside.specs.CrashModel.{IsImage, IsMarked, IsTouched, IsUntouched, Unsynced, present}
 use Rattle.ht_outside.specs.DiskHistory.{stand}
@@ -62,6 +63,17 @@ what_a_read_gives = refl
 what_was_synced_is_an_image : IsImage disk (codes "abcd")
 what_was_synced_is_an_image = record { no_shorter = lit≤ tt; no_longer = lit≤ tt; others = λ place within untouched. refl }
 
+-- any bytes where was written, and an end between the two
+any_bytes_are_an_image : IsImage disk (codes "a?!d?")
+any_bytes_are_an_image = record { no_shorter = lit≤ tt; no_longer = lit≤ tt; others = others }
+  where
+    others : (place : ℕ) → place < 4 → IsUntouched disk.patches place → slice_index (codes "a?!d?") place ≡ slice_index (codes "abcd") place
+    others zero within untouched = refl
+    others (suc zero) within untouched = absurd (⊎_elim (λ (low : 1 < 1). omega (arith, low)) (λ (high : 3 ≤ 1). omega (arith, high)) untouched.0)
+    others (suc (suc zero)) within untouched = absurd (⊎_elim (λ (low : 2 < 1). omega (arith, low)) (λ (high : 3 ≤ 2). omega (arith, high)) untouched.0)
+    others (suc (suc (suc zero))) within untouched = refl
+    others (suc (suc (suc (suc more)))) within untouched = absurd (omega (arith, within))
+
 the_first_byte_is_untouched : IsUntouched disk.patches 0
 the_first_byte_is_untouched = (inl (lit< tt), (inl (lit< tt), tt))
 
@@ -107,6 +119,14 @@ not_before_it = refl
 
 the_earlier_stop_counts : earlier (Some 3) 5 ≡ 3
 the_earlier_stop_counts = refl
+
+-- ---- two disks
+
+the_faults_of_two : together 3 4 ≡ 7
+the_faults_of_two = refl
+
+one_at_its_end : together 18446744073709551615 4 ≡ 18446744073709551615
+one_at_its_end = refl
 
 -- ---- clocks
 
