@@ -5,6 +5,7 @@ mod Holding
 mod LastNames
 mod ListLaws
 mod Loop
+mod Places
 pub mod PublicLaws
 mod Ranges
 mod RecordLaws

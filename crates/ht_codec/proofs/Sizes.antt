@@ -195,10 +195,10 @@ spelling_is_short r bytes spells = (some r bytes spells.1, subst (λ (l : List �
   some : (r : RecordOf) (bytes : List ℕ) → bytes ≡ entry.text r → 1 ≤ length bytes
   some r bytes e = let l = ap length e in omega arith
 
-pub first_byte : (r : RecordOf) (bytes : List ℕ) → Spells r bytes → get_or bytes 0 0 ≤ 2
+pub first_byte : (r : RecordOf) (bytes : List ℕ) → Spells r bytes → get_or bytes 0 0 ≤ 6
 unfolding entry kind
-first_byte r bytes spells = subst (λ (l : List ℕ). get_or l 0 0 ≤ 2) (sym spells.1) (low r) where
-  low : (r : RecordOf) → get_or (entry.text r) 0 0 ≤ 2
+first_byte r bytes spells = subst (λ (l : List ℕ). get_or l 0 0 ≤ 6) (sym spells.1) (low r) where
+  low : (r : RecordOf) → get_or (entry.text r) 0 0 ≤ 6
   low (an_opening models people) = omega arith
   low (a_turn at) = omega arith
   low (an_asking at caller retry task command) = omega arith

@@ -192,6 +192,14 @@ Spells r bytes = entry.Fits r × (bytes ≡ entry.text r)
 abbrev pub Refuses : List ℕ → CodecRefusal → Type 0
 Refuses bytes fault = entry.Fails (length bytes) bytes fault ⊎ Behind entry bytes (λ r rest. (1 ≤ length rest) × (fault ≡ Trailing (place (length bytes) rest)))
 
+-- the place that a refusal names; want of memory names none
+abbrev pub place_of : CodecRefusal → ℕ
+place_of (Short n) = n
+place_of (Tag n) = n
+place_of (Range n) = n
+place_of (Trailing n) = n
+place_of Memory = 0
+
 -- A record that may be kept: its texts have at most 262,144 bytes each, its moment is at most the last
 -- there is, and what is asked is a valid event.
 abbrev pub IsRecord : RecordOf → Type 0

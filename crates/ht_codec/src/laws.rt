@@ -8,7 +8,7 @@ ghost use Rattle.ht_base.specs.declared.event.Event.TheVariants.{Ask};
 ghost use Rattle.ht_base.specs.declared.moment.Moment.{Moment};
 ghost use Rattle.ht_base.specs.declared.retry.Retry.{Retry};
 ghost use Rattle.ht_base.specs.declared.task_id.TaskId.{TaskId};
-ghost use Rattle.ht_codec.specs.Records.{IsBytes, IsRecord, Refuses, Spells};
+ghost use Rattle.ht_codec.specs.Records.{IsBytes, IsRecord, Refuses, Spells, place_of};
 ghost use Rattle.ht_codec.specs.Types.{RecordHolds};
 ghost use Rattle.ht_codec.specs.declared.refusal.CodecRefusal.{CodecRefusal};
 ghost use Rattle.ht_codec.specs.declared.refusal.CodecRefusal.TheVariants.{Memory, Short, Trailing};
@@ -45,6 +45,12 @@ pub fn bytes_have_one_answer()
     ensures not_memory { (bytes : List ℕ) → Refuses bytes Memory → ⊥ }
 {}
 
+/// A refusal names a place of the bytes, or the one behind the last.
+pub fn refusals_stand_inside()
+    ensures { (bytes : List ℕ) (why : CodecRefusal) → Refuses bytes why
+        → place_of why ≤ length bytes }
+{}
+
 /// A spelling that is cut is short, and one with bytes behind it is refused at its end.
 pub fn spellings_end_where_they_end()
     ensures cut { (r : RecordOf) (bytes front : List ℕ) (next : ℕ) (more : List ℕ) → IsBytes front
@@ -53,9 +59,10 @@ pub fn spellings_end_where_they_end()
         → Refuses (bytes ++ next ∷ more) (Trailing (length bytes)) }
 {}
 
-/// A spelling has 1 to 524,297 bytes, and the first is at most 2.
+/// A spelling has 1 to 524,297 bytes, and the first is at most 6: a greater one is free for what is
+/// no record.
 pub fn spellings_are_short()
     ensures length { (r : RecordOf) (bytes : List ℕ) → Spells r bytes
         → (1 ≤ length bytes) × (length bytes ≤ 524297) }
-    ensures first { (r : RecordOf) (bytes : List ℕ) → Spells r bytes → slice_index bytes 0 ≤ 2 }
+    ensures first { (r : RecordOf) (bytes : List ℕ) → Spells r bytes → slice_index bytes 0 ≤ 6 }
 {}
