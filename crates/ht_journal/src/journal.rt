@@ -3,7 +3,7 @@ ghost use Rattle.ht_outside.specs.Causes.{Rose};
 ghost use Rattle.ht_outside.specs.Disks.{Both};
 ghost use Rattle.ht_outside.specs.Moments.{LeavesOnly};
 ghost use Rattle.ht_journal.specs.Bodies.{IsNth};
-ghost use Rattle.ht_journal.specs.Files.{IsAppended};
+ghost use Rattle.ht_journal.specs.Files.{IsAppended, contents};
 ghost use Rattle.ht_journal.specs.Keeping.{IsKept, doubt_of};
 ghost use Rattle.ht_journal.specs.Openings.{Opens};
 ghost use Rattle.ht_journal.specs.Parts.{IsAppending, Reads};
@@ -40,15 +40,16 @@ impl<'a, D: Disk, S> JournalOver<'a, D, S> {
 
 impl<'a, D: Disk> JournalOver<'a, D, JournalState> {
     /// Opens the journal of a disk: see [`open`]. Where it is refused nothing is known of the disk from
-    /// here on, and what is said is of the disk as the opening left it.
+    /// here on.
     pub fn open(alloc: Global, disk: &'a mut D, limit: u64) -> Result<Journal<'a, D>, JournalFault>
         requires { limit ≤ 2 ^ 32 }
         ensures same_disk { IfOk result
             (λ journal. journal.disk.ghost_name ≡ disk.entry.ghost_name) }
         ensures opens { IfOk result
             (λ journal. Opens D.Disk limit disk.old journal.disk.now (Ok journal.state)) }
-        ensures refused { IfErr result
-            (λ fault. (left : D) × Opens D.Disk limit disk.old left (Err fault)) }
+        ensures damaged { (at : ℕ) → result ≡ Err (JournalFault.Damaged at)
+            → IfSome (D.gives disk.old) (λ file. contents file ≡ Err at) }
+        ensures in_room { IsRoomy (D.room disk.old) 9 → result ≢ Err JournalFault.Store }
     {
         match open(alloc, &mut *disk, limit) {
             Ok(state) => Ok(JournalOver { disk, state }),
