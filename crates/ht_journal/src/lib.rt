@@ -19,6 +19,7 @@ mod walking;
 pub use body::Body;
 pub use faults::{AppendRefusal, JournalFault, Settled};
 pub use journal::{Journal, JournalOver};
+pub use limits::LONGEST_BODY;
 pub use opening::open;
 pub use state::JournalState;
 pub(crate) use state::Reader;

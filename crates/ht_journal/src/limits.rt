@@ -1,2 +1,2 @@
 /// The bytes of a body, at most. Code, contracts and definitions cite it by this name.
-pub(crate) const LONGEST_BODY: u32 = 1_048_576;
+pub const LONGEST_BODY: u32 = 1_048_576;

@@ -1,0 +1,10 @@
+mod Answered
+mod Begun
+mod Coming
+mod Finding
+mod Judged
+mod Lengths
+mod Office
+mod OneFault
+mod Opened
+mod Replayed

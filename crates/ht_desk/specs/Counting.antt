@@ -1,0 +1,14 @@
+-- Counts, which stop at 18446744073709551615.
+use Rattle.std.specs.Prelude.{ℕ, ◌+◌, ◌-◌, ◌^◌, min, Bool, true, false}
+use Rattle.ht_desk.specs.declared.counts.Counts.{Counts}
+
+abbrev pub no_counts : Counts
+no_counts = record { turns = 0; accepted = 0; taken = 0 }
+
+abbrev pub capped : ℕ → ℕ
+capped n = min n (2 ^ 64 - 1)
+
+-- a record joins the others, which is one of a command
+abbrev pub with_joined : Counts → Bool → Counts
+with_joined c true = record c { accepted = capped (c.accepted + 1) }
+with_joined c false = c

@@ -1,0 +1,14 @@
+use crate::{Counts, Doubt};
+use ht_journal::JournalState;
+use ht_tree::Tables;
+use std::alloc::Global;
+
+/// A desk without its disks. Its calls take the disk, which is to be the same each time.
+#[derive(Drop)]
+pub struct DeskState {
+    pub(crate) alloc: Global,
+    pub(crate) journal: JournalState,
+    pub(crate) tables: Tables,
+    pub(crate) doubt: Option<Doubt>,
+    pub(crate) counts: Counts,
+}

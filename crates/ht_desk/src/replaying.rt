@@ -1,0 +1,159 @@
+ghost use Rattle.std.specs.Prelude.{◌≡◌, ◌≢◌, ◌⊎◌, ◌+◌, ◌-◌, ◌≤◌, ◌++◌, ◌∷◌, [], ℕ, List, IfErr, IfOk, IfSome, OnOk, Err, Ok, length, take, false, true};
+ghost use Rattle.ht_base.specs.Records.{RecordOf, record_of};
+ghost use Rattle.ht_codec.specs.Records.{IsRecord, Spells};
+ghost use Rattle.ht_desk.specs.Opening.{FailsNext};
+ghost use Rattle.ht_desk.specs.Faults.{ComesWhere};
+ghost use Rattle.ht_desk.specs.Records.{IsSpelled, spelling};
+ghost use Rattle.ht_desk.specs.Replaying.{Applies};
+ghost use Rattle.ht_journal.specs.Bodies.{IsNth};
+ghost use Rattle.ht_journal.specs.declared.limits.TheConstants.{LONGEST_BODY};
+ghost use Rattle.ht_journal.specs.Keeping.{IsKept};
+ghost use Rattle.ht_journal.specs.Quiet.{IsQuiet};
+ghost use Rattle.ht_journal.specs.Rooms.{IsRoomy};
+ghost use Rattle.ht_machine.specs.Deciding.{last_after};
+ghost use Rattle.ht_machine.specs.History.{event_of};
+ghost use Rattle.ht_tree.specs.Tables.{TablesOf};
+
+use crate::OpenFault;
+use crate::kept::{are_equal, record_of};
+use ht_base::{Event, Memory, Moment, Record};
+use ht_codec::{each_valid_record_has_one_spelling, no_spelling_begins_another, write};
+use ht_journal::JournalState;
+use ht_machine::{Decision, decide, one_outcome};
+use ht_outside::Disk;
+use ht_tree::Tables;
+use std::alloc::Global;
+
+/// Replays the nth body on the tables that those before it lead to. It answers how many bytes it has.
+pub(crate) fn replay_one<D: Disk>(
+    alloc: Global,
+    journal: &mut JournalState,
+    disk: &mut D,
+    tables: &mut Tables,
+    n: u32,
+) -> Result<u64, OpenFault>
+    requires number { (1 ≤ n) × (n ≤ journal.old.count) }
+    requires kept { (bodies : List (List ℕ))
+        × IsKept D.Disk bodies journal.old disk.old }
+    ensures applied { IfOk result (λ size.
+        (r : RecordOf)
+        × Applies tables.old.tables r tables.new.tables
+        × IsSpelled r
+        × (size ≡ length (spelling r))
+        × ((bodies : List (List ℕ))
+        → IsKept D.Disk bodies journal.old disk.old
+        → IfSome (D.gives disk.old)
+        (λ _. take n bodies ≡ take (n - 1) bodies ++ spelling r ∷ []))) }
+    ensures short { IfOk result (λ size. size ≤ LONGEST_BODY) }
+    ensures fault { IfErr result (ComesWhere (λ fault.
+        (bodies : List (List ℕ))
+        → IsKept D.Disk bodies journal.old disk.old
+        → IfSome (D.gives disk.old) (λ _.
+        (at : ℕ) × (body : List ℕ) × IsNth bodies n at body
+        × FailsNext tables.old.tables n at body fault))
+        (D.faults disk.old) (D.faults disk.new)) }
+    ensures kept { (bodies : List (List ℕ))
+        → IsKept D.Disk bodies journal.old disk.old
+        → IsKept D.Disk bodies journal.new disk.new }
+    ensures same { (journal.new.count ≡ journal.old.count)
+        × (journal.new.length ≡ journal.old.length) × (journal.new.limit ≡ journal.old.limit)
+        × (journal.new.doubt ≡ journal.old.doubt) }
+    ensures quiet { IsQuiet D.Disk disk.old disk.new }
+    ensures in_room { IsRoomy (D.room disk.old) 0 → result ≢ Err OpenFault.Store }
+    ensures faults { D.faults disk.old ≤ D.faults disk.new }
+    ensures still { OnOk result (D.faults disk.new ≡ D.faults disk.old) }
+{
+    let body = journal.body(alloc, disk, n)?;
+    let size = body.bytes.as_slice().len() as u64;
+    let kept = match record_of(alloc, &body) {
+        Ok(kept) => kept,
+        Err(fault) => return Err(fault),
+    };
+    match replay_record(alloc, tables, n, kept, body.bytes.as_slice()) {
+        Ok(()) => Ok(size),
+        Err(fault) => Err(fault),
+    }
+}
+
+// Replays a record that these bytes spell.
+fn replay_record(
+    alloc: Global,
+    tables: &mut Tables,
+    n: u32,
+    kept: Record,
+    bytes: &[u8],
+) -> Result<(), OpenFault>
+    requires { Spells (record_of kept) bytes.now × IsRecord (record_of kept) }
+    ensures applied { OnOk result (Applies tables.old.tables (record_of kept) tables.new.tables) }
+    ensures refused { IfErr result (λ fault.
+        (fault ≡ OpenFault.Memory)
+        ⊎ (((u : TablesOf) → Applies tables.old.tables (record_of kept) u → ⊥)
+        × (fault ≡ OpenFault.RecordRefused n))) }
+{
+    one_outcome();
+    let Some(event) = event_of(kept) else {
+        return Err(OpenFault::RecordRefused(n));
+    };
+    tables.last();
+    let Decision {
+        plan,
+        left,
+        reply: _,
+    } = decide(alloc, tables, &event)?;
+    let Some(left) = left else {
+        return Err(OpenFault::RecordRefused(n));
+    };
+    if !is_spelled(alloc, &left, bytes)? {
+        return Err(OpenFault::RecordRefused(n));
+    }
+    let at = moment_of(&left, tables);
+    tables.commit(plan, at);
+    Ok(())
+}
+
+// The event that a record is of.
+fn event_of(kept: Record) -> Option<Event>
+    ensures { result ≡ event_of kept }
+{
+    match kept {
+        Record::Opening { .. } => None,
+        Record::Turn { at } => Some(Event::Turn { at }),
+        Record::Asked {
+            at,
+            caller,
+            retry,
+            task,
+            command,
+        } => Some(Event::Ask {
+            at,
+            caller,
+            retry,
+            task,
+            command,
+        }),
+    }
+}
+
+// Whether these bytes spell the record.
+fn is_spelled(alloc: Global, left: &Record, bytes: &[u8]) -> Result<bool, Memory>
+    requires { IsRecord (record_of left.now) }
+    ensures yes { IfOk result (λ is.
+        is ≡ true → (r : RecordOf) → Spells r bytes.now → record_of left.now ≡ r) }
+    ensures no { IfOk result (λ is.
+        is ≡ false → (r : RecordOf) → Spells r bytes.now → record_of left.now ≢ r) }
+{
+    no_spelling_begins_another();
+    each_valid_record_has_one_spelling();
+    let spelled = write(alloc, left)?;
+    Ok(are_equal(spelled.as_slice(), bytes))
+}
+
+/// The last moment of the tables behind a record.
+pub(crate) fn moment_of(kept: &Record, tables: &Tables) -> Moment
+    ensures { result.0 ≡ last_after tables.now.tables (Some kept.now) }
+{
+    match kept {
+        Record::Turn { at } | Record::Asked { at, .. } => *at,
+        Record::Opening { .. } => tables.last(),
+    }
+}
