@@ -1,5 +1,5 @@
 -- What each way through an opening answers.
-use Rattle.std.proofs.Common.{◌≡◌, ◌≢◌, ◌≤◌, inl, inr, ℕ, ◌+◌, List, [], ◌∷◌, length, Option, Some, None, IfSome, IsTrue, Result, Ok, Err, ap, sym, ◌∙◌, subst, refl, arith}
+use Rattle.std.proofs.Common.{◌≡◌, ◌≢◌, ◌≤◌, inl, inr, ℕ, List, [], ◌∷◌, length, Option, Some, None, IfSome, IsTrue, Result, Ok, Err, ap, sym, ◌∙◌, subst, refl, arith}
 use Rattle.ht_base.specs.Records.{RecordOf}
 use Rattle.ht_journal.specs.Files.{contents}
 use Rattle.ht_journal.specs.Keeping.{IsKept}
@@ -10,9 +10,11 @@ use Rattle.ht_journal.specs.declared.faults.JournalFault.{JournalFault}
 use Rattle.ht_journal.specs.declared.faults.JournalFault.TheVariants as journal
 use Rattle.ht_journal.specs.declared.state.JournalState.{JournalState}
 use Rattle.ht_journal.proofs.PublicLaws.{told_weaker}
+use Rattle.ht_outside.specs.Causes.{together}
 use Rattle.ht_outside.specs.Disks.{Both}
 use Rattle.ht_outside.specs.Moments.{LeavesOnly}
 use Rattle.ht_outside.specs.declared.disk.Disk.{Ghosts}
+use Rattle.ht_tree.specs.Soundness.{IsSound}
 use Rattle.ht_tree.specs.Tables.{TablesOf}
 use Rattle.ht_desk.specs.declared.desk_state.DeskState.{DeskState}
 use Rattle.ht_desk.specs.declared.doubt.Doubt.{Doubt}
@@ -24,6 +26,7 @@ use Rattle.ht_desk.specs.Keeping.{AreAwaited}
 use Rattle.ht_desk.specs.Opening.{AreOfFile, Fails, FailsAt, IsOpenFault, IsTextFault, Opens, StandsOpen}
 use Rattle.ht_desk.specs.Records.{AreSpelled, IsSpelled, bodies_of}
 use Rattle.ht_desk.specs.Replaying.{Begins, IsJournalOf, TextsOf, opening_of}
+use Rattle.ht_desk.specs.Stepping.{Stands}
 use Rattle.ht_desk.proofs.Begun.{FindsAtMost, no_doubt}
 use Rattle.ht_desk.proofs.Coming.{comes_as, comes_since}
 use Rattle.ht_desk.proofs.Opened.{May, begun_file, begun_moments, file_comes, no_file, no_moment, opened_file, opened_moments, read_moments, roomier, same_room, text_away, text_comes}
@@ -49,6 +52,10 @@ both_found : (texts : TextsOf) (bodies : List (List ℕ)) (records : List Record
 both_found texts bodies records None m both has same = tt
 both_found texts bodies records (Some f) None both has same = absurd both
 both_found texts bodies records (Some f) (Some n) both has same = inl (has ∙ ap Ok same)
+
+-- what was opened stands, in the state that was found
+pub it_stands : {D : Type 0} (d : Ghosts D) (texts : TextsOf) (limit : ℕ) (old new : D) (desk : DeskState) → Opens d texts limit old new (Ok desk) → Stands d desk new
+it_stands d texts limit old new desk o = let w = o.found 0 in (0, texts, w.state, w.at)
 
 module _ {D : Type 0} (d : Ghosts D) (texts : TextsOf) (limit : ℕ) where
   -- a text is refused
@@ -85,10 +92,10 @@ module _ {D : Type 0} (d : Ghosts D) (texts : TextsOf) (limit : ℕ) where
   })
 
   -- a desk over a journal with these records
-  stands : (old new : D) (desk : DeskState) (records : List RecordOf) → IsKept d (bodies_of records) desk.journal new → (desk.journal).doubt ≡ None → desk.doubt ≡ None → desk.counts ≡ no_counts → (desk.journal).limit ≡ limit → AreSpelled records → IsJournalOf texts records (desk.tables).tables → IfSome (d.gives old) (AreOfFile texts records)
+  stands : (old new : D) (desk : DeskState) (records : List RecordOf) → IsKept d (bodies_of records) desk.journal new → (desk.journal).doubt ≡ None → desk.doubt ≡ None → desk.counts ≡ no_counts → (desk.journal).limit ≡ limit → AreSpelled records → IsSound (desk.tables).tables → IsJournalOf texts records (desk.tables).tables → IfSome (d.gives old) (AreOfFile texts records)
       → (beside : ℕ) → StandsOpen d texts limit beside old new desk
-  stands old new desk records kept certain quiet counts limited spelled office file beside = record {
-    state = record { tables = (desk.tables).tables; records = records; doubt = None; faults = d.faults new + beside; limit = limit; counts = no_counts };
+  stands old new desk records kept certain quiet counts limited spelled sound office file beside = record {
+    state = record { tables = (desk.tables).tables; records = records; doubt = None; faults = together (d.faults new) beside; limit = limit; counts = no_counts };
     at = record {
       tables = refl;
       kept = kept;
@@ -98,6 +105,7 @@ module _ {D : Type 0} (d : Ghosts D) (texts : TextsOf) (limit : ℕ) where
       limited = sym limited;
       counted = sym counts;
       spelled = spelled;
+      sound = sound;
       office = office;
     };
     opened = record { certain = refl; uncounted = refl; limited = refl };
@@ -134,9 +142,9 @@ module _ {D : Type 0} (d : Ghosts D) (texts : TextsOf) (limit : ℕ) where
         tells = tells ∙ o.tells;
       }
 
-      pub begun_found : (desk : DeskState) → IsKept d (bodies_of (opening_of texts ∷ [])) desk.journal new → (desk.journal).doubt ≡ None → desk.doubt ≡ None → desk.counts ≡ no_counts → (desk.journal).limit ≡ state.limit → IsSpelled (opening_of texts) → (desk.tables).tables ≡ t → d.faults new ≡ d.faults mid → Opens d texts limit old new (Ok desk)
-      begun_found desk kept certain quiet counts limited fits tables still = record {
-        found = stands old new desk (opening_of texts ∷ []) kept certain quiet counts (limited ∙ (o.fresh).1) (fits, tt)
+      pub begun_found : (desk : DeskState) → IsKept d (bodies_of (opening_of texts ∷ [])) desk.journal new → (desk.journal).doubt ≡ None → desk.doubt ≡ None → desk.counts ≡ no_counts → (desk.journal).limit ≡ state.limit → IsSpelled (opening_of texts) → IsSound (desk.tables).tables → (desk.tables).tables ≡ t → d.faults new ≡ d.faults mid → Opens d texts limit old new (Ok desk)
+      begun_found desk kept certain quiet counts limited fits sound tables still = record {
+        found = stands old new desk (opening_of texts ∷ []) kept certain quiet counts (limited ∙ (o.fresh).1) (fits, tt) sound
             (record { first = t; rest = []; begins = begins; opened = refl; replays = tables })
             (told_weaker (d.gives old) _ (AreOfFile texts (opening_of texts ∷ [])) (λ file e. inr (e, refl)) (empty none));
         refused = tt;
@@ -176,12 +184,12 @@ module _ {D : Type 0} (d : Ghosts D) (texts : TextsOf) (limit : ℕ) where
             tells = quiet.tells ∙ o.tells;
           }
 
-      pub read_found : (desk : DeskState) (records : List RecordOf) → IsKept d (bodies_of records) desk.journal new → (desk.journal).doubt ≡ state.doubt → desk.doubt ≡ None → desk.counts ≡ no_counts → (desk.journal).limit ≡ state.limit → AreSpelled records → IsJournalOf texts records (desk.tables).tables
+      pub read_found : (desk : DeskState) (records : List RecordOf) → IsKept d (bodies_of records) desk.journal new → (desk.journal).doubt ≡ state.doubt → desk.doubt ≡ None → desk.counts ≡ no_counts → (desk.journal).limit ≡ state.limit → AreSpelled records → IsSound (desk.tables).tables → IsJournalOf texts records (desk.tables).tables
           → ((bodies : List (List ℕ)) → IsKept d bodies state mid → IfSome (d.gives mid) (λ _. bodies ≡ bodies_of records)) → d.faults new ≡ d.faults mid → Opens d texts limit old new (Ok desk)
-      read_found desk records kept certain none counts limited spelled office same still =
+      read_found desk records kept certain none counts limited spelled sound office same still =
           let f = o.found in
           record {
-            found = stands old new desk records kept (certain ∙ (o.fresh).0) none counts (limited ∙ (o.fresh).1) spelled office (both_found texts f.0 records (d.gives old) (d.gives mid) o.same f.2 (same f.0 f.1));
+            found = stands old new desk records kept (certain ∙ (o.fresh).0) none counts (limited ∙ (o.fresh).1) spelled sound office (both_found texts f.0 records (d.gives old) (d.gives mid) o.same f.2 (same f.0 f.1));
             refused = tt;
             any_moment = λ told. read_any told;
             begun = opened_file texts (d.gives old) (d.gives mid) (d.gives new) o.same quiet.file;

@@ -74,6 +74,18 @@ applied_at : (t : TablesOf) (before : List RecordOf) (r : RecordOf) (after : Lis
 applied_at t [] r after u (w, a, on) = (t, w, refl, a)
 applied_at t (x ∷ before) r after u (m, a, on) = let rest = applied_at m before r after u on in (rest.0, rest.1, (m, a, rest.2), rest.3)
 
+-- the records of an office lead to one state of its tables
+pub led_once : ModelsOnce → PeopleOnce → (texts : TextsOf) (records : List RecordOf) (t u : TablesOf) → IsJournalOf texts records t → IsJournalOf texts records u → t ≡ u
+led_once one other texts records t u a b =
+    let first : b.first ≡ a.first = begins_once one other texts b.first a.first b.begins a.begins in
+    let rest : b.rest ≡ a.rest = behind (opening_of texts) b.rest a.rest (sym b.opened ∙ a.opened) in
+    let F : TablesOf → Type 0 = λ x. Replays x b.rest u in
+    let R : List RecordOf → Type 0 = λ l. Replays a.first l u in
+    replays_once a.first a.rest t u a.replays (subst R rest (subst F first b.replays))
+  where
+    behind : (o : RecordOf) (x y : List RecordOf) → o ∷ x ≡ o ∷ y → x ≡ y
+    behind o x y e = cc
+
 -- ---- which record a body is
 
 pub spelled_alike : (r s : RecordOf) (a b : List ℕ) → Spells r a → Spells s b → b ≡ a → r ≡ s

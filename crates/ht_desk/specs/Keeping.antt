@@ -1,5 +1,5 @@
 -- In which state a desk with its disks is.
-use Rattle.std.specs.Prelude.{◌≡◌, ℕ, ◌+◌, ◌≤◌, Option, Some, None, option_map}
+use Rattle.std.specs.Prelude.{◌≡◌, ℕ, ◌≤◌, Option, Some, None, option_map}
 use Rattle.ht_base.specs.Records.{RecordOf}
 use Rattle.ht_desk.specs.declared.desk_state.DeskState.{DeskState}
 use Rattle.ht_desk.specs.declared.doubt.Doubt.{Doubt}
@@ -7,6 +7,7 @@ use Rattle.ht_desk.specs.Records.{AreSpelled, IsSpelled, bodies_of, spelling}
 use Rattle.ht_desk.specs.Replaying.{Applies, IsJournalOf, TextsOf}
 use Rattle.ht_desk.specs.States.{State, is_asking}
 use Rattle.ht_journal.specs.Keeping.{IsKept, doubt_of}
+use Rattle.ht_outside.specs.Causes.{together}
 use Rattle.ht_outside.specs.declared.disk.Disk.{Ghosts}
 use Rattle.ht_tree.specs.Plans.{IsPlanOf, IsPrepared, committed}
 use Rattle.ht_tree.specs.Soundness.{IsSound}
@@ -35,8 +36,9 @@ pub record IsAt {D : Type 0} (d : Ghosts D) (beside : ℕ) (texts : TextsOf) (s 
   pub kept : IsKept d (bodies_of s.records) desk.journal disk
   pub doubted : doubt_of desk.journal ≡ option_map spelling s.doubt
   pub awaited : AreAwaited desk.tables desk.doubt s.doubt
-  pub failures : s.faults ≡ d.faults disk + beside
+  pub failures : s.faults ≡ together (d.faults disk) beside
   pub limited : s.limit ≡ (desk.journal).limit
   pub counted : s.counts ≡ desk.counts
   pub spelled : AreSpelled s.records
+  pub sound : IsSound s.tables
   pub office : IsJournalOf texts s.records s.tables

@@ -2,7 +2,13 @@ pub mod Counting
 pub mod Examples
 pub mod Faults
 pub mod Keeping
+pub mod Moments
+pub mod Moves
 pub mod Opening
 pub mod Records
 pub mod Replaying
+pub mod Staging
 pub mod States
+pub mod Stepping
+pub mod Steps
+pub mod Turns

@@ -1,5 +1,5 @@
 -- The records of a journal: what each is spelled as, and what a file holds of them.
-use Rattle.std.specs.Prelude.{◌≡◌, ℕ, List, map, Ok}
+use Rattle.std.specs.Prelude.{◌≡◌, ℕ, List, [], ◌∷◌, ◌++◌, map, Option, None, Some, Ok}
 use Rattle.std.specs.List.{AllByRecursion}
 use Rattle.ht_base.specs.Records.{RecordOf}
 use Rattle.ht_codec.specs.Records.{entry}
@@ -27,3 +27,8 @@ length_of records = journal_length (bodies_of records)
 -- a reader of the file finds these records and no more
 abbrev pub Finds : List RecordOf → List ℕ → Type 0
 Finds records file = contents file ≡ Ok (bodies_of records)
+
+-- it finds these and the one in doubt
+abbrev pub FindsAlso : List RecordOf → Option RecordOf → List ℕ → Type 0
+FindsAlso records None file = ⊥
+FindsAlso records (Some r) file = Finds (records ++ r ∷ []) file

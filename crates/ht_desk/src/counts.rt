@@ -1,5 +1,7 @@
 ghost use Rattle.std.specs.Prelude.{◌≡◌};
-ghost use Rattle.ht_desk.specs.Counting.{no_counts};
+ghost use Rattle.ht_desk.specs.Counting.{no_counts, replied, with_joined};
+
+use ht_base::Event;
 
 /// How often what happened, since the office was opened. A count stops at 18446744073709551615.
 #[derive(Clone, Copy, Debug, PartialEq, Eq)]
@@ -22,5 +24,24 @@ impl Counts {
             accepted: 0,
             taken: 0,
         }
+    }
+
+    // Counts a record that joins the others.
+    pub(crate) fn join(&mut self, asked: bool)
+        ensures { self.new ≡ with_joined self.old asked }
+    {
+        if asked {
+            self.accepted = self.accepted.saturating_add(1);
+        }
+    }
+
+    // Counts an event that was replied to.
+    pub(crate) fn reply(&mut self, event: &Event, taken: u32)
+        ensures { self.new ≡ replied self.old event.now taken }
+    {
+        if let Event::Turn { .. } = event {
+            self.turns = self.turns.saturating_add(1);
+        }
+        self.taken = self.taken.saturating_add(u64::from(taken));
     }
 }

@@ -7,9 +7,11 @@ ghost use Rattle.ht_desk.specs.Faults.{ComesWhere, fault_of};
 ghost use Rattle.ht_desk.specs.Opening.{FailsAt, IsTextFault, Opens};
 ghost use Rattle.ht_desk.specs.Records.{AreSpelled, bodies_of};
 ghost use Rattle.ht_desk.specs.Replaying.{Begins, IsJournalOf, texts_of};
+ghost use Rattle.ht_desk.specs.Stepping.{Stands};
 ghost use Rattle.ht_journal.specs.Keeping.{IsKept};
 ghost use Rattle.ht_journal.specs.Quiet.{IsQuiet};
 ghost use Rattle.ht_journal.specs.Rooms.{IsRoomy};
+ghost use Rattle.ht_tree.specs.Soundness.{IsSound};
 
 use crate::beginning::{begin, compare_first};
 use crate::replaying::replay_one;
@@ -37,7 +39,9 @@ pub fn open<D: Disk>(
     requires texts { (length models.now ≤ LONGEST_OFFICE_TEXT)
         × (length people.now ≤ LONGEST_OFFICE_TEXT) }
     requires limit { (LEAST_LIMIT ≤ limit) × (limit ≤ GREATEST_LIMIT) }
-    ensures { Opens D.Disk (texts_of models.now people.now) limit disk.old disk.new result }
+    ensures opens { Opens D.Disk (texts_of models.now people.now) limit disk.old disk.new result }
+    // For a caller to whom the state doesn't matter.
+    ensures stands { IfOk result (λ desk. Stands D.Disk desk disk.new) }
 {
     let mut tables = match tables_of(alloc, models, people) {
         Ok(tables) => tables,
@@ -69,9 +73,11 @@ fn told(fault: JournalFault) -> OpenFault
 fn opened(alloc: Global, journal: JournalState, tables: Tables) -> DeskState
     ensures journal { result.journal ≡ journal }
     ensures tables { result.tables ≡ tables }
+    ensures sound { IsSound result.tables.tables }
     ensures certain { result.doubt ≡ None }
     ensures uncounted { result.counts ≡ no_counts }
 {
+    tables.last();
     DeskState {
         alloc,
         journal,

@@ -2,4 +2,8 @@
 #![tactic(auto)]
 
 #[cfg(test)]
+mod offices;
+#[cfg(test)]
 mod opening;
+#[cfg(test)]
+mod stepping;

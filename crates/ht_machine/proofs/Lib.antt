@@ -19,6 +19,7 @@ mod OneTurn
 mod PartsShown
 pub mod PublicLaws
 mod Refusing
+mod RefusingItself
 mod Remembering
 mod Rows
 mod SomeOutcome

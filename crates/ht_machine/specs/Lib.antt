@@ -7,6 +7,7 @@ pub mod Examples
 pub mod Following
 pub mod Gate
 pub mod History
+pub mod Itself
 pub mod Naming
 pub mod Once
 pub mod Outcomes

@@ -1,13 +1,15 @@
 -- Worked examples of the order of refusals. A wrong reading of one fails the check.
-use Rattle.std.specs.Prelude.{◌≡◌, refl, ℕ, List, ◌∷◌, [], Option, Some, None, codes}
+use Rattle.std.specs.Prelude.{◌≡◌, refl, true, false, ℕ, List, ◌∷◌, [], Option, Some, None, codes}
 use Rattle.ht_base.specs.declared.event.Command.{Command}
 use Rattle.ht_base.specs.declared.event.Command.TheVariants.{Claim, Create, Forward, Stop}
 use Rattle.ht_base.specs.declared.operation.Op.TheVariants as op
+use Rattle.ht_base.specs.declared.reply.Limit.TheVariants.{Journal, Tasks}
 use Rattle.ht_base.specs.declared.reply.Refusal.{Refusal}
-use Rattle.ht_base.specs.declared.reply.Refusal.TheVariants.{ByGroup, Role, State, Task, Unknown}
+use Rattle.ht_base.specs.declared.reply.Refusal.TheVariants.{ByGroup, Limit, Memory, Role, Store, State, Task, Unknown}
 use Rattle.ht_base.specs.declared.reply.Unknown.TheVariants.{Model}
 use Rattle.ht_base.specs.declared.state.State.TheVariants.{Ready, Reserved}
 use Rattle.ht_machine.specs.Examples.{claimed, nothing_yet, ready}
+use Rattle.ht_machine.specs.Itself.{is_its_own}
 use Rattle.ht_machine.specs.Refusals.{refusals}
 use Rattle.ht_owner.specs.Faults.{first_of}
 use Rattle.ht_rules.specs.Judging.{needed}
@@ -39,3 +41,17 @@ then_the_faults_in_their_order = refl
 
 nothing_speaks_against_it : told (ready ∷ []) 0 1 Claim ≡ None
 nothing_speaks_against_it = refl
+
+-- ---- what the machine refuses by the tables
+
+too_many_tasks : is_its_own (Limit Tasks) ≡ true
+too_many_tasks = refl
+
+too_long_a_journal : is_its_own (Limit Journal) ≡ false
+too_long_a_journal = refl
+
+a_disk_that_fails : is_its_own Store ≡ false
+a_disk_that_fails = refl
+
+no_memory : is_its_own Memory ≡ false
+no_memory = refl

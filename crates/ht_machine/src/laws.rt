@@ -15,6 +15,7 @@ ghost use Rattle.ht_due.specs.declared.due.Due.{Due};
 ghost use Rattle.ht_machine.specs.Commands.{Comes, Consequence};
 ghost use Rattle.ht_machine.specs.Deciding.{Decides, moment_of};
 ghost use Rattle.ht_machine.specs.History.{Applies, History, IsHistory, IsLeftAt, event_of};
+ghost use Rattle.ht_machine.specs.Itself.{AnswersItself};
 ghost use Rattle.ht_machine.specs.Once.{Accepts, IsAccepted, IsSince, Remembers};
 ghost use Rattle.ht_machine.specs.Outcomes.{AreRead, HasEnd, HasOutcome, HaveOutcomes};
 ghost use Rattle.ht_machine.specs.Refusals.{IsRefusedInOrder};
@@ -86,6 +87,14 @@ pub fn a_refusal_is_the_first_that_holds()
     ensures { (u : TablesOf) (caller moment task : ℕ) (c : Command) (o : Consequence)
         → Comes u caller moment task c o
         → IsRefusedInOrder u caller (record { 0 = moment }) task c o }
+{}
+
+/// What the machine refuses, it refuses by its tables: never for want of memory, of a disk, of room in the
+/// journal or of turns.
+pub fn the_machine_refuses_by_the_tables()
+    ensures { (t : TablesOf) (e : Event) (k : Option Record) (r : Reply) (u : TablesOf)
+        → Decides t e k r u
+        → AnswersItself r.answer }
 {}
 
 /// A numbered command that was accepted acts once: whenever it is sent again in a history, by the same

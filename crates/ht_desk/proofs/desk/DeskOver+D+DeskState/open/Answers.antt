@@ -5,4 +5,4 @@ use Rattle.ht_desk.proofs.desk.DeskOver+D+DeskState.open.Goals as goal
 pub returns-in-Err-clause-refused : goal.returns-in-Err-clause-refused
 returns-in-Err-clause-refused g c =
     let texts : TextsOf = record { models = c.args.models.now; people = c.args.people.now } in
-    reason_of texts (g.D.Disk.gives c.args.first.now) _ _ c.in-Err.fault c.in-Err.ensures.refused
+    reason_of texts (g.D.Disk.gives c.args.first.now) _ _ c.in-Err.fault c.in-Err.ensures.opens.refused
