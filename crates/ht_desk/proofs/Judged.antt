@@ -1,5 +1,6 @@
 -- What is decided of a record's event: it is applied, or never is.
-use Rattle.std.proofs.Common.{◌≡◌, ◌≤◌, inl, inr, Option, Some, None, ap, sym, ◌∙◌, subst, refl}
+use Rattle.std.proofs.Common.{◌≡◌, ◌==◌, ℕ, List, ⊎_elim, true, false, ◌≤◌, inl, inr, Option, Some, None, ap, sym, ◌∙◌, subst, refl}
+use Rattle.std.proofs.lemmas.Bool.{eq-eqb, eqb-true}
 use Rattle.ht_base.specs.declared.event.Event.{Event}
 use Rattle.ht_base.specs.declared.event.Event.TheVariants.{Ask, Read, Turn}
 use Rattle.ht_base.specs.declared.moment.Moment.{Moment}
@@ -18,7 +19,7 @@ use Rattle.ht_machine.specs.History.{IsLeftAt, event_of}
 use Rattle.ht_machine.specs.Planning.{IsDecided}
 use Rattle.ht_machine.proofs.PublicLaws.{applies_again, its_event_is_valid, of_its_moment, same}
 use Rattle.ht_tree.specs.Tables.{RoomyTables, TablesOf}
-use Rattle.ht_desk.specs.Replaying.{Applies}
+use Rattle.ht_desk.specs.Replaying.{Applies, is_at}
 
 -- ---- the event of a record
 
@@ -26,12 +27,12 @@ some_same : {A : Type 0} (x y : A) → Some x ≡ Some y → x ≡ y
 some_same x y e = cc
 
 -- by its bytes
-abbrev event_in : RecordOf → Option Event
+abbrev pub event_in : RecordOf → Option Event
 event_in (an_opening models people) = None
 event_in (a_turn at) = Some (Turn at)
 event_in (an_asking at caller retry task command) = Some (Ask at caller retry task command)
 
-event_is : (k : Record) → event_of k ≡ event_in (record_of k)
+pub event_is : (k : Record) → event_of k ≡ event_in (record_of k)
 event_is (records.Opening models people) = refl
 event_is (records.Turn at) = refl
 event_is (records.Asked at caller retry task command) = refl
@@ -88,3 +89,63 @@ opening_applied t kept none v (k, one, on) = go on
   where
     go : machine.Applies t k v → ⊥
     go (f, s, its, g) = absurd (let e : Some f ≡ None = sym its ∙ event_is k ∙ ap event_in one ∙ sym (event_is kept) ∙ none in cc)
+
+-- ---- which record it is
+
+same_moment : (a b : Moment) → (a.0 == b.0) ≡ true → a ≡ b
+same_moment a b e = let same : a.0 ≡ b.0 = eqb-true a.0 b.0 e in ap (λ n. moment_at n) same
+  where
+    moment_at : ℕ → Moment
+    moment_at n = record { 0 = n }
+
+apart : (a b : Moment) → a ≡ b → (a.0 == b.0) ≡ false → ⊥
+apart a b e other =
+    let alike : (a.0 == b.0) ≡ true = eq-eqb a.0 b.0 (ap (λ (m : Moment). m.0) e) in
+    let clash : true ≡ false = sym alike ∙ other in
+    absurd (cc)
+
+-- What an event leaves at a moment is the record that the event is of, where it is of its kind and moment.
+pub same_record : (at : Moment) (e : Event) (l : Record) → IsLeftAt at e l → is_at l e ≡ true → (r : RecordOf) → event_in r ≡ Some e → record_of l ≡ r
+same_record at e l left is (an_opening models people) of = absurd (cc)
+same_record at (Turn b) l left is (a_turn c) of =
+    let turned : l ≡ records.Turn at = ⊎_elim (λ x. x) (λ x. x) left in
+    let same : at ≡ b = same_moment at b (subst (λ (x : Record). is_at x (Turn b) ≡ true) turned is) in
+    let b_is : b ≡ c = cc in
+    ap record_of turned ∙ ap a_turn (same ∙ b_is)
+same_record at (Ask b caller retry task command) l left is (a_turn c) of = absurd (cc)
+same_record at (Read caller what) l left is (a_turn c) of = absurd (cc)
+same_record at (Turn b) l left is (an_asking c caller retry task command) of = absurd (cc)
+same_record at (Read asker what) l left is (an_asking c caller retry task command) of = absurd (cc)
+same_record at (Ask b asker number asked what) l left is (an_asking c caller retry task command) of = ⊎_elim
+    (λ (turned : l ≡ records.Turn at). absurd (let no : false ≡ true = subst (λ (x : Record). is_at x (Ask b asker number asked what) ≡ true) turned is in cc))
+    (λ (asking : l ≡ records.Asked at asker number asked what).
+    let same : at ≡ b = same_moment at b (subst (λ (x : Record). is_at x (Ask b asker number asked what) ≡ true) asking is) in
+    let rest : an_asking b asker number asked what ≡ an_asking c caller retry task command = cc in
+    ap record_of asking ∙ (ap (λ m. an_asking m asker number asked what) same ∙ rest))
+    left
+
+pub other_record : (at : Moment) (e : Event) (l : Record) → IsLeftAt at e l → is_at l e ≡ false → (r : RecordOf) → event_in r ≡ Some e → record_of l ≡ r → ⊥
+other_record at e l left is (an_opening models people) of alike = absurd (cc)
+other_record at (Turn b) l left is (a_turn c) of alike =
+    let turned : l ≡ records.Turn at = ⊎_elim (λ x. x) (λ x. x) left in
+    let b_is : b ≡ c = cc in
+    let at_is : at ≡ c = moment_of_turn at c (sym (ap record_of turned) ∙ alike) in
+    apart at b (at_is ∙ sym b_is) (subst (λ (x : Record). is_at x (Turn b) ≡ false) turned is)
+  where
+    moment_of_turn : (x y : Moment) → a_turn x ≡ a_turn y → x ≡ y
+    moment_of_turn x y e = cc
+other_record at (Ask b caller retry task command) l left is (a_turn c) of alike = absurd (cc)
+other_record at (Read caller what) l left is (a_turn c) of alike = absurd (cc)
+other_record at (Turn b) l left is (an_asking c caller retry task command) of alike = absurd (cc)
+other_record at (Read asker what) l left is (an_asking c caller retry task command) of alike = absurd (cc)
+other_record at (Ask b asker number asked what) l left is (an_asking c caller retry task command) of alike = ⊎_elim
+    (λ (turned : l ≡ records.Turn at). absurd (let no : a_turn at ≡ an_asking c caller retry task command = sym (ap record_of turned) ∙ alike in cc))
+    (λ (asking : l ≡ records.Asked at asker number asked what).
+    let here : an_asking at asker number asked what ≡ an_asking c caller retry task command = sym (ap record_of asking) ∙ alike in
+    let rest : an_asking b asker number asked what ≡ an_asking c caller retry task command = cc in
+    let at_is : at ≡ b = moment_of_asking at b asker number asked what (here ∙ sym rest) in
+    apart at b at_is (subst (λ (x : Record). is_at x (Ask b asker number asked what) ≡ false) asking is))
+    left
+  where
+    moment_of_asking : (x y : Moment) (w : List ℕ) (n : _) (t : _) (c : _) → an_asking x w n t c ≡ an_asking y w n t c → x ≡ y
+    moment_of_asking x y w n t c e = cc

@@ -4,7 +4,7 @@ ghost use Rattle.ht_codec.specs.Records.{IsRecord, Spells};
 ghost use Rattle.ht_desk.specs.Opening.{FailsNext};
 ghost use Rattle.ht_desk.specs.Faults.{ComesWhere};
 ghost use Rattle.ht_desk.specs.Records.{IsSpelled, spelling};
-ghost use Rattle.ht_desk.specs.Replaying.{Applies};
+ghost use Rattle.ht_desk.specs.Replaying.{Applies, is_at};
 ghost use Rattle.ht_journal.specs.Bodies.{IsNth};
 ghost use Rattle.ht_journal.specs.declared.limits.TheConstants.{LONGEST_BODY};
 ghost use Rattle.ht_journal.specs.Keeping.{IsKept};
@@ -15,9 +15,8 @@ ghost use Rattle.ht_machine.specs.History.{event_of};
 ghost use Rattle.ht_tree.specs.Tables.{TablesOf};
 
 use crate::OpenFault;
-use crate::kept::{are_equal, record_of};
-use ht_base::{Event, Memory, Moment, Record};
-use ht_codec::{each_valid_record_has_one_spelling, no_spelling_begins_another, write};
+use crate::kept::record_of;
+use ht_base::{Event, Moment, Record};
 use ht_journal::JournalState;
 use ht_machine::{Decision, decide, one_outcome};
 use ht_outside::Disk;
@@ -69,21 +68,15 @@ pub(crate) fn replay_one<D: Disk>(
         Ok(kept) => kept,
         Err(fault) => return Err(fault),
     };
-    match replay_record(alloc, tables, n, kept, body.bytes.as_slice()) {
+    match replay_record(alloc, tables, n, kept) {
         Ok(()) => Ok(size),
         Err(fault) => Err(fault),
     }
 }
 
-// Replays a record that these bytes spell.
-fn replay_record(
-    alloc: Global,
-    tables: &mut Tables,
-    n: u32,
-    kept: Record,
-    bytes: &[u8],
-) -> Result<(), OpenFault>
-    requires { Spells (record_of kept) bytes.now × IsRecord (record_of kept) }
+// Replays a record. What its event leaves has its parts, so that kind and moment alone are compared.
+fn replay_record(alloc: Global, tables: &mut Tables, n: u32, kept: Record) -> Result<(), OpenFault>
+    requires { IsRecord (record_of kept) }
     ensures applied { OnOk result (Applies tables.old.tables (record_of kept) tables.new.tables) }
     ensures refused { IfErr result (λ fault.
         (fault ≡ OpenFault.Memory)
@@ -103,7 +96,7 @@ fn replay_record(
     let Some(left) = left else {
         return Err(OpenFault::RecordRefused(n));
     };
-    if !is_spelled(alloc, &left, bytes)? {
+    if !is_at(&left, &event) {
         return Err(OpenFault::RecordRefused(n));
     }
     let at = moment_of(&left, tables);
@@ -134,18 +127,16 @@ fn event_of(kept: Record) -> Option<Event>
     }
 }
 
-// Whether these bytes spell the record.
-fn is_spelled(alloc: Global, left: &Record, bytes: &[u8]) -> Result<bool, Memory>
-    requires { IsRecord (record_of left.now) }
-    ensures yes { IfOk result (λ is.
-        is ≡ true → (r : RecordOf) → Spells r bytes.now → record_of left.now ≡ r) }
-    ensures no { IfOk result (λ is.
-        is ≡ false → (r : RecordOf) → Spells r bytes.now → record_of left.now ≢ r) }
+// Whether a record is of the event's kind and moment.
+fn is_at(left: &Record, event: &Event) -> bool
+    ensures { result ≡ is_at left.now event.now }
 {
-    no_spelling_begins_another();
-    each_valid_record_has_one_spelling();
-    let spelled = write(alloc, left)?;
-    Ok(are_equal(spelled.as_slice(), bytes))
+    match left {
+        Record::Opening { .. } => false,
+        Record::Turn { at } => matches!(event, Event::Turn { at: moment } if at.0 == moment.0),
+        Record::Asked { at, .. } =>
+            matches!(event, Event::Ask { at: moment, .. } if at.0 == moment.0),
+    }
 }
 
 /// The last moment of the tables behind a record.

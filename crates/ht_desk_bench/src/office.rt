@@ -3,7 +3,7 @@ ghost use Rattle.ht_base.specs.Events.{IsValid};
 ghost use Rattle.ht_desk.specs.Stepping.{Stands};
 
 use ht_base::{Answer, Bytes, Command, Event, LONGEST_OFFICE_TEXT, Moment, Name, Parts, TaskId};
-use ht_desk::{DeskState, open};
+use ht_desk::{DeskState, GREATEST_LIMIT, open};
 use ht_machine::run_one;
 use ht_models::Models;
 use ht_outside::{Disk, MemoryDisk, RoomDisk};
@@ -13,7 +13,23 @@ use std::alloc::Global;
 
 const MODELS: &[u8] = b"[[model]]\nname = \"unit\"\npotentialOwners = \"everybody\"\n";
 
-const PEOPLE: &[u8] = b"[[person]]\nname = \"p0\"\n[[person]]\nname = \"p1\"\n";
+const PEOPLE: &[u8] = b"\
+    [[person]]\nname = \"p0\"\n\
+    [[person]]\nname = \"p1\"\n\
+    [[person]]\nname = \"p2\"\n\
+    [[person]]\nname = \"p3\"\n\
+    [[person]]\nname = \"p4\"\n\
+    [[person]]\nname = \"p5\"\n\
+    [[person]]\nname = \"p6\"\n\
+    [[person]]\nname = \"p7\"\n\
+    [[person]]\nname = \"p8\"\n\
+    [[person]]\nname = \"p9\"\n\
+    [[person]]\nname = \"p10\"\n\
+    [[person]]\nname = \"p11\"\n\
+    [[person]]\nname = \"p12\"\n\
+    [[person]]\nname = \"p13\"\n\
+    [[person]]\nname = \"p14\"\n\
+    [[person]]\nname = \"p15\"\n";
 
 /// The room of a disk, in bytes.
 const ROOM: u64 = 67_108_864;
@@ -41,6 +57,17 @@ fn durable<D: Disk>(alloc: Global, disk: &mut D, creates: u32, claims: u32) -> O
         return None;
     };
     step_by(alloc, &mut desk, disk, creates, claims)
+}
+
+/// Whether the journal of an office with these texts is opened, which is a file of this name.
+pub(crate) fn is_opened<D: Disk>(alloc: Global, disk: &mut D, name: &str) -> bool {
+    if MODELS.len() > LONGEST_OFFICE_TEXT as usize || PEOPLE.len() > LONGEST_OFFICE_TEXT as usize {
+        return false;
+    }
+    if disk.attach(name).is_err() {
+        return false;
+    }
+    open(alloc, MODELS, PEOPLE, disk, GREATEST_LIMIT).is_ok()
 }
 
 fn step_by<D: Disk>(
