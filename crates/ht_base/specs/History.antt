@@ -1,12 +1,10 @@
 -- Histories of a machine that goes on step by step, whatever its states, events and replies are.
 use Rattle.std.specs.Prelude.{ℕ, ◌==◌, List, [], ◌∷◌, filter}
+use Rattle.ht_base.specs.declared.entry.Entry.{Entry as Call}
 
 -- one event with its reply, the state after it, and the number of the caller's pass
-pub record Entry (S E R : Type 0) : Type 0 where
-  pub pass : ℕ
-  pub event : E
-  pub reply : R
-  pub after : S
+abbrev pub Entry : Type 0 → Type 0 → Type 0 → Type 0
+Entry S E R = Call S E R
 
 -- each entry is a step from the state that the one before it left, the first from this state
 abbrev pub IsLegal : {S E R : Type 0} → (S → E → R → S → Type 0) → S → List (Entry S E R) → Type 0

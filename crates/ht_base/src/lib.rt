@@ -5,6 +5,7 @@
 mod boxed_sheet;
 mod bytes;
 mod end;
+mod entry;
 mod event;
 mod how;
 mod ids;
@@ -41,6 +42,7 @@ mod values;
 pub use boxed_sheet::BoxedSheet;
 pub use bytes::Bytes;
 pub use end::End;
+pub use entry::Entry;
 pub use event::{Command, Event, Query};
 pub use how::How;
 pub use ids::Ids;

@@ -1,0 +1,9 @@
+mod Lists
+mod Views
+mod KeptByLooks
+mod KeptByTurns
+mod KeptByNumbers
+mod KeptAtOpening
+mod KeptInTurns
+mod Seen
+mod RuleLaws
