@@ -1,13 +1,14 @@
 -- The images that a crash makes by each pick.
-use Rattle.std.proofs.Common.{◌≡◌, ◌⊎◌, ⊎_elim, inl, inr, ℕ, ◌+◌, ◌-◌, ◌<◌, ◌≤◌, List, [], ◌∷◌, ◌++◌, length, take, drop, get_or, refl, sym, ap, ◌∙◌, subst, arith, Ok, Err, Result}
+use Rattle.std.proofs.Common.{◌≡◌, ◌⊎◌, ⊎_elim, inl, inr, ℕ, ◌+◌, ◌-◌, ◌<◌, ◌≤◌, List, [], ◌∷◌, ◌++◌, length, take, drop, get_or, refl, sym, ap, ◌∙◌, subst, arith, lit<, true, Ok, Err, Result}
 use Rattle.std.specs.Prelude.{IfOk, replicate}
 use Rattle.std.proofs.lemmas.List.{get_or-append_right, get_or-replicate, get_or-take, get_or_append_left, length-append, length-replicate, length-take-le}
 use Rattle.std.proofs.lemmas.Bool.{cases_lt}
-use Rattle.ht_outside.specs.Disks.{Torn, laid_over, padded, written}
+use Rattle.ht_outside.specs.ByteLaws.{IsOfBytes, laid_over_bytes, replicate_bytes, stands_of_bytes}
+use Rattle.ht_outside.specs.Disks.{AreBytes, Torn, laid_over, padded, written}
 use Rattle.ht_outside.specs.Patches.{PatchOf}
 use Rattle.ht_outside.specs.CrashModel.{IsImage, IsMarked, IsTouched, IsUntouched, Unsynced, patched}
 use Rattle.ht_outside.specs.ImageLaws.{present_is_image, torn_outside}
-use Rattle.ht_outside.specs.MemoryDisks.{IsPicked, ScriptedDisk, disk_of, given_by, stands}
+use Rattle.ht_outside.specs.MemoryDisks.{IsPicked, ScriptedDisk, disk_of, given_by, holds_bytes, stands}
 use Rattle.ht_outside.specs.Replays.{mark_over, marked, picked}
 use Rattle.ht_outside.specs.TornWrites.{laid_over_torn, length-laid_over, length-padded}
 
@@ -103,30 +104,36 @@ is_marked disk = record {
   ones = λ place within is. marked_ones disk.patches disk.synced place within (inl is);
 }
 
+marked_bytes : (file : List ℕ) (patches : List PatchOf) → AreBytes file → AreBytes (marked file patches)
+marked_bytes file [] are = are
+marked_bytes file (patch ∷ patches) are =
+    let ones : List ℕ = replicate (length patch.piece) 1 in
+    marked_bytes (mark_over patch file) patches (laid_over_bytes 1 patch.at ones file (lit< tt) (replicate_bytes (length patch.piece) 1 (lit< tt)) are)
+
 one_of_three : (pick : ℕ) → pick ≤ 2 → (pick ≡ 0) ⊎ ((pick ≡ 1) ⊎ (pick ≡ 2))
 one_of_three pick le = ⊎_elim
     (λ (none : pick < 1). inl (omega arith))
     (λ (some : 1 ≤ pick). ⊎_elim (λ (one : pick < 2). inr (inl (omega arith))) (λ (two : 2 ≤ pick). inr (inr (omega arith))) (cases_lt pick 2))
     (cases_lt pick 1)
 
-is_picked : (pick : ℕ) (disk : Unsynced) → pick ≤ 2 → IsPicked pick disk (picked pick disk) × IsImage disk (picked pick disk)
-is_picked pick disk le =
+is_picked : (pick : ℕ) (disk : Unsynced) → IsOfBytes disk → pick ≤ 2 → IsPicked pick disk (picked pick disk) × IsImage disk (picked pick disk)
+is_picked pick disk small le =
     let P : ℕ → Type 0 = λ p. IsPicked p disk (picked p disk) × IsImage disk (picked p disk) in
-    let now = present_is_image disk in
+    let now = present_is_image disk small in
     let all = is_marked disk in
     ⊎_elim
-    (λ (zeroth : pick ≡ 0). subst P (sym zeroth) (refl, record { no_shorter = omega arith; no_longer = now.no_shorter; others = λ place within untouched. refl }))
+    (λ (zeroth : pick ≡ 0). subst P (sym zeroth) (refl, record { no_shorter = omega arith; no_longer = now.no_shorter; others = λ place within untouched. refl; bytes = small.synced }))
     (λ rest. ⊎_elim
     (λ (first : pick ≡ 1). subst P (sym first) (refl, now))
-    (λ (second : pick ≡ 2). subst P (sym second) (all, record { no_shorter = omega (arith, all.ends, now.no_shorter); no_longer = omega (arith, all.ends); others = all.others }))
+    (λ (second : pick ≡ 2). subst P (sym second) (all, record { no_shorter = omega (arith, all.ends, now.no_shorter); no_longer = omega (arith, all.ends); others = all.others; bytes = marked_bytes disk.synced disk.patches small.synced }))
     rest)
     (one_of_three pick le)
 
-module _ {E : Type 0} (pick : ℕ) (disk : ScriptedDisk) (le : pick ≤ 2) where
+module _ {E : Type 0} (pick : ℕ) (disk : ScriptedDisk) (holds : holds_bytes disk.bytes disk.calls ≡ true) (le : pick ≤ 2) where
   pub made_by_pick : (r : Result ScriptedDisk E) → IfOk r (λ made. made ≡ disk_of (picked pick (stands disk)) []) → IfOk r (λ made. IsPicked pick (stands disk) (given_by made))
-  made_by_pick (Ok made) is = subst (λ (m : ScriptedDisk). IsPicked pick (stands disk) (given_by m)) (sym is) (is_picked pick (stands disk) le).0
+  made_by_pick (Ok made) is = subst (λ (m : ScriptedDisk). IsPicked pick (stands disk) (given_by m)) (sym is) (is_picked pick (stands disk) (stands_of_bytes disk.bytes disk.calls holds) le).0
   made_by_pick (Err e) is = tt
 
   pub made_is_image : (r : Result ScriptedDisk E) → IfOk r (λ made. made ≡ disk_of (picked pick (stands disk)) []) → IfOk r (λ made. IsImage (stands disk) (given_by made))
-  made_is_image (Ok made) is = subst (λ (m : ScriptedDisk). IsImage (stands disk) (given_by m)) (sym is) (is_picked pick (stands disk) le).1
+  made_is_image (Ok made) is = subst (λ (m : ScriptedDisk). IsImage (stands disk) (given_by m)) (sym is) (is_picked pick (stands disk) (stands_of_bytes disk.bytes disk.calls holds) le).1
   made_is_image (Err e) is = tt

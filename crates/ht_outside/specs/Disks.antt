@@ -1,5 +1,6 @@
 -- What the calls of a disk do to its file, and what a crash may leave between two syncs.
-use Rattle.std.specs.Prelude.{◌≡◌, ◌⊎◌, ℕ, ◌+◌, ◌-◌, ◌<◌, ◌≤◌, min, max, Bool, IsTrue, List, ◌++◌, length, take, drop, replicate, slice_index, Option, Some, None, ⊤}
+use Rattle.std.specs.Prelude.{◌≡◌, ◌⊎◌, ℕ, ◌+◌, ◌-◌, ◌<◌, ◌≤◌, min, max, Bool, IsTrue, List, ◌++◌, length, take, drop, replicate, slice_index, Option, Some, None, ⊤, nat_lt}
+use Rattle.std.specs.List.{list_all}
 
 -- the file with a filler behind it, as far as this place
 abbrev pub padded : ℕ → ℕ → List ℕ → List ℕ
@@ -39,6 +40,10 @@ Follows step old new = (image : List ℕ) → new image → (before : List ℕ) 
 -- these are bytes
 abbrev pub AreBytes : List ℕ → Type 0
 AreBytes file = (k : ℕ) → slice_index file k < 256
+
+-- whether these are bytes
+abbrev pub all_bytes : List ℕ → Bool
+all_bytes file = list_all (λ n. nat_lt n 256) file
 
 -- where images are told, a crash leaves nothing that it might not have left before
 abbrev pub AddsNoImage : Bool → (List ℕ → Type 0) → (List ℕ → Type 0) → Type 0

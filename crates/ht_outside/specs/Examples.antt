@@ -1,12 +1,13 @@
 -- Worked examples of the definitions. A wrong reading of one fails the check.
 use Rattle.std.specs.Prelude.{◌≡◌, refl, ℕ, zero, suc, ◌<◌, ◌≤◌, List, [], ◌∷◌, ◌++◌, Some, codes, true, false, slice_index}
 use Rattle.std.proofs.Common.{ap, arith, inl, ⊎_elim, lit<, lit≤}
+use Rattle.ht_outside.specs.ByteLaws.{tested}
 use Rattle.ht_outside.specs.Causes.{together}
 use Rattle.ht_outside.specs.Clocks.{IsNext, later, moment_of}
 use Rattle.ht_outside.specs.CrashModel.{IsImage, IsMarked, IsTouched, IsUntouched, Unsynced, present}
 use Rattle.ht_outside.specs.DiskHistory.{stand}
 use Rattle.ht_outside.specs.Disks.{Torn, written}
-use Rattle.ht_outside.specs.MemoryDisks.{IsPicked, disk_of, earlier, is_from, is_to_fail}
+use Rattle.ht_outside.specs.MemoryDisks.{IsPicked, disk_of, earlier, holds_bytes, is_from, is_to_fail}
 use Rattle.ht_outside.specs.Patches.{PatchOf}
 use Rattle.ht_outside.specs.declared.disk_call.DiskCall.TheVariants.{Write, Sync}
 
@@ -61,11 +62,11 @@ what_a_read_gives : present disk ≡ codes "aXYd" ++ 0 ∷ 0 ∷ codes "Z"
 what_a_read_gives = refl
 
 what_was_synced_is_an_image : IsImage disk (codes "abcd")
-what_was_synced_is_an_image = record { no_shorter = lit≤ tt; no_longer = lit≤ tt; others = λ place within untouched. refl }
+what_was_synced_is_an_image = record { no_shorter = lit≤ tt; no_longer = lit≤ tt; others = λ place within untouched. refl; bytes = tested (codes "abcd") refl }
 
 -- any bytes where was written, and an end between the two
 any_bytes_are_an_image : IsImage disk (codes "a?!d?")
-any_bytes_are_an_image = record { no_shorter = lit≤ tt; no_longer = lit≤ tt; others = others }
+any_bytes_are_an_image = record { no_shorter = lit≤ tt; no_longer = lit≤ tt; others = others; bytes = tested (codes "a?!d?") refl }
   where
     others : (place : ℕ) → place < 4 → IsUntouched disk.patches place → slice_index (codes "a?!d?") place ≡ slice_index (codes "abcd") place
     others zero within untouched = refl
@@ -89,6 +90,20 @@ a_shorter_file_is_none is = omega (arith, is.no_shorter)
 a_longer_file_is_none : IsImage disk (codes "abcdefgh") → ⊥
 a_longer_file_is_none is = omega (arith, is.no_longer)
 
+-- the second may be any byte, and 256 is none
+the_greatest_byte_is_an_image : IsImage disk (97 ∷ 255 ∷ codes "cd")
+the_greatest_byte_is_an_image = record { no_shorter = lit≤ tt; no_longer = lit≤ tt; others = others; bytes = tested (97 ∷ 255 ∷ codes "cd") refl }
+  where
+    others : (place : ℕ) → place < 4 → IsUntouched disk.patches place → slice_index (97 ∷ 255 ∷ codes "cd") place ≡ slice_index (codes "abcd") place
+    others zero within untouched = refl
+    others (suc zero) within untouched = absurd (⊎_elim (λ (low : 1 < 1). omega (arith, low)) (λ (high : 3 ≤ 1). omega (arith, high)) untouched.0)
+    others (suc (suc zero)) within untouched = refl
+    others (suc (suc (suc zero))) within untouched = refl
+    others (suc (suc (suc (suc more)))) within untouched = absurd (omega (arith, within))
+
+a_number_that_is_no_byte_is_none : IsImage disk (97 ∷ 256 ∷ codes "cd") → ⊥
+a_number_that_is_no_byte_is_none is = let small : 256 < 256 = is.bytes 1 in omega (arith, small)
+
 -- ---- a disk in memory
 
 -- what was written before the sync is synced
@@ -100,6 +115,16 @@ the_first_pick = refl
 
 the_second_pick : IsPicked 1 disk (codes "aXYd" ++ 0 ∷ 0 ∷ codes "Z")
 the_second_pick = refl
+
+-- a disk tells its images where what it held and what was written are bytes
+these_are_bytes : holds_bytes (codes "abcd") (Write (patch 1 (codes "XY")) ∷ Sync ∷ []) ≡ true
+these_are_bytes = refl
+
+this_was_none : holds_bytes (256 ∷ []) [] ≡ false
+this_was_none = refl
+
+nor_was_this : holds_bytes (codes "abcd") (Write (patch 1 (256 ∷ [])) ∷ []) ≡ false
+nor_was_this = refl
 
 the_third_pick_marks : IsMarked disk (codes "a??d???") → ⊥
 the_third_pick_marks is = let same : ◌≡◌ {A = ℕ} 63 1 = is.ones 1 (lit< tt) (inl the_second_is_touched) in omega arith

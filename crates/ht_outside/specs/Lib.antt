@@ -1,3 +1,4 @@
+pub mod ByteLaws
 pub mod Causes
 pub mod Clocks
 pub mod CrashModel

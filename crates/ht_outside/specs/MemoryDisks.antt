@@ -1,9 +1,10 @@
 -- A disk in memory, of which a test says which calls fail and what a crash leaves.
-use Rattle.std.specs.Prelude.{◌≡◌, ◌==◌, ℕ, zero, suc, ◌+◌, ◌||◌, Bool, false, List, [], ◌∷◌, ◌++◌, length, Option, None, Some, Result, MatchResult, ⊤, min, max, nat_le}
-use Rattle.std.specs.List.{list_any}
+use Rattle.std.specs.Prelude.{◌≡◌, ◌==◌, ℕ, zero, suc, ◌+◌, ◌||◌, ◌&&◌, Bool, true, false, List, [], ◌∷◌, ◌++◌, length, Option, None, Some, Result, MatchResult, ⊤, min, max, nat_le}
+use Rattle.std.specs.List.{list_all, list_any}
 use Rattle.ht_outside.specs.Causes.{next_count}
 use Rattle.ht_outside.specs.CrashModel.{IsMarked, Unsynced, present}
 use Rattle.ht_outside.specs.DiskHistory.{stand}
+use Rattle.ht_outside.specs.Disks.{all_bytes}
 use Rattle.ht_outside.specs.declared.disk_call.DiskCall.{DiskCall}
 use Rattle.ht_outside.specs.declared.disk_call.DiskCall.TheVariants.{Write, Sync}
 
@@ -24,6 +25,16 @@ disk_of bytes failing = record { bytes = bytes; calls = []; shown = 0; failing =
 
 abbrev pub stands : ScriptedDisk → Unsynced
 stands disk = stand disk.bytes disk.calls
+
+-- whether a call wrote bytes and nothing else
+abbrev pub wrote_bytes : DiskCall → Bool
+wrote_bytes (Write patch) = all_bytes patch.piece
+wrote_bytes Sync = true
+
+-- Whether what the disk held and what was written are bytes. Those of each disk of a program are, and a number in a definition may
+-- be any
+abbrev pub holds_bytes : List ℕ → List DiskCall → Bool
+holds_bytes bytes calls = all_bytes bytes && list_all wrote_bytes calls
 
 -- what a read gives
 abbrev pub given_by : ScriptedDisk → List ℕ

@@ -1,6 +1,6 @@
 ghost use Rattle.std.specs.Prelude.{◌≡◌, ◌+◌, ◌<◌, ◌≤◌, ℕ, Bool, List, Option, min, max, length, take, drop, slice_index, Some, IfOk, IfSome, IsOk, IsTrue, OnErr, OnOk};
 ghost use Rattle.ht_outside.specs.Causes.{HasCause};
-ghost use Rattle.ht_outside.specs.Disks.{AddsNoImage, Both, Elapses, Follows, Holds, KeepsEachImage, MakesEachImage, Only, Torn};
+ghost use Rattle.ht_outside.specs.Disks.{AddsNoImage, AreBytes, Both, Elapses, Follows, Holds, KeepsEachImage, MakesEachImage, Only, Torn};
 
 use crate::Failed;
 
@@ -154,4 +154,10 @@ pub trait Disk {
 
     /// Since this moment there is no other.
     ghost only_now: { (disk : Self) (image : List ℕ) → IsTrue (tells_images disk) → left_since disk (moment disk) image → may_leave disk image };
+
+    /// What a disk that tells its images leaves now is a list of bytes.
+    ghost images_are_bytes: { (disk : Self) (image : List ℕ) → IsTrue (tells_images disk) → may_leave disk image → AreBytes image };
+
+    /// So is what it might have left since any moment.
+    ghost past_are_bytes: { (disk : Self) (t : ℕ) (image : List ℕ) → IsTrue (tells_images disk) → left_since disk t image → AreBytes image };
 }

@@ -63,6 +63,10 @@ impl<R: Files<File = File> + Drop> Disk for FileDisk<R> {
 
     ghost only_now = { λ _ _ _ _. tt };
 
+    ghost images_are_bytes = { λ _ _ told _. untold told };
+
+    ghost past_are_bytes = { λ _ _ _ told _. untold told };
+
     fn attach(&mut self, name: &str) -> Result<(), Failed> {
         self.shown = 0;
         match open(&self.files, self.file.as_ref(), name) {

@@ -1,10 +1,10 @@
 ghost use Rattle.std.specs.Prelude.{◌≡◌, ◌+◌, ◌-◌, ◌^◌, ◌<◌, ◌≤◌, ◌==◌, ◌++◌, ◌∷◌, [], ◌||◌, ℕ, List, true, max, min, length, take, drop, slice_index, Some, None, IfOk, IsErr, OnOk, OnErr, MatchResult, is_err};
 ghost use Rattle.std.specs.List.{list_any};
 ghost use Rattle.ht_outside.specs.Causes.{HasCause, next_count};
-ghost use Rattle.ht_outside.specs.Disks.{Elapses, Follows, Holds, KeepsEachImage, MakesEachImage, Only, Torn, written};
+ghost use Rattle.ht_outside.specs.Disks.{Elapses, Follows, Holds, KeepsEachImage, MakesEachImage, Only, Torn, all_bytes, written};
 ghost use Rattle.ht_outside.specs.CrashModel.{IsImage};
 ghost use Rattle.ht_outside.specs.DiskHistory.{LeftSince};
-ghost use Rattle.ht_outside.specs.MemoryDisks.{IsPicked, IsSyncOf, IsWriteOf, disk_of, done_call, earlier, failed_call, given_by, is_from, is_to_fail, stands};
+ghost use Rattle.ht_outside.specs.MemoryDisks.{IsPicked, IsSyncOf, IsWriteOf, disk_of, done_call, earlier, failed_call, given_by, holds_bytes, is_from, is_to_fail, stands};
 ghost use Rattle.ht_outside.specs.Replays.{picked};
 
 use crate::crash_images::{marked_of, synced_of};
@@ -33,8 +33,8 @@ pub struct MemoryDisk {
 }
 
 impl Model for MemoryDisk {
-    ghost use Rattle.std.specs.Prelude.{◌≡◌, ◌≤◌, length};
-    ghost use Rattle.ht_outside.specs.MemoryDisks.{ScriptedDisk};
+    ghost use Rattle.std.specs.Prelude.{◌≡◌, ◌≤◌, length, true};
+    ghost use Rattle.ht_outside.specs.MemoryDisks.{ScriptedDisk, holds_bytes};
     ghost use Rattle.ht_outside.specs.CrashModel.{present};
     ghost use Rattle.ht_outside.specs.DiskHistory.{stand};
 
@@ -42,16 +42,17 @@ impl Model for MemoryDisk {
 
     ghost view = { λ d. record { bytes = d.bytes.items; calls = d.calls.items; shown = d.shown; failing = d.failing.items; stopped = d.stopped; asked = d.asked; faults = d.faults } };
 
-    ghost invariant = { λ d. (d.file.items ≡ present (stand d.bytes.items d.calls.items)) × (d.shown ≤ length d.file.items) };
+    ghost invariant = { λ d. (d.file.items ≡ present (stand d.bytes.items d.calls.items)) × (d.shown ≤ length d.file.items) × (holds_bytes d.bytes.items d.calls.items ≡ true) };
 }
 
 impl MemoryDisk {
     /// A disk of these bytes, as last synced. `failing` has the numbers, counted from 1, of its
     /// calls that fail.
     pub fn make(alloc: Global, bytes: Bytes, failing: Vec<u32>) -> Result<MemoryDisk, Memory>
-        ensures { IfOk result (λ disk. disk ≡ disk_of bytes.items failing.items) }
+        ensures made { IfOk result (λ disk. disk ≡ disk_of bytes.items failing.items) }
+        ensures told { IfOk result (λ disk. holds_bytes disk.bytes disk.calls ≡ true) }
     {
-        let file = Vec::from_slice(alloc, bytes.as_slice())?;
+        let file = copied(alloc, bytes.as_slice())?;
         Ok(MemoryDisk {
             alloc,
             bytes,
@@ -84,13 +85,15 @@ impl MemoryDisk {
         ensures made { IfOk result (λ disk. disk ≡ disk_of (given_by disk) []) }
         ensures pick { IfOk result (λ disk. IsPicked pick (stands self.now) (given_by disk)) }
         ensures image { IfOk result (λ disk. IsImage (stands self.now) (given_by disk)) }
+        ensures told { IfOk result (λ disk. holds_bytes disk.bytes disk.calls ≡ true) }
     {
         let image = self.image_by(pick)?;
         MemoryDisk::make(self.alloc, image, Vec::new(self.alloc))
     }
 
     fn image_by(&self, pick: u8) -> Result<Bytes, Memory>
-        ensures { IfOk result (λ image. image.items ≡ picked pick (stands self.now)) }
+        ensures image { IfOk result (λ image. image.items ≡ picked pick (stands self.now)) }
+        ensures told { holds_bytes self.now.bytes self.now.calls ≡ true }
     {
         let image = match pick {
             0 => synced_of(self.alloc, self.bytes.as_slice(), &self.calls)?,
@@ -106,6 +109,9 @@ impl MemoryDisk {
     fn store(&mut self, at: u64, piece: &[u8]) -> Result<(), Failed>
         ensures fails { is_to_fail self.old ≡ true → IsErr result }
         ensures done { IsWriteOf self.old self.new at piece.now result }
+        ensures told { holds_bytes self.old.bytes self.old.calls ≡ true }
+        ensures tells { holds_bytes self.new.bytes self.new.calls
+            ≡ holds_bytes self.old.bytes self.old.calls }
         ensures cause { HasCause self.old.faults self.new.faults result }
         ensures still { OnOk result (self.new.faults ≡ self.old.faults) }
     {
@@ -131,6 +137,9 @@ impl MemoryDisk {
     fn note_sync(&mut self) -> Result<(), Failed>
         ensures fails { is_to_fail self.old ≡ true → IsErr result }
         ensures done { IsSyncOf self.old self.new result }
+        ensures told { holds_bytes self.old.bytes self.old.calls ≡ true }
+        ensures tells { holds_bytes self.new.bytes self.new.calls
+            ≡ holds_bytes self.old.bytes self.old.calls }
         ensures cause { HasCause self.old.faults self.new.faults result }
         ensures still { OnOk result (self.new.faults ≡ self.old.faults) }
     {
@@ -148,6 +157,14 @@ impl MemoryDisk {
             }
         }
     }
+}
+
+// A copy of these bytes.
+fn copied(alloc: Global, bytes: &[u8]) -> Result<Vec<u8>, Memory>
+    ensures copy { IfOk result (λ file. file.items ≡ bytes.now) }
+    ensures bytes { IfOk result (λ _. all_bytes bytes.now ≡ true) }
+{
+    Ok(Vec::from_slice(alloc, bytes)?)
 }
 
 // Counts a call, and lets it fail where a test asks for it.
@@ -211,7 +228,7 @@ fn push_sync(calls: &mut Vec<DiskCall>) -> Result<(), Memory>
 }
 
 impl Disk for MemoryDisk {
-    ghost use Rattle.ht_outside.specs.ImageLaws.{now_is, counts_now, only_now};
+    ghost use Rattle.ht_outside.specs.ImageLaws.{now_is, counts_now, image_is_bytes, past_is_bytes, only_now};
 
     ghost gives = { λ d. Some (given_by d) };
 
@@ -219,7 +236,7 @@ impl Disk for MemoryDisk {
 
     ghost room = { λ _. None };
 
-    ghost tells_images = { λ _. true };
+    ghost tells_images = { λ d. holds_bytes d.bytes d.calls };
 
     ghost may_leave = { λ d. IsImage (stands d) };
 
@@ -229,14 +246,19 @@ impl Disk for MemoryDisk {
 
     ghost faults = { λ d. d.faults };
 
-    ghost now_is = { λ d _. now_is (stands d) };
+    ghost now_is = { λ d told. now_is d.bytes d.calls told };
 
     ghost counts_now = { λ d t image _ le now. counts_now d.bytes d.calls t image le now };
 
     ghost only_now = { λ d image _ left. only_now d.bytes d.calls image left };
 
+    ghost images_are_bytes = { λ d image _ left. image_is_bytes (stands d) image left };
+
+    ghost past_are_bytes = { λ d t image _ left. past_is_bytes d.bytes d.calls t image left };
+
     fn attach(&mut self, _name: &str) -> Result<(), Failed>
         ensures fails { is_err result ≡ is_to_fail self.old }
+        ensures told { holds_bytes self.old.bytes self.old.calls ≡ true }
         ensures done { MatchResult result (λ _. self.new ≡ done_call self.old 0 self.old.calls)
             (λ _. self.new ≡ record (failed_call self.old) { shown = 0 }) }
         ensures cause { HasCause self.old.faults self.new.faults result }
@@ -253,6 +275,7 @@ impl Disk for MemoryDisk {
 
     fn len(&mut self) -> Result<u64, Failed>
         ensures fails { is_err result ≡ is_to_fail self.old }
+        ensures told { holds_bytes self.old.bytes self.old.calls ≡ true }
         ensures length { IfOk result (λ n. n ≡ length (given_by self.old)) }
         ensures done { MatchResult result (λ n. self.new ≡ done_call self.old n self.old.calls)
             (λ _. self.new ≡ failed_call self.old) }
@@ -271,6 +294,7 @@ impl Disk for MemoryDisk {
 
     fn read(&mut self, at: u64, into: &mut [u8]) -> Result<usize, Failed>
         ensures fails { is_err result ≡ is_to_fail self.old }
+        ensures told { holds_bytes self.old.bytes self.old.calls ≡ true }
         ensures count { IfOk result
             (λ n. n ≡ min (length into.new) (length (given_by self.old) - at)) }
         ensures bytes { IfOk result (λ n. take n into.new ≡ take n (drop at (given_by self.old))) }
@@ -294,6 +318,9 @@ impl Disk for MemoryDisk {
     fn write_at(&mut self, at: u64, piece: &[u8]) -> Result<(), Failed>
         ensures fails { is_to_fail self.old ≡ true → IsErr result }
         ensures done { IsWriteOf self.old self.new at piece.now result }
+        ensures told { holds_bytes self.old.bytes self.old.calls ≡ true }
+        ensures tells { holds_bytes self.new.bytes self.new.calls
+            ≡ holds_bytes self.old.bytes self.old.calls }
         ensures written { OnOk result (Holds at piece.now (given_by self.old) (given_by self.new)) }
         ensures torn { OnErr result
             (Torn at (length piece.now) (given_by self.old) (given_by self.new)) }
@@ -301,8 +328,9 @@ impl Disk for MemoryDisk {
             (IsImage (stands self.new)) }
         ensures each { KeepsEachImage true (IsImage (stands self.old))
             (IsImage (stands self.new)) }
-        ensures makes { OnOk result (MakesEachImage (Torn at (length piece.now)) true
-            (IsImage (stands self.old)) (IsImage (stands self.new))) }
+        ensures makes { OnOk result (MakesEachImage (Torn at (length piece.now))
+            (holds_bytes self.old.bytes self.old.calls) (IsImage (stands self.old))
+            (IsImage (stands self.new))) }
         ensures time { Elapses (length self.old.calls) (length self.new.calls)
             (LeftSince self.old.bytes self.old.calls) (LeftSince self.new.bytes self.new.calls)
             (IsImage (stands self.new)) }
@@ -315,6 +343,9 @@ impl Disk for MemoryDisk {
     fn sync(&mut self) -> Result<(), Failed>
         ensures fails { is_to_fail self.old ≡ true → IsErr result }
         ensures done { IsSyncOf self.old self.new result }
+        ensures told { holds_bytes self.old.bytes self.old.calls ≡ true }
+        ensures tells { holds_bytes self.new.bytes self.new.calls
+            ≡ holds_bytes self.old.bytes self.old.calls }
         ensures durable { OnOk result (Only (given_by self.old) (IsImage (stands self.new))) }
         ensures file { given_by self.new ≡ given_by self.old }
         ensures crash { (image : List ℕ) → IsImage (stands self.new) image

@@ -78,6 +78,10 @@ impl Disk for RoomDisk {
 
     ghost only_now = { λ _ _ _ _. tt };
 
+    ghost images_are_bytes = { λ _ _ told _. untold told };
+
+    ghost past_are_bytes = { λ _ _ _ told _. untold told };
+
     fn attach(&mut self, _name: &str) -> Result<(), Failed>
         ensures ok { result ≡ Ok tt }
         ensures done { self.new ≡ record self.old { shown = 0 } }
