@@ -1,8 +1,8 @@
-//! The program: hands its words, files and streams to the top call, and ends with the exit code of the
+//! The program: hands its words, files, disks and streams to the top call, and ends with the exit code of the
 //! status.
 #![tactic(auto)]
 
-use ht_outside::{FileTexts, StdSink, StdSource};
+use ht_outside::{FileDisk, FileTexts, StdSink, StdSource};
 use ht_program::{exit_code, office, tell_no_memory};
 use std::env;
 use std::io::{self, ErrorKind};
@@ -24,10 +24,14 @@ fn main(rt: HostRuntime) -> ExitCode {
     let mut input = StdSource::new(rt.stdin());
     let mut output = StdSink::new(rt.stdout());
     let mut texts = FileTexts::new(rt.alloc(), &rt);
+    let mut first = FileDisk::new(&rt);
+    let mut second = FileDisk::new(&rt);
     let status = office(
         rt.alloc(),
         &words,
         &mut texts,
+        &mut first,
+        &mut second,
         &mut input,
         &mut output,
         &mut complaints,

@@ -1,13 +1,14 @@
 -- The status of a run says how its input ended, since the ending of its connection does.
 use Rattle.std.proofs.Common.{◌≡◌, ◌≢◌, ℕ, refl, false, arith, Option, Some, None}
 use Rattle.ht_outside.specs.Tells.{Flow}
-use Rattle.ht_tree.specs.Tables.{TablesOf}
+use Rattle.ht_desk.specs.States.{State}
 use Rattle.ht_serve.specs.declared.ending.Ending.{Ending}
 use Rattle.ht_serve.specs.declared.ending.Ending.TheVariants as ending
 use Rattle.ht_serve.specs.Inputs.{IsEndingOf}
 use Rattle.ht_serve.proofs.PublicLaws.{ending_of_input}
 use Rattle.ht_program.specs.Inputs.{IsStatusOf}
-use Rattle.ht_program.specs.Running.{Ran, Streams, ending_status}
+use Rattle.ht_program.specs.Running.{Ran, Streams}
+use Rattle.ht_program.specs.Statuses.{ending_status}
 
 module _ (most : ℕ) (flow : Flow) (status : ℕ) where
   zero : IsEndingOf false most (Some flow) ending.Done → status ≡ 0 → IsStatusOf most (Some flow) status
@@ -43,5 +44,5 @@ by_flow : (most : ℕ) (flow : Option Flow) (e : Ending) (status : ℕ) → (e �
 by_flow most None e status of is no_fault enough = tt
 by_flow most (Some flow) e status of is no_fault enough = told most flow status e of is no_fault enough
 
-pub status_of_input : (moment : ℕ → ℕ) (most : ℕ) (t : TablesOf) (old new : Streams) (e : Ending) (status : ℕ) → Ran moment most t old new e → status ≡ ending_status e → (status ≡ 7 → ⊥) → (status ≡ 8 → ⊥) → IsStatusOf most old.input.flow status
-status_of_input moment most t old new e status a = by_flow most old.input.flow e status (ending_of_input _ _ false most _ _ e a.served)
+pub status_of_input : (moment : ℕ → ℕ) (most : ℕ) (s t : State) (old new : Streams) (e : Ending) (status : ℕ) → Ran moment most s t old new e → status ≡ ending_status e → (status ≡ 7 → ⊥) → (status ≡ 8 → ⊥) → IsStatusOf most old.input.flow status
+status_of_input moment most s t old new e status a = by_flow most old.input.flow e status (ending_of_input _ _ false most _ _ e a.served)

@@ -1,9 +1,14 @@
 mod Complaining
+mod Ended
 mod Folded
 mod Grammar
 mod InputStatus
 mod OneOutput
 mod Opened
 mod Options
+mod Said
+mod Simulated
 mod Statuses
-mod Stepping
+mod TextStatuses
+mod Told
+mod Worked

@@ -1,18 +1,17 @@
--- What two texts that were read give, and which texts were asked for.
-use Rattle.std.proofs.Common.{◌≡◌, ◌∙◌, inl, inr, ℕ, suc, ◌<◌, ◌≤◌, List, [], ◌∷◌, ◌++◌, length, arith, refl, sym, ap, subst, append_assoc, append-nil, Option, Some, None, Result, Ok, Err, IfSome}
+-- Which of two texts were asked for, and what was read of them.
+use Rattle.std.proofs.Common.{◌≡◌, ◌∙◌, inl, inr, ℕ, suc, ◌<◌, ◌≤◌, List, [], ◌∷◌, ◌++◌, length, arith, refl, sym, ap, append_assoc, append-nil, Option, Some, None, Result, Ok, Err, IfSome}
 use Rattle.ht_base.specs.Bytes.{BytesOf}
 use Rattle.ht_base.specs.declared.limits.TheConstants.{LONGEST_OFFICE_TEXT}
 use Rattle.ht_outside.specs.Causes.{RoseWhere}
 use Rattle.ht_outside.specs.Texts.{IsNoted, ReadsWhole, TextsState}
 use Rattle.ht_outside.specs.declared.asked.Asked.{Asked}
 use Rattle.ht_outside.specs.declared.text_fault.TextFault.TheVariants as read
-use Rattle.ht_tree.specs.Tables.{RoomyTables}
-use Rattle.ht_program.specs.declared.opening.TextsFault.{TextsFault}
-use Rattle.ht_program.specs.declared.opening.TextsFault.TheVariants.{Unread, TooLong, Models, People, Memory}
-use Rattle.ht_program.specs.declared.opening.Which.{Which}
-use Rattle.ht_program.specs.declared.opening.Which.TheVariants as which
-use Rattle.std.specs.Prelude.{OnOk}
-use Rattle.ht_program.specs.Opening.{Asks, IsTextOf, IsUnread, Judges, LastFailed, Opens, ReadsText, name_in}
+use Rattle.ht_program.specs.declared.reading.TextsFault.{TextsFault}
+use Rattle.ht_program.specs.declared.reading.TextsFault.TheVariants.{Unread, TooLong, Memory}
+use Rattle.ht_program.specs.declared.reading.Which.{Which}
+use Rattle.ht_program.specs.declared.reading.Which.TheVariants as which
+use Rattle.ht_desk.specs.Replaying.{TextsOf, texts_of}
+use Rattle.ht_program.specs.Reading.{Asks, IsTextOf, IsUnread, LastFailed, Reads, ReadsText, name_in}
 
 -- ---- one text
 
@@ -38,17 +37,14 @@ read_long w (Some told) name reads = (told name, refl, (refl, reads))
 -- ---- what both texts give
 
 module _ (told : Option (List ℕ → List ℕ)) (names : List ℕ × List ℕ) where
-  pub first_failed : (why : TextsFault) → ReadsText which.Models told names.0 (Err why) → Opens (Some names) told (Err why)
+  pub first_failed : (why : TextsFault) → ReadsText which.Models told names.0 (Err why) → Reads (Some names) told (Err why)
   first_failed why a = let p = some_text told names.1 in (a.0, p.0, a.1, p.1, inl a.2)
 
-  pub second_failed : (models : BytesOf) (why : TextsFault) → ReadsText which.Models told names.0 (Ok models) → ReadsText which.People told names.1 (Err why) → Opens (Some names) told (Err why)
-  second_failed models why a b = (a.0, b.0, a.1, b.1, inr (a.2.1, inl b.2))
+  pub second_failed : (models : BytesOf) (why : TextsFault) → ReadsText which.Models told names.0 (Ok models) → ReadsText which.People told names.1 (Err why) → Reads (Some names) told (Err why)
+  second_failed models why a b = (a.0, b.0, a.1, b.1, inr (a.2.1, b.2))
 
-  pub opened : (models people : BytesOf) (result : Result RoomyTables TextsFault) → ReadsText which.Models told names.0 (Ok models) → ReadsText which.People told names.1 (Ok people) → Judges models.items people.items result → Opens (Some names) told result
-  opened models people result a b j =
-      let P : List ℕ → Type 0 = λ l. Judges l b.0 result in
-      let Q : List ℕ → Type 0 = λ l. Judges models.items l result in
-      (a.0, b.0, a.1, b.1, inr (a.2.1, inr (b.2.1, subst P a.2.0 (subst Q b.2.0 j))))
+  pub both_read : (models people : BytesOf) → ReadsText which.Models told names.0 (Ok models) → ReadsText which.People told names.1 (Ok people) → Reads (Some names) told (Ok (texts_of models.items people.items))
+  both_read models people a b = (a.0, b.0, a.1, b.1, (ap (λ (m : List ℕ). texts_of m people.items) a.2.0 ∙ ap (texts_of a.0) b.2.0, a.2.1, b.2.1))
 
 -- ---- which texts were asked for
 
@@ -67,7 +63,7 @@ was_noted bytes name old new (inl first) = first
 was_noted bytes name old new (inr none) = absurd (no_fault bytes Memory none.0)
 
 -- want of memory is no unread text
-not_unread : (why : TextsFault) (w : Which) → ◌≡◌ {A = Result BytesOf TextsFault} (Err why) (Err Memory) → ◌≡◌ {A = Result RoomyTables TextsFault} (Err why) (Err (Unread w)) → ⊥
+not_unread : (why : TextsFault) (w : Which) → ◌≡◌ {A = Result BytesOf TextsFault} (Err why) (Err Memory) → ◌≡◌ {A = Result TextsOf TextsFault} (Err why) (Err (Unread w)) → ⊥
 not_unread why w e f = two why w (fault_is why Memory e) (fault_is why (Unread w) f)
   where
     two : (why : TextsFault) (w : Which) → why ≡ Memory → why ≡ Unread w → ⊥
@@ -77,14 +73,12 @@ not_unread why w e f = two why w (fault_is why Memory e) (fault_is why (Unread w
 which_is : (told : Option (List ℕ → List ℕ)) (name : List ℕ) (v w : Which) (why : TextsFault) → ReadsText v told name (Err why) → why ≡ Unread w → v ≡ w
 which_is told name v w (Unread x) a is = let same : x ≡ w = cc in sym a.2 ∙ same
 which_is told name v w (TooLong x) a is = absurd (cc)
-which_is told name v w (Models x) a is = absurd (cc)
-which_is told name v w (People x) a is = absurd (cc)
 which_is told name v w Memory a is = absurd (cc)
 
 module _ (names : List ℕ × List ℕ) (old mid new : TextsState) (told : Option (List ℕ → List ℕ)) where
   -- the last read is of this text
   last_failed : (v w : Which) (earlier : List Asked) (state : TextsState) (why : TextsFault) → ReadsText v told (name_in v names) (Err why) → RoseWhere (IsUnread {T = BytesOf} (Err why)) state.faults new.faults → old.faults ≤ state.faults
-      → ◌≡◌ {A = Result RoomyTables TextsFault} (Err why) (Err (Unread w)) → LastFailed (earlier ++ noted (name_in v names) state ∷ []) (name_in w names) old.faults new.faults
+      → ◌≡◌ {A = Result TextsOf TextsFault} (Err why) (Err (Unread w)) → LastFailed (earlier ++ noted (name_in v names) state ∷ []) (name_in w names) old.faults new.faults
   last_failed v w earlier state why reads cause later is =
       let e : why ≡ Unread w = fault_is why (Unread w) is in
       record {
@@ -136,16 +130,12 @@ module _ (names : List ℕ × List ℕ) (old mid new : TextsState) (told : Optio
     unread = λ w is. absurd (not_unread why w none.0 is);
   }
 
-  pub asks_both : (models people : BytesOf) (result : Result RoomyTables TextsFault) → IsNoted (◌≡◌ {A = Result BytesOf TextsFault} (Ok models) (Err Memory)) names.0 old mid → IsNoted (◌≡◌ {A = Result BytesOf TextsFault} (Ok people) (Err Memory)) names.1 mid new → Judges models.items people.items result → Asks names old new result
-  asks_both models people result first second j = record {
+  pub asks_both : (models people : BytesOf) (texts : TextsOf) → IsNoted (◌≡◌ {A = Result BytesOf TextsFault} (Ok models) (Err Memory)) names.0 old mid → IsNoted (◌≡◌ {A = Result BytesOf TextsFault} (Ok people) (Err Memory)) names.1 mid new → Asks names old new (Ok texts)
+  asks_both models people texts first second = record {
     reads = noted names.0 old ∷ noted names.1 mid ∷ [];
     grown = both_noted (was_noted models names.0 old mid first) (was_noted people names.1 mid new second);
     unasked = [];
     begins = refl;
-    both = asked_both result;
-    unread = λ w is. absurd (subst (λ (r : Result RoomyTables TextsFault). Judges models.items people.items r) is j);
+    both = refl;
+    unread = λ w is. absurd (no_fault texts (Unread w) is);
   }
-    where
-      asked_both : (result : Result RoomyTables TextsFault) → OnOk result (◌≡◌ {A = List (List ℕ)} [] [])
-      asked_both (Ok t) = refl
-      asked_both (Err why) = tt

@@ -1,145 +1,283 @@
 -- Which status comes of which end.
-use Rattle.std.proofs.Common.{◌≡◌, ◌≢◌, ◌⊎◌, ◌↔◌, ◌∙◌, inl, inr, ℕ, ◌≤◌, List, ◌∷◌, length, codes, Option, Some, None, Result, Ok, Err, IfNone, IfSome, option_map, map, String, Global, refl, sym, ap, subst, arith}
+use Rattle.std.proofs.Common.{◌≡◌, ◌≢◌, ◌⊎◌, ◌∙◌, inl, inr, ⊎_elim, ℕ, suc, ◌-◌, ◌≤◌, List, [], ◌∷◌, ◌++◌, take, length, Option, Some, None, Result, Ok, Err, refl, sym, ap, subst, arith}
 use Rattle.ht_base.specs.declared.limits.TheConstants.{LONGEST_OFFICE_TEXT}
+use Rattle.ht_desk.specs.declared.fault.OpenFault.{OpenFault}
+use Rattle.ht_desk.specs.declared.fault.OpenFault.TheVariants as fault
+use Rattle.ht_desk.specs.Opening.{Fails, FailsAt, IsFileFault, IsOpenFault, IsTextFault}
+use Rattle.ht_desk.specs.Opening.FailsAt.{at_first, at_next}
+use Rattle.ht_desk.specs.Replaying.{Begins, TextsOf}
+use Rattle.ht_desk.specs.States.{State}
+use Rattle.ht_journal.specs.Bodies.{IsNth}
+use Rattle.ht_journal.proofs.PublicLaws.{contents_short}
+use Rattle.ht_models.specs.Refusals as models_wrong
 use Rattle.ht_outside.specs.Causes.{Rose}
-use Rattle.ht_tree.specs.Tables.{RoomyTables, TablesOf}
+use Rattle.ht_outside.specs.declared.disk.Disk.{Ghosts}
+use Rattle.ht_people.specs.Refusals as people_wrong
 use Rattle.ht_serve.specs.declared.ending.Ending.{Ending}
 use Rattle.ht_serve.specs.declared.ending.Ending.TheVariants as ending
-use Rattle.ht_program.specs.declared.opening.TextsFault.{TextsFault}
-use Rattle.ht_program.specs.declared.opening.TextsFault.TheVariants.{Unread, TooLong, Models, People, Memory}
-use Rattle.ht_program.specs.declared.opening.Which.{Which}
-use Rattle.ht_program.specs.declared.words.Named.{Named}
-use Rattle.ht_program.specs.declared.words.Words.{Words}
-use Rattle.ht_program.proofs.Options.{bytes_of}
-use Rattle.ht_program.specs.Inputs.{IsAnswered}
-use Rattle.ht_program.specs.Named.{pair_of}
-use Rattle.ht_models.specs.Refusals as models_wrong
-use Rattle.ht_people.specs.Refusals as people_wrong
 use Rattle.ht_toml.proofs.PublicLaws.{first_holds, none_holds}
-use Rattle.ht_program.specs.Opening.{AreWrong, Judges, Opens, OpensText, fault_status}
-use Rattle.ht_program.specs.Running.{Ran, Streams, ending_status}
-use Rattle.ht_program.specs.Words.{AreTexts, IsRun, value_of}
+use Rattle.ht_tree.specs.Tables.{TablesOf}
+use Rattle.ht_program.specs.declared.reading.TextsFault.{TextsFault}
+use Rattle.ht_program.specs.declared.reading.TextsFault.TheVariants.{Unread, TooLong, Memory}
+use Rattle.ht_program.specs.Attaching.{Disks}
+use Rattle.ht_program.specs.Inputs.{IsAnswered, IsStatusOf, budget}
+use Rattle.ht_program.specs.Office.{Outside, Runs, RunsOffice, Worked}
+use Rattle.ht_program.specs.Reading.{AreWrong}
+use Rattle.ht_program.specs.Statuses.{end_status, ending_status, fault_status, missing_status}
+use Rattle.ht_program.specs.Words.{RunOf}
+use Rattle.ht_program.proofs.InputStatus.{status_of_input}
 
--- ---- what the words say is one
+-- ---- an empty file is at fault in nothing
 
-same_texts : (a b : Option (List ℕ)) (x y : Option (List ℕ × List ℕ)) → AreTexts a b x → AreTexts a b y → x ≡ y
-same_texts None None None None p q = refl
-same_texts None None None (Some y) p q = absurd q
-same_texts None None (Some x) y p q = absurd p
-same_texts None (Some b) x y p q = absurd p
-same_texts (Some a) None x y p q = absurd p
-same_texts (Some a) (Some b) None y p q = absurd p
-same_texts (Some a) (Some b) (Some x) None p q = absurd q
-same_texts (Some a) (Some b) (Some x) (Some y) p q =
-    ap (λ (m : List ℕ). Some (m, x.1)) (p.0 ∙ sym q.0) ∙ ap (λ (m : List ℕ). Some (y.0, m)) (p.1 ∙ sym q.1)
+none_taken : (n : ℕ) → ◌≡◌ {A = List (List ℕ)} (take n []) []
+none_taken Prim.Native.Nat.zero = refl
+none_taken (suc n) = refl
 
-pub same_rest : (words a b : List (List ℕ)) (command : List ℕ) → words ≡ command ∷ a → words ≡ command ∷ b → a ≡ b
-same_rest words a b command e f = cc
+none_at : (n at : ℕ) (body : List ℕ) → IsNth [] n at body → ⊥
+none_at n at body nth =
+    let e = sym (none_taken n) ∙ nth.bytes ∙ ap (λ (l : List (List ℕ)). l ++ body ∷ []) (none_taken (n - 1)) in
+    absurd (cc)
 
-pub one_reading : (words : List (List ℕ)) (from step start pace : ℕ) (x y : Option (List ℕ × List ℕ)) → IsRun words from step x → IsRun words start pace y → x ≡ y
-one_reading words from step start pace x y p q =
-    let same : q.options ≡ p.options = same_rest words q.options p.options _ q.words_are p.words_are in
-    let P : List (List ℕ) → Type 0 = λ os. AreTexts (value_of (codes "--models") os) (value_of (codes "--people") os) y in
-    same_texts _ _ x y p.texts_are (subst P same q.texts_are)
+none_fails : (texts : TextsOf) (why : OpenFault) → FailsAt texts [] why → ⊥
+none_fails texts why (at_first at body nth fails) = none_at 1 at body nth
+none_fails texts why (at_next n at body few t nth front spelled journal fails) = none_at n at body nth
 
--- the words that were read have these names
-pub same_names : (words read : List (String Global)) (said : Words) (from step : ℕ) (names : Option (List ℕ × List ℕ)) → words ≡ read → IsRun (map bytes_of words) said.run.from said.run.step (option_map pair_of said.texts) → IsRun (map bytes_of read) from step names → option_map pair_of said.texts ≡ names
-same_names words read said from step names same own is =
-    let P : List (String Global) → Type 0 = λ ws. IsRun (map bytes_of ws) said.run.from said.run.step (option_map pair_of said.texts) in
-    one_reading (map bytes_of read) _ _ _ _ (option_map pair_of said.texts) names (subst P same own) is
+pub empty_file : (texts : TextsOf) (why : OpenFault) → Fails texts [] why → ⊥
+empty_file texts why (inl damaged) = let ok = contents_short [] (omega arith) in let e = damaged.1 in absurd (cc)
+empty_file texts why (inr bodies) =
+    let ok = contents_short [] (omega arith) in
+    let e = bodies.1 in
+    let none : bodies.0 ≡ [] = cc in
+    none_fails texts why (subst (λ (l : List (List ℕ)). FailsAt texts l why) none bodies.2)
 
--- without names nothing is asked of the texts
-pub no_names : (names : Option Named) (P : Type 0) → option_map pair_of names ≡ None → IfNone names P → P
-no_names None P none kept = kept
-no_names (Some names) P none kept = absurd (cc)
+-- ---- texts
 
--- ---- a connection that was served
+-- nothing is wrong with texts that an office begins with
+pub right : (texts : TextsOf) (t : TablesOf) → Begins texts t → length texts.models ≤ LONGEST_OFFICE_TEXT → length texts.people ≤ LONGEST_OFFICE_TEXT → AreWrong texts.models texts.people → ⊥
+right texts t begins short few (inl (inl long)) = absurd (omega (arith, short, long))
+right texts t begins short few (inl (inr long)) = absurd (omega (arith, few, long))
+right texts t begins short few (inr (inl holds)) = none_holds (models_wrong.refusals texts.models) holds.0 (begins.2).1 holds.1
+right texts t begins short few (inr (inr holds)) = none_holds (people_wrong.refusals texts.people) holds.0 (begins.3).1 holds.1
 
-module _ (moment : ℕ → ℕ) (most : ℕ) (t : TablesOf) (old new : Streams) where
-  pub answered : (e : Ending) (status : ℕ) → status ≡ ending_status e → Ran moment most t old new e → (Rose old.input.faults new.input.faults → ⊥) → (Rose old.output.faults new.output.faults → ⊥) → IsAnswered status
-  answered ending.Done status is ran read write = inl is
-  answered (ending.Wire code) status is ran read write = inr (inl is)
-  answered ending.Budget status is ran read write = inr (inr (inr (inr is)))
-  answered ending.ReadFault status is ran read write = absurd (read (ran.served).ends.3)
-  answered ending.WriteFault status is ran read write = absurd (write ((ran.served).ends.1).rose)
-  answered ending.Memory status is ran read write = inr (inr (inr (inl is)))
+-- something is wrong with texts that are refused
+pub bad_models : (texts : TextsOf) (why : _) → IsTextFault texts (fault.Models why) → AreWrong texts.models texts.people
+bad_models texts why is = inr (inl (why, first_holds (models_wrong.refusals texts.models) why (is.0 is.1)))
 
-  pub broke : (e : Ending) (status : ℕ) → status ≡ ending_status e → Ran moment most t old new e → status ≡ 7 → Rose old.input.faults new.input.faults ⊎ Rose old.output.faults new.output.faults
-  broke ending.Done status is ran seven = absurd (omega arith)
-  broke (ending.Wire code) status is ran seven = absurd (omega arith)
-  broke ending.Budget status is ran seven = absurd (omega arith)
-  broke ending.ReadFault status is ran seven = inl (ran.served).ends.3
-  broke ending.WriteFault status is ran seven = inr ((ran.served).ends.1).rose
-  broke ending.Memory status is ran seven = absurd (omega arith)
+pub bad_people : (texts : TextsOf) (why : _) → IsTextFault texts (fault.People why) → AreWrong texts.models texts.people
+bad_people texts why is = inr (inr (why, first_holds (people_wrong.refusals texts.people) why (is.1 is.2)))
 
--- ---- an office that was not opened
+-- ---- the statuses
 
-pub fault_answered : (before now : ℕ) (why : TextsFault) (status : ℕ) → status ≡ fault_status why → ((w : Which) → why ≡ Unread w → Rose before now) → (Rose before now → ⊥) → IsAnswered status
-fault_answered before now (Unread w) status is cause none = absurd (none (cause w refl))
-fault_answered before now (TooLong w) status is cause none = inr (inr (inl is))
-fault_answered before now (Models why) status is cause none = inr (inr (inl is))
-fault_answered before now (People why) status is cause none = inr (inr (inl is))
-fault_answered before now Memory status is cause none = inr (inr (inr (inl is)))
+-- the ending of a connection is told by none of these
+pub ending_not : (e : Ending) (n : ℕ) → 2 ≤ n → n ≤ 6 → ending_status e ≡ n → ⊥
+ending_not ending.Done n least most is = absurd (omega arith)
+ending_not (ending.Wire code) n least most is = absurd (omega arith)
+ending_not ending.Budget n least most is = absurd (omega arith)
+ending_not ending.ReadFault n least most is = absurd (omega arith)
+ending_not ending.WriteFault n least most is = absurd (omega arith)
+ending_not ending.Memory n least most is = absurd (omega arith)
 
-pub built_in_fault : (told : Option (List ℕ → List ℕ)) (why : TextsFault) (status : ℕ) → Opens None told (Err why) → status ≡ fault_status why → (status ≢ 3) × (status ≢ 4)
-built_in_fault told (Unread w) status opens is = absurd opens
-built_in_fault told (TooLong w) status opens is = absurd opens
-built_in_fault told (Models why) status opens is = absurd opens
-built_in_fault told (People why) status opens is = absurd opens
-built_in_fault told Memory status opens is = ((λ e. omega arith), (λ e. omega arith))
+below : (a b n : ℕ) → a ≤ b → Rose b n → Rose a n
+below a b n h r = omega arith
 
--- ---- a text is refused exactly where something is wrong
+module _ {D : Type 0} (d : Ghosts D) (run : RunOf) (before after : Disks D) (old new : Outside) (status : ℕ) where
+  -- ---- why an office wasn't opened
 
-abbrev pub RefusedRight : Option (List ℕ → List ℕ) → List ℕ × List ℕ → ℕ → Type 0
-RefusedRight told names status = IfSome told (λ text. status ≢ 3 → status ≢ 8 → (status ≡ 4) ↔ AreWrong (text names.0) (text names.1))
+  abbrev pub file : Option (List ℕ) → Option (List ℕ)
+  file None = Some []
+  file (Some name) = d.gives before.first
 
-both_read : (m p : List ℕ) (t : RoomyTables) → OpensText m p (Ok t) → (length m ≤ LONGEST_OFFICE_TEXT) × (length p ≤ LONGEST_OFFICE_TEXT) × Judges m p (Ok t)
-both_read m p t (inl missing) = absurd missing
-both_read m p t (inr (short, inl missing)) = absurd missing
-both_read m p t (inr (short, inr judged)) = (short, judged.0, judged.1)
+  abbrev pub IsWhy : Option (List ℕ) → TextsOf → OpenFault → Type 0
+  IsWhy None texts why = IsOpenFault texts (Some []) 0 0 why
+  IsWhy (Some name) texts why = IsOpenFault texts (d.gives before.first) (d.faults before.first) (d.faults after.first) why ⊎ ((why ≡ fault.Store) × Rose (d.faults before.second) (d.faults after.second))
 
-right : (m p : List ℕ) (t : RoomyTables) → OpensText m p (Ok t) → AreWrong m p → ⊥
-right m p t opens (inl (inl long)) = let short = (both_read m p t opens).0 in omega arith
-right m p t opens (inl (inr long)) = let short = (both_read m p t opens).1 in omega arith
-right m p t opens (inr (inl holds)) = none_holds (models_wrong.refusals m) holds.0 (both_read m p t opens).2.2.1 holds.1
-right m p t opens (inr (inr holds)) = none_holds (people_wrong.refusals p) holds.0 (both_read m p t opens).2.3.1 holds.1
+  pub why_of : (journal : Option (List ℕ)) (texts : TextsOf) (why : OpenFault) → Runs d journal run texts before after old.connection new.connection (Err why) → IsWhy journal texts why
+  why_of None texts why runs = runs.0
+  why_of (Some name) texts why runs = (runs.0).why
 
--- the two texts are those that are told
-these_texts : (text : List ℕ → List ℕ) (names : List ℕ × List ℕ) (result : Result RoomyTables TextsFault) → Opens (Some names) (Some text) result → OpensText (text names.0) (text names.1) result
-these_texts text names result opens =
-    let P : List ℕ → Type 0 = λ m. OpensText m (text names.1) result in
-    let Q : List ℕ → Type 0 = λ p. OpensText opens.0 p result in
-    subst P opens.2 (subst Q opens.3 opens.4)
+  pub of_models : (journal : Option (List ℕ)) (texts : TextsOf) (why : _) → IsWhy journal texts (fault.Models why) → IsTextFault texts (fault.Models why)
+  of_models None texts why is = is.0
+  of_models (Some name) texts why (inl is) = is.0
+  of_models (Some name) texts why (inr store) = absurd (let e = store.0 in cc)
 
-pub served_right : (told : Option (List ℕ → List ℕ)) (names : List ℕ × List ℕ) (t : RoomyTables) (status : ℕ) → Opens (Some names) told (Ok t) → status ≢ 4 → RefusedRight told names status
-served_right None names t status opens not_four = tt
-served_right (Some text) names t status opens not_four = λ three eight.
-    ((λ four. absurd (not_four four)), (λ wrong. absurd (right (text names.0) (text names.1) t (these_texts text names (Ok t) opens) wrong)))
+  pub of_people : (journal : Option (List ℕ)) (texts : TextsOf) (why : _) → IsWhy journal texts (fault.People why) → IsTextFault texts (fault.People why)
+  of_people None texts why is = is.0
+  of_people (Some name) texts why (inl is) = is.0
+  of_people (Some name) texts why (inr store) = absurd (let e = store.0 in cc)
 
--- which fault of two texts is told
-is_wrong : (m p : List ℕ) (why : TextsFault) → OpensText m p (Err why) → fault_status why ≡ 4 → AreWrong m p
-is_wrong m p (Unread w) opens four = absurd (omega arith)
-is_wrong m p (TooLong w) (inl missing) four = inl (inl missing.1)
-is_wrong m p (TooLong w) (inr (short, inl missing)) four = inl (inr missing.1)
-is_wrong m p (TooLong w) (inr (short, inr judged)) four = absurd judged.1
-is_wrong m p (Models why) (inl missing) four = absurd missing
-is_wrong m p (Models why) (inr (short, inl missing)) four = absurd missing
-is_wrong m p (Models why) (inr (short, inr judged)) four = inr (inl (why, first_holds (models_wrong.refusals m) why judged.1))
-is_wrong m p (People why) (inl missing) four = absurd missing
-is_wrong m p (People why) (inr (short, inl missing)) four = absurd missing
-is_wrong m p (People why) (inr (short, inr judged)) four = inr (inr (why, first_holds (people_wrong.refusals p) why judged.1.2))
-is_wrong m p Memory opens four = absurd (omega arith)
+  pub of_damaged : (journal : Option (List ℕ)) (texts : TextsOf) (at : ℕ) → IsWhy journal texts (fault.Damaged at) → IsFileFault texts (file journal) (fault.Damaged at)
+  of_damaged None texts at is = is.0
+  of_damaged (Some name) texts at (inl is) = is.0
+  of_damaged (Some name) texts at (inr store) = absurd (let e = store.0 in cc)
 
-is_four : (why : TextsFault) → fault_status why ≢ 3 → fault_status why ≢ 8 → fault_status why ≡ 4
-is_four (Unread w) three eight = absurd (three refl)
-is_four (TooLong w) three eight = refl
-is_four (Models why) three eight = refl
-is_four (People why) three eight = refl
-is_four Memory three eight = absurd (eight refl)
+  pub of_record : (journal : Option (List ℕ)) (texts : TextsOf) (n : ℕ) → IsWhy journal texts (fault.RecordRefused n) → IsFileFault texts (file journal) (fault.RecordRefused n)
+  of_record None texts n is = is.0
+  of_record (Some name) texts n (inl is) = is.0
+  of_record (Some name) texts n (inr store) = absurd (let e = store.0 in cc)
 
-wrong_of : (m p : List ℕ) (why : TextsFault) (status : ℕ) → OpensText m p (Err why) → status ≡ fault_status why → status ≢ 3 → status ≢ 8 → (status ≡ 4) ↔ AreWrong m p
-wrong_of m p why status opens is three eight = ((λ four. is_wrong m p why opens (sym is ∙ four)), (λ wrong. is ∙ is_four why (λ e. three (is ∙ e)) (λ e. eight (is ∙ e))))
+  pub of_texts : (journal : Option (List ℕ)) (texts : TextsOf) → IsWhy journal texts fault.TextsDiffer → IsFileFault texts (file journal) fault.TextsDiffer
+  of_texts None texts is = is.0
+  of_texts (Some name) texts (inl is) = is.0
+  of_texts (Some name) texts (inr store) = absurd (let e = store.0 in cc)
 
-pub failed_right : (told : Option (List ℕ → List ℕ)) (names : List ℕ × List ℕ) (why : TextsFault) (status : ℕ) → Opens (Some names) told (Err why) → status ≡ fault_status why → RefusedRight told names status
-failed_right None names why status opens is = tt
-failed_right (Some text) names why status opens is = λ three eight. wrong_of (text names.0) (text names.1) why status (these_texts text names (Err why) opens) is three eight
+  of_store : (journal : Option (List ℕ)) (texts : TextsOf) → IsWhy journal texts fault.Store → (journal ≢ None) × (Rose (d.faults before.first) (d.faults after.first) ⊎ Rose (d.faults before.second) (d.faults after.second))
+  of_store None texts is = absurd (omega (arith, is))
+  of_store (Some name) texts (inl is) = ((λ e. cc), inl is)
+  of_store (Some name) texts (inr store) = ((λ e. cc), inr store.1)
+
+  -- ---- how it worked
+
+  pub record HasWorked (journal : Option (List ℕ)) (texts : TextsOf) (e : Ending) : Type 0 where
+    pub opened : State
+    pub last : State
+    pub worked : Worked run texts (file journal) opened last old.connection new.connection e
+
+  pub worked_of : (journal : Option (List ℕ)) (texts : TextsOf) (e : Ending) → Runs d journal run texts before after old.connection new.connection (Ok e) → HasWorked journal texts e
+  worked_of None texts e runs = record { opened = (runs.0).opened; last = (runs.0).last; worked = (runs.0).worked }
+  worked_of (Some name) texts e runs = record { opened = runs.opened; last = runs.last; worked = runs.worked }
+
+  -- ---- 2
+
+  fault_not_two : (why : OpenFault) → fault_status why ≡ 2 → ⊥
+  fault_not_two (fault.Models why) e = absurd (omega arith)
+  fault_not_two (fault.People why) e = absurd (omega arith)
+  fault_not_two (fault.Damaged at) e = absurd (omega arith)
+  fault_not_two (fault.RecordRefused n) e = absurd (omega arith)
+  fault_not_two fault.TextsDiffer e = absurd (omega arith)
+  fault_not_two fault.Store e = absurd (omega arith)
+  fault_not_two fault.Memory e = absurd (omega arith)
+
+  missing_not_two : (why : TextsFault) → missing_status why ≡ 2 → ⊥
+  missing_not_two (Unread w) e = absurd (omega arith)
+  missing_not_two (TooLong w) e = absurd (omega arith)
+  missing_not_two Memory e = absurd (omega arith)
+
+  end_not_two : (end : Result Ending OpenFault) → end_status end ≡ 2 → ⊥
+  end_not_two (Ok e) is = ending_not e 2 (omega arith) (omega arith) is
+  end_not_two (Err why) is = fault_not_two why is
+
+  pub not_two : RunsOffice d run before after old new status → status ≢ 2
+  not_two (inl ran) two = end_not_two ran.end (sym ran.status_is ∙ two)
+  not_two (inr none) two = missing_not_two none.why (sym none.status_is ∙ two)
+
+  -- ---- 6
+
+  store_end : (end : Result Ending OpenFault) (texts : TextsOf) → Runs d run.journal run texts before after old.connection new.connection end → end_status end ≡ 6 → (run.journal ≢ None) × (Rose (d.faults before.first) (d.faults after.first) ⊎ Rose (d.faults before.second) (d.faults after.second))
+  store_end (Ok e) texts runs is = absurd (ending_not e 6 (omega arith) (omega arith) is)
+  store_end (Err (fault.Models why)) texts runs is = absurd (omega arith)
+  store_end (Err (fault.People why)) texts runs is = absurd (omega arith)
+  store_end (Err (fault.Damaged at)) texts runs is = absurd (omega arith)
+  store_end (Err (fault.RecordRefused n)) texts runs is = absurd (omega arith)
+  store_end (Err fault.TextsDiffer) texts runs is = absurd (omega arith)
+  store_end (Err fault.Store) texts runs is = of_store run.journal texts (why_of run.journal texts fault.Store runs)
+  store_end (Err fault.Memory) texts runs is = absurd (omega arith)
+
+  missing_not_six : (why : TextsFault) → missing_status why ≡ 6 → ⊥
+  missing_not_six (Unread w) e = absurd (omega arith)
+  missing_not_six (TooLong w) e = absurd (omega arith)
+  missing_not_six Memory e = absurd (omega arith)
+
+  pub store : RunsOffice d run before after old new status → status ≡ 6 → (run.journal ≢ None) × (Rose (d.faults before.first) (d.faults after.first) ⊎ Rose (d.faults before.second) (d.faults after.second))
+  store (inl ran) six = store_end ran.end ran.texts ran.runs (sym ran.status_is ∙ six)
+  store (inr none) six = absurd (missing_not_six none.why (sym none.status_is ∙ six))
+
+  -- ---- without a journal
+
+  file_fault : (texts : TextsOf) (why : OpenFault) → IsFileFault texts (Some []) why → ⊥
+  file_fault texts why is = empty_file texts why is.1
+
+  in_memory_end : (end : Result Ending OpenFault) (texts : TextsOf) → Runs d None run texts before after old.connection new.connection end → (end_status end ≢ 5) × (after ≡ before)
+  in_memory_end (Ok e) texts runs = ((λ is. ending_not e 5 (omega arith) (omega arith) is), runs.1)
+  in_memory_end (Err (fault.Models why)) texts runs = ((λ is. omega arith), runs.2)
+  in_memory_end (Err (fault.People why)) texts runs = ((λ is. omega arith), runs.2)
+  in_memory_end (Err (fault.Damaged at)) texts runs = absurd (file_fault texts _ (runs.0).0)
+  in_memory_end (Err (fault.RecordRefused n)) texts runs = absurd (file_fault texts _ (runs.0).0)
+  in_memory_end (Err fault.TextsDiffer) texts runs = absurd (file_fault texts _ (runs.0).0)
+  in_memory_end (Err fault.Store) texts runs = ((λ is. omega arith), runs.2)
+  in_memory_end (Err fault.Memory) texts runs = ((λ is. omega arith), runs.2)
+
+  missing_not_five : (why : TextsFault) → missing_status why ≡ 5 → ⊥
+  missing_not_five (Unread w) e = absurd (omega arith)
+  missing_not_five (TooLong w) e = absurd (omega arith)
+  missing_not_five Memory e = absurd (omega arith)
+
+  pub in_memory : RunsOffice d run before after old new status → run.journal ≡ None → (status ≢ 5) × (status ≢ 6) × (after ≡ before)
+  in_memory (inl ran) none =
+      let P : Option (List ℕ) → Type 0 = λ j. Runs d j run ran.texts before after old.connection new.connection ran.end in
+      let end = in_memory_end ran.end ran.texts (subst P none ran.runs) in
+      ((λ five. end.0 (sym ran.status_is ∙ five)), (λ six. (store (inl ran) six).0 none), end.1)
+  in_memory (inr missing) none = ((λ five. missing_not_five missing.why (sym missing.status_is ∙ five)), (λ six. missing_not_six missing.why (sym missing.status_is ∙ six)), missing.untouched.1)
+
+  -- ---- without a fault
+
+  answered_end : (end : Result Ending OpenFault) (texts : TextsOf) → Runs d run.journal run texts before after old.connection new.connection end → status ≡ end_status end
+      → (Rose (d.faults before.first) (d.faults after.first) → ⊥) → (Rose (d.faults before.second) (d.faults after.second) → ⊥)
+      → (Rose old.connection.input.faults new.connection.input.faults → ⊥) → (Rose old.connection.output.faults new.connection.output.faults → ⊥) → IsAnswered status
+  answered_end (Ok ending.Done) texts runs is first second read write = inl is
+  answered_end (Ok (ending.Wire code)) texts runs is first second read write = inr (inl is)
+  answered_end (Ok ending.Budget) texts runs is first second read write = inr (inr (inr (inr (inr is))))
+  answered_end (Ok ending.ReadFault) texts runs is first second read write = let w = (worked_of run.journal texts _ runs).worked in absurd (read (w.ran.served).ends.3)
+  answered_end (Ok ending.WriteFault) texts runs is first second read write = let w = (worked_of run.journal texts _ runs).worked in absurd (write ((w.ran.served).ends.1).rose)
+  answered_end (Ok ending.Memory) texts runs is first second read write = inr (inr (inr (inr (inl is))))
+  answered_end (Err (fault.Models why)) texts runs is first second read write = inr (inr (inl is))
+  answered_end (Err (fault.People why)) texts runs is first second read write = inr (inr (inl is))
+  answered_end (Err (fault.Damaged at)) texts runs is first second read write = inr (inr (inr (inl is)))
+  answered_end (Err (fault.RecordRefused n)) texts runs is first second read write = inr (inr (inr (inl is)))
+  answered_end (Err fault.TextsDiffer) texts runs is first second read write = inr (inr (inr (inl is)))
+  answered_end (Err fault.Store) texts runs is first second read write = absurd (⊎_elim first second (of_store run.journal texts (why_of run.journal texts fault.Store runs)).1)
+  answered_end (Err fault.Memory) texts runs is first second read write = inr (inr (inr (inr (inl is))))
+
+  missing_answered : (why : TextsFault) → status ≡ missing_status why → (status ≡ 3 → ⊥) → IsAnswered status
+  missing_answered (Unread w) is read = absurd (read is)
+  missing_answered (TooLong w) is read = inr (inr (inl is))
+  missing_answered Memory is read = inr (inr (inr (inr (inl is))))
+
+  pub answered : RunsOffice d run before after old new status → (status ≡ 3 → ⊥) → (Rose (d.faults before.first) (d.faults after.first) → ⊥) → (Rose (d.faults before.second) (d.faults after.second) → ⊥)
+      → (Rose old.connection.input.faults new.connection.input.faults → ⊥) → (Rose old.connection.output.faults new.connection.output.faults → ⊥) → IsAnswered status
+  answered (inl ran) texts first second read write = answered_end ran.end ran.texts ran.runs ran.status_is first second read write
+  answered (inr missing) texts first second read write = missing_answered missing.why missing.status_is texts
+
+  -- ---- 7, and how the input ended
+
+  broke_end : (end : Result Ending OpenFault) (texts : TextsOf) → Runs d run.journal run texts before after old.connection new.connection end → end_status end ≡ 7 → Rose old.connection.input.faults new.connection.input.faults ⊎ Rose old.connection.output.faults new.connection.output.faults
+  broke_end (Ok ending.Done) texts runs is = absurd (omega arith)
+  broke_end (Ok (ending.Wire code)) texts runs is = absurd (omega arith)
+  broke_end (Ok ending.Budget) texts runs is = absurd (omega arith)
+  broke_end (Ok ending.ReadFault) texts runs is = let w = (worked_of run.journal texts _ runs).worked in inl (w.ran.served).ends.3
+  broke_end (Ok ending.WriteFault) texts runs is = let w = (worked_of run.journal texts _ runs).worked in inr ((w.ran.served).ends.1).rose
+  broke_end (Ok ending.Memory) texts runs is = absurd (omega arith)
+  broke_end (Err (fault.Models why)) texts runs is = absurd (omega arith)
+  broke_end (Err (fault.People why)) texts runs is = absurd (omega arith)
+  broke_end (Err (fault.Damaged at)) texts runs is = absurd (omega arith)
+  broke_end (Err (fault.RecordRefused n)) texts runs is = absurd (omega arith)
+  broke_end (Err fault.TextsDiffer) texts runs is = absurd (omega arith)
+  broke_end (Err fault.Store) texts runs is = absurd (omega arith)
+  broke_end (Err fault.Memory) texts runs is = absurd (omega arith)
+
+  missing_not_seven : (why : TextsFault) → missing_status why ≡ 7 → ⊥
+  missing_not_seven (Unread w) e = absurd (omega arith)
+  missing_not_seven (TooLong w) e = absurd (omega arith)
+  missing_not_seven Memory e = absurd (omega arith)
+
+  pub broke : RunsOffice d run before after old new status → status ≡ 7 → Rose old.connection.input.faults new.connection.input.faults ⊎ Rose old.connection.output.faults new.connection.output.faults
+  broke (inl ran) seven = broke_end ran.end ran.texts ran.runs (sym ran.status_is ∙ seven)
+  broke (inr missing) seven = absurd (missing_not_seven missing.why (sym missing.status_is ∙ seven))
+
+  exact_end : (end : Result Ending OpenFault) (texts : TextsOf) → Runs d run.journal run texts before after old.connection new.connection end → status ≡ end_status end → status ≢ 4 → status ≢ 5 → status ≢ 6 → status ≢ 7 → status ≢ 8 → IsStatusOf budget old.connection.input.flow status
+  exact_end (Ok e) texts runs is four five six seven eight = status_of_input _ _ _ _ _ _ e status ((worked_of run.journal texts e runs).worked).ran is seven eight
+  exact_end (Err (fault.Models why)) texts runs is four five six seven eight = absurd (four is)
+  exact_end (Err (fault.People why)) texts runs is four five six seven eight = absurd (four is)
+  exact_end (Err (fault.Damaged at)) texts runs is four five six seven eight = absurd (five is)
+  exact_end (Err (fault.RecordRefused n)) texts runs is four five six seven eight = absurd (five is)
+  exact_end (Err fault.TextsDiffer) texts runs is four five six seven eight = absurd (five is)
+  exact_end (Err fault.Store) texts runs is four five six seven eight = absurd (six is)
+  exact_end (Err fault.Memory) texts runs is four five six seven eight = absurd (eight is)
+
+  missing_exact : (why : TextsFault) → status ≡ missing_status why → status ≢ 3 → status ≢ 4 → status ≢ 8 → ⊥
+  missing_exact (Unread w) is three four eight = three is
+  missing_exact (TooLong w) is three four eight = four is
+  missing_exact Memory is three four eight = eight is
+
+  pub exact : RunsOffice d run before after old new status → status ≢ 3 → status ≢ 4 → status ≢ 5 → status ≢ 6 → status ≢ 7 → status ≢ 8 → IsStatusOf budget old.connection.input.flow status
+  exact (inl ran) three four five six seven eight = exact_end ran.end ran.texts ran.runs ran.status_is four five six seven eight
+  exact (inr missing) three four five six seven eight = absurd (missing_exact missing.why missing.status_is three four eight)

@@ -1,6 +1,6 @@
 -- A worked run: two requests in, the bytes of two replies out. A wrong reading of a definition fails
 -- the check.
-use Rattle.std.specs.Prelude.{◌≡◌, refl, ℕ, List, [], ◌∷◌, ◌++◌, Option, Some, None, codes, true, false}
+use Rattle.std.specs.Prelude.{◌≡◌, refl, ℕ, List, [], ◌∷◌, ◌++◌, Some, None, codes, true, false}
 use Rattle.std.specs.Fmt.{digits}
 use Rattle.std.specs.Str.{chars, is_utf8}
 use Rattle.serde_json.proofs.OnLiterals.{serde_json_on_literals}
@@ -9,23 +9,21 @@ use Rattle.std.proofs.lemmas.List.Elements.{All-nil}
 use Rattle.ht_base.specs.declared.event.Event.{Event}
 use Rattle.ht_base.specs.declared.event.Event.TheVariants.{Ask}
 use Rattle.ht_base.specs.declared.event.Command.TheVariants as command
-use Rattle.ht_base.specs.declared.record.Record.{Record}
 use Rattle.ht_base.specs.declared.reply.Answer.TheVariants.{Done}
 use Rattle.ht_base.specs.declared.reply.Reply.{Reply}
 use Rattle.ht_base.specs.declared.state.State.TheVariants.{Ready}
-use Rattle.ht_machine.specs.Deciding.{Decides}
-use Rattle.ht_machine.specs.History.{IsStep}
+use Rattle.ht_desk.specs.States.{State}
+use Rattle.ht_desk.specs.Steps.{Steps}
 use Rattle.ht_outside.specs.Clocks.{moment_of}
 use Rattle.ht_serve.specs.declared.ending.Ending.TheVariants as ending
 use Rattle.ht_serve.specs.Calls.{StepsMade}
 use Rattle.ht_serve.specs.Exchanges.{Exchange, AreExchanges, HasAway, after as clock_after, answered, calls, refused, replies}
-use Rattle.ht_tree.specs.Tables.{TablesOf}
 use Rattle.ht_wire.specs.ExampleRequests.{both_stand, first, first_bytes, second, second_bytes}
 use Rattle.ht_wire.specs.Heads.{IsLineByte}
 use Rattle.ht_wire.specs.Replies.{phrase_of, reply_head}
 use Rattle.ht_wire.proofs.PublicLaws.{request_or_end}
 use Rattle.ht_api.specs.declared.refusal.ApiRefusal.TheVariants.{Person}
-use Rattle.ht_program.specs.Folding.{Decided, Folds, IsOutput}
+use Rattle.ht_program.specs.Folding.{Decided, Folds, IsOutput, OfficeOf, office_of}
 use Rattle.ht_program.specs.Running.{Ran, Streams}
 
 -- ---- the exchanges, and the steps that were made
@@ -43,9 +41,9 @@ exchanges =
     ∷ record { request = second; moment = 2000; closes = true; outcome = answered (record { event = create; reply = created }) }
     ∷ []
 
-the_steps : (t u : TablesOf) → IsStep t create created u → StepsMade IsStep t u (calls exchanges)
-the_steps t u step = record {
-  history = record { pass = 0; event = create; reply = created; after = u } ∷ [];
+the_steps : (s t : State) → Steps s create created t → StepsMade Steps s t (calls exchanges)
+the_steps s t step = record {
+  history = record { pass = 0; event = create; reply = created; after = t } ∷ [];
   legal = (step, tt);
   ends = refl;
   own_are = refl;
@@ -77,17 +75,17 @@ unfolding reply_head phrase_of digits serde_json_on_literals
 the_bytes_out = refl
 
 -- what the fold over both requests gives
-the_fold : (t u : TablesOf) (left : Option Record) → Decides t create left created u → Folds Decided (moment_of 1000 1000) t (first ∷ second ∷ []) bytes_out
+the_fold : (limit : ℕ) (old new : OfficeOf) → Decided limit old create created new → Folds (Decided limit) (moment_of 1000 1000) old (first ∷ second ∷ []) bytes_out
 unfolding chars is_utf8 reply_head phrase_of digits serde_json_on_literals
-the_fold t u left decides = (first_out, t, second_out, (refl, refl), (second_out, u, [], (created, (left, decides), refl), refl, refl), refl)
+the_fold limit old new decides = (first_out, old, second_out, (refl, refl), (second_out, new, [], (created, decides, refl), refl, refl), refl)
 
-the_output : (t u : TablesOf) (left : Option Record) → Decides t create left created u → IsOutput Decided (moment_of 1000 1000) 1048576 t (first_bytes ++ second_bytes) bytes_out
-the_output t u left decides = record {
+the_output : (limit : ℕ) (old new : OfficeOf) → Decided limit old create created new → IsOutput (Decided limit) (moment_of 1000 1000) 1048576 old (first_bytes ++ second_bytes) bytes_out
+the_output limit old new decides = record {
   asked = first ∷ second ∷ [];
   rest = [];
   stand = both_stand;
   replies = bytes_out;
-  folds = the_fold t u left decides;
+  folds = the_fold limit old new decides;
   tail = [];
   behind = inl (refl, inl (lit≤ tt, inl refl));
   all = refl;
@@ -106,19 +104,18 @@ after = record {
   output = record { written = Some bytes_out; faults = 0 };
 }
 
-a_run : (t u : TablesOf) (left : Option Record) → Decides t create left created u → Ran (moment_of 1000 1000) 1048576 t before after ending.Done
-a_run t u left decides = record {
-  after = u;
+a_run : (s t : State) → Steps s create created t → Decided s.limit (office_of s) create created (office_of t) → Ran (moment_of 1000 1000) 1048576 s t before after ending.Done
+a_run s t step decides = record {
   clock = clock_after exchanges (Some (moment_of 1000 1000));
   served = record {
     exchanges = exchanges;
     taken = first_bytes ++ second_bytes;
     takes = record { left = refl; taken = refl };
     rest = [];
-    serves = record { stand = both_stand; numbered = two_exchanges; made = the_steps t u (inl (left, decides)); away = none_away };
+    serves = record { stand = both_stand; numbered = two_exchanges; made = the_steps s t step; away = none_away };
     clock = refl;
     ends = (inl (record { closes = refl; needed = inr ([], refl, (λ rest whole. request_or_end [] first whole.0 whole.1 (record { short = lit< tt; blank = All-nil IsLineByte }))) }), lit≤ tt, sym the_bytes_out);
     later = record { input = lit≤ tt; output = lit≤ tt };
   };
-  written = λ settled memory. (bytes_out, the_output t u left decides, refl);
+  written = λ sure settled decided. (bytes_out, the_output s.limit (office_of s) (office_of t) decides, refl);
 }

@@ -1,13 +1,19 @@
 -- What a run writes that has no fault, and memory for each reply: the task machine goes over the
 -- requests of the bytes read, one by one.
-use Rattle.std.specs.Prelude.{◌≡◌, ◌⊎◌, ℕ, ◌+◌, ◌<◌, ◌≤◌, List, [], ◌∷◌, ◌++◌, length, Option, Some, Ok, Err, Result}
+use Rattle.std.specs.Prelude.{◌≡◌, ◌⊎◌, ℕ, ◌+◌, ◌<◌, ◌≤◌, List, [], ◌∷◌, ◌++◌, length, Option, Some, None, Ok, Err, Result}
 use Rattle.ht_base.specs.declared.event.Event.{Event}
 use Rattle.ht_base.specs.declared.record.Record.{Record}
 use Rattle.ht_base.specs.declared.reply.Answer.TheVariants.{Refused}
 use Rattle.ht_base.specs.declared.reply.Reply.{Reply}
+use Rattle.ht_base.specs.Records.{RecordOf, record_of}
+use Rattle.ht_desk.specs.Opening.{AreOfFile}
+use Rattle.ht_desk.specs.Records.{AreSpelled, length_of}
+use Rattle.ht_desk.specs.Replaying.{IsJournalOf, TextsOf}
+use Rattle.ht_desk.specs.States.{State}
+use Rattle.ht_desk.specs.Steps.{full_reply}
 use Rattle.ht_machine.specs.Deciding.{Decides}
 use Rattle.ht_outside.specs.Clocks.{moment_of}
-use Rattle.ht_tree.specs.Tables.{RoomyTables, TablesOf}
+use Rattle.ht_tree.specs.Tables.{TablesOf}
 use Rattle.ht_wire.specs.declared.request.Request.{Request}
 use Rattle.ht_wire.specs.Replies.{reply_bytes}
 use Rattle.ht_wire.specs.Requests.{AreRequests, IsRefused}
@@ -20,12 +26,28 @@ use Rattle.ht_serve.specs.Closing.{GoOn}
 use Rattle.ht_serve.specs.Inputs.{AreOver}
 use Rattle.ht_serve.specs.Texts.{refusal_bytes, reply_status}
 use Rattle.ht_program.specs.Inputs.{budget, lasts}
-use Rattle.ht_program.specs.Opening.{Opens}
-use Rattle.ht_program.specs.Words.{IsRun}
+use Rattle.ht_program.specs.Reading.{Reads}
+use Rattle.ht_program.specs.Words.{IsRun, RunOf}
 
--- what the task machine decides of an event, apart from want of memory
-abbrev pub Decided : TablesOf → Event → Reply → TablesOf → Type 0
-Decided old event reply new = (left : Option Record) × Decides old event left reply new
+-- ---- the office
+
+-- its tables, and the records of its journal
+pub record OfficeOf : Type 0 where
+  pub tables : TablesOf
+  pub records : List RecordOf
+
+abbrev pub office_of : State → OfficeOf
+office_of s = record { tables = s.tables; records = s.records }
+
+-- What an office does with an event whose journal may have this length, apart from want of memory and from disks
+-- that fail: the task machine decides, and the record that it leaves is kept. Or the journal would be too long with
+-- it, and nothing changes.
+pub data Decided (limit : ℕ) (old : OfficeOf) (event : Event) (reply : Reply) (new : OfficeOf) : Type 0 where
+  nothing_left : (u : TablesOf) → Decides old.tables event None reply u → new ≡ old → Decided limit old event reply new
+  kept : (r : Record) (u : TablesOf) → Decides old.tables event (Some r) reply u → length_of (old.records ++ record_of r ∷ []) ≤ limit
+      → new ≡ record { tables = u; records = old.records ++ record_of r ∷ [] } → Decided limit old event reply new
+  full : (r : Record) (d : Reply) (u : TablesOf) → Decides old.tables event (Some r) d u → limit < length_of (old.records ++ record_of r ∷ [])
+      → reply ≡ full_reply → new ≡ old → Decided limit old event reply new
 
 -- Of any machine, by what its steps are.
 module _ {S : Type 0} (Step : S → Event → Reply → S → Type 0) where
@@ -82,14 +104,25 @@ abbrev pub IsRefusedOneWay : List ℕ → Type 0
 IsRefusedOneWay bytes =
     (asked : List Request) (rest : List ℕ) → AreRequests bytes asked rest → GoOn (lasts asked) → IsRefused rest 431 → IsRefused rest 400 → ⊥
 
--- ---- the words and the texts
+-- ---- the words, the texts and the journal
 
--- what `office` writes that is given these words and texts, and reads these bytes
-pub record IsOutputOf (words : List (List ℕ)) (told : List ℕ → List ℕ) (bytes out : List ℕ) : Type 0 where
-  pub from : ℕ
-  pub step : ℕ
-  pub names : Option (List ℕ × List ℕ)
-  pub run : IsRun words from step names
-  pub tables : RoomyTables
-  pub opens : Opens names (Some told) (Ok tables)
-  pub output : IsOutput Decided (moment_of from step) budget tables.tables bytes out
+-- what the first file of the journal holds at the start: nothing, where there is none
+abbrev pub file_of : Option (List ℕ) → List ℕ → List ℕ
+file_of None file = []
+file_of (Some name) file = file
+
+-- the office of these texts whose records a file holds, or one that begins where it holds none
+pub record IsIn (texts : TextsOf) (file : List ℕ) (office : OfficeOf) : Type 0 where
+  pub spelled : AreSpelled office.records
+  pub journal : IsJournalOf texts office.records office.tables
+  pub found : AreOfFile texts office.records file
+
+-- what `office` writes that is given these words, texts and file, and reads these bytes
+pub record IsOutputOf (words : List (List ℕ)) (told : List ℕ → List ℕ) (file bytes out : List ℕ) : Type 0 where
+  pub run : RunOf
+  pub said : IsRun words run
+  pub texts : TextsOf
+  pub reads : Reads run.texts (Some told) (Ok texts)
+  pub office : OfficeOf
+  pub opens : IsIn texts (file_of run.journal file) office
+  pub output : IsOutput (Decided run.limit) (moment_of run.from run.step) budget office bytes out

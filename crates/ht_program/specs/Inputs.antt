@@ -23,4 +23,4 @@ IsStatusOf most (Some flow) status =
 
 -- the statuses of a run without a fault
 abbrev pub IsAnswered : ℕ → Type 0
-IsAnswered status = (status ≡ 0) ⊎ ((status ≡ 1) ⊎ ((status ≡ 4) ⊎ ((status ≡ 8) ⊎ (status ≡ 9))))
+IsAnswered status = (status ≡ 0) ⊎ ((status ≡ 1) ⊎ ((status ≡ 4) ⊎ ((status ≡ 5) ⊎ ((status ≡ 8) ⊎ (status ≡ 9)))))

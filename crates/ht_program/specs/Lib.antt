@@ -1,10 +1,12 @@
-pub mod BuiltIn
+pub mod Attaching
 pub mod Examples
 pub mod ExampleRun
 pub mod Folding
 pub mod Inputs
 pub mod Named
 pub mod Office
-pub mod Opening
+pub mod OfficeTexts
+pub mod Reading
 pub mod Running
+pub mod Statuses
 pub mod Words

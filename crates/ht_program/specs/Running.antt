@@ -1,15 +1,21 @@
--- What a run does to a connection, and how it is told.
-use Rattle.std.specs.Prelude.{◌≡◌, ◌≢◌, ◌⊎◌, ℕ, false, List, [], ◌∷◌, ◌++◌, Option, Some, codes, decimal}
+-- What a run does to a connection and to its office.
+use Rattle.std.specs.Prelude.{◌≡◌, ◌≢◌, ◌⊎◌, ℕ, false, List, [], ◌∷◌, ◌++◌, None, Option, Some}
+use Rattle.std.specs.List.{AllByRecursion}
 use Rattle.ht_outside.specs.Causes.{Rose}
 use Rattle.ht_outside.specs.Tells.{SourceState, SinkState, Grows}
-use Rattle.ht_machine.specs.History.{IsStep}
+use Rattle.ht_outside.specs.declared.disk.Disk.{Ghosts}
+use Rattle.ht_desk.specs.declared.desk_state.DeskState.{DeskState}
+use Rattle.ht_desk.specs.Keeping.{IsAt}
+use Rattle.ht_desk.specs.Replaying.{TextsOf}
+use Rattle.ht_desk.specs.States.{State}
+use Rattle.ht_desk.specs.Steps.{Steps, store_reply}
+use Rattle.ht_journal.specs.Rooms.{IsRoomy}
 use Rattle.ht_serve.specs.declared.ending.Ending.{Ending}
 use Rattle.ht_serve.specs.declared.ending.Ending.TheVariants.{Done, Wire, Budget, ReadFault, WriteFault, Memory}
-use Rattle.ht_serve.specs.Calls.{StepsMade}
-use Rattle.ht_serve.specs.Exchanges.{Exchange, status_of}
+use Rattle.ht_serve.specs.Calls.{Call, StepsMade}
+use Rattle.ht_serve.specs.Exchanges.{Exchange, calls, status_of}
 use Rattle.ht_serve.specs.Serving.{Served, sides}
-use Rattle.ht_tree.specs.Tables.{TablesOf}
-use Rattle.ht_program.specs.Folding.{Decided, IsOutput}
+use Rattle.ht_program.specs.Folding.{Decided, IsOutput, office_of}
 
 -- what the two ends of a connection tell
 pub record Streams : Type 0 where
@@ -28,41 +34,31 @@ IsSettled ReadFault = ⊥
 IsSettled WriteFault = ⊥
 IsSettled Memory = ⊥
 
--- no reply tells want of memory, whose status is 500
-abbrev pub HaveMemory : List Exchange → Type 0
-HaveMemory [] = Unit {0}
-HaveMemory (x ∷ xs) = (status_of x.outcome ≢ 500) × HaveMemory xs
+-- no reply tells want of memory, whose status is 500, or that a disk failed, whose status is 503
+abbrev pub AreDecided : List Exchange → Type 0
+AreDecided [] = Unit {0}
+AreDecided (x ∷ xs) = (status_of x.outcome ≢ 500) × (status_of x.outcome ≢ 503) × AreDecided xs
 
--- A connection was served to its ending, at these moments, by the task machine over these tables. No
+-- A connection was served to its ending, at these moments, by a durable office that went from one state to another. No
 -- request was turned away.
-pub record Ran (moment : ℕ → ℕ) (most : ℕ) (t : TablesOf) (old new : Streams) (ending : Ending) : Type 0 where
-  pub after : TablesOf
+pub record Ran (moment : ℕ → ℕ) (most : ℕ) (s t : State) (old new : Streams) (ending : Ending) : Type 0 where
   pub clock : Option (ℕ → ℕ)
-  pub served : Served (StepsMade IsStep t after) ⊥ false most 0 (sides old.input old.output (Some moment)) (sides new.input new.output clock) [] ending
-  -- without a fault, and with memory for each reply, what was written is a function of the bytes read
-  pub written : IsSettled ending → HaveMemory served.exchanges
-      → (out : List ℕ) × IsOutput Decided moment most t served.taken out × Grows old.output.written new.output.written out
+  pub served : Served (StepsMade Steps s t) ⊥ false most 0 (sides old.input old.output (Some moment)) (sides new.input new.output clock) [] ending
+  -- without a fault, and with memory for each reply, what was written is a function of the bytes read and of the office
+  pub written : s.doubt ≡ None → IsSettled ending → AreDecided served.exchanges
+      → (out : List ℕ) × IsOutput (Decided s.limit) moment most (office_of s) served.taken out × Grows old.output.written new.output.written out
 
--- the status of an ending
-abbrev pub ending_status : Ending → ℕ
-ending_status Done = 0
-ending_status (Wire code) = 1
-ending_status Budget = 9
-ending_status ReadFault = 7
-ending_status WriteFault = 7
-ending_status Memory = 8
+-- no reply of these calls tells that a disk failed
+abbrev pub NoneFailed : List Call → Type 0
+NoneFailed made = AllByRecursion (λ c. (c.reply).answer ≢ store_reply.answer) made
 
--- the line on complaints
-abbrev pub ending_line : Ending → List ℕ
-ending_line Done = []
-ending_line (Wire code) = codes "wire: " ++ decimal code ++ codes "\n"
-ending_line Budget = codes "budget\n"
-ending_line ReadFault = []
-ending_line WriteFault = []
-ending_line Memory = codes "memory\n"
-
-abbrev pub usage_line : List ℕ
-usage_line = codes "usage: office run, serve, check, load or export\n"
+-- The same of a desk and its disk, in whichever state of an office it was. Over a disk with room for the whole journal no
+-- disk failed.
+abbrev pub RanOver : {D : Type 0} → Ghosts D → (ℕ → ℕ) → ℕ → DeskState → D → D → Streams → Streams → Ending → Type 0
+RanOver d moment most desk disk_before disk_after old new ending =
+    (beside : ℕ) (texts : TextsOf) (s : State) → IsAt d beside texts s desk disk_before
+    → (t : State) × (last : DeskState) × (ran : Ran moment most s t old new ending) × IsAt d beside texts t last disk_after
+    × (IsRoomy (d.room disk_before) s.limit → (t.faults ≡ s.faults) × NoneFailed (calls (ran.served).exchanges))
 
 -- the line was written, wholly unless the count of faults rose
 pub record Complains (old new : SinkState) (line : List ℕ) : Type 0 where

@@ -1,37 +1,47 @@
-ghost use Rattle.std.specs.Prelude.{◌≡◌, [], false};
+ghost use Rattle.std.specs.Prelude.{◌≡◌, ◌≢◌, [], false, ℕ};
+ghost use Rattle.ht_desk.specs.Keeping.{IsAt};
+ghost use Rattle.ht_desk.specs.Replaying.{TextsOf};
+ghost use Rattle.ht_desk.specs.States.{State};
+ghost use Rattle.ht_desk.specs.Stepping.{Stands};
 ghost use Rattle.ht_outside.specs.Clocks.{moment_of};
-ghost use Rattle.ht_machine.specs.History.{IsStep};
 ghost use Rattle.ht_serve.specs.Calls.{StepsMade};
 ghost use Rattle.ht_serve.specs.Serving.{Served, sides, sides_of};
 ghost use Rattle.ht_program.specs.Inputs.{budget};
-ghost use Rattle.ht_program.specs.Running.{Ran, streams};
+ghost use Rattle.ht_program.specs.Running.{RanOver, streams};
 
+use crate::command::Run;
 use crate::machine::Machine;
-use crate::words::Run;
-use ht_outside::{Clock, LentPair, Link, Sink, Source};
+use ht_desk::DeskState;
+use ht_outside::{Clock, Disk, LentPair, Link, Sink, Source};
 use ht_serve::{Alone, Ending, Quiet, TakesEvents, serve_connection};
-use ht_tree::Tables;
 use std::alloc::Global;
 
 /// The most requests that one run answers.
 const BUDGET: u32 = 1_048_576;
 
-/// Serves the connection over input and output, from these tables on.
-pub(crate) fn serve<S: Source, K: Sink>(
+/// Serves the connection over input and output, by the office that is on this disk.
+pub(crate) fn serve<D: Disk, S: Source, K: Sink>(
     alloc: Global,
     run: &Run,
-    tables: Tables,
+    desk: DeskState,
+    disk: &mut D,
     input: &mut S,
     output: &mut K,
 ) -> Ending
-    ensures { Ran (moment_of run.now.from run.now.step) budget tables.tables
+    requires { Stands D.Disk desk disk.old }
+    ensures { RanOver D.Disk (moment_of run.now.from run.now.step) budget desk disk.old disk.new
         (streams (S.source_state input.old) (K.sink_state output.old))
         (streams (S.source_state input.new) (K.sink_state output.new)) result }
 {
-    let mut machine = Machine { alloc, tables };
     let mut clock = run.clock();
-    serve_lent(alloc, &mut machine, input, output, &mut clock)
+    let mut machine = Machine { disk, state: desk };
+    let ending = serve_lent(alloc, &mut machine, input, output, &mut clock);
+    let_go(machine.close());
+    ending
 }
+
+// The state of an office that is done with.
+fn let_go(_desk: DeskState) {}
 
 // Serves the connection over a source and a sink that are lent, for a machine.
 fn serve_lent<T: TakesEvents, S: Source, K: Sink, C: Clock>(

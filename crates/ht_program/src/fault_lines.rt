@@ -1,27 +1,41 @@
-ghost use Rattle.std.specs.Prelude.{◌≡◌, ◌≢◌, ◌+◌, ◌≤◌, [], ◌++◌, length, codes};
-ghost use Rattle.ht_program.specs.Opening as spec;
-ghost use Rattle.ht_program.specs.Opening.{models_words, people_words, placed, short_line};
+ghost use Rattle.std.specs.Prelude.{◌≡◌, ◌+◌, ◌≤◌, [], ◌++◌, length, codes, decimal};
+ghost use Rattle.ht_program.specs.Statuses as spec;
+ghost use Rattle.ht_program.specs.Statuses.{fault_line, models_words, people_words, placed, short_line};
 
-use crate::opening::{TextsFault, Which};
+use crate::reading::{TextsFault, Which};
 use crate::status::{Line, Status, put};
+use ht_desk::OpenFault;
 use ht_models::ModelsRefusal;
 use ht_people::PeopleRefusal;
 
-pub(crate) fn fault_status(fault: TextsFault) -> Status
-    ensures value { result.0 ≡ spec.fault_status fault }
-    ensures opening { result.0 ≢ 2 }
+/// The status where the texts are missing.
+pub(crate) fn status_of_missing(fault: TextsFault) -> Status
+    ensures { result.0 ≡ spec.missing_status fault }
 {
     Status(match fault {
         TextsFault::Unread(_) => 3,
         TextsFault::TooLong(_) => 4,
-        TextsFault::Models(_) => 4,
-        TextsFault::People(_) => 4,
         TextsFault::Memory => 8,
     })
 }
 
-/// The line on complaints about a fault, empty for a text that could not be read.
-pub(crate) fn fault_line(fault: TextsFault) -> Line
+/// The status of an office that is not opened.
+pub(crate) fn status_of_fault(fault: OpenFault) -> Status
+    ensures { result.0 ≡ spec.fault_status fault }
+{
+    Status(match fault {
+        OpenFault::Models(_) => 4,
+        OpenFault::People(_) => 4,
+        OpenFault::Damaged(_) => 5,
+        OpenFault::RecordRefused(_) => 5,
+        OpenFault::TextsDiffer => 5,
+        OpenFault::Store => 6,
+        OpenFault::Memory => 8,
+    })
+}
+
+/// The line on complaints about texts that are missing, empty for a text that could not be read.
+pub(crate) fn line_of_missing(fault: TextsFault) -> Line
     ensures { result.items ≡ short_line fault }
 {
     let mut line = Line::new();
@@ -29,11 +43,36 @@ pub(crate) fn fault_line(fault: TextsFault) -> Line
         TextsFault::Unread(_) => {}
         TextsFault::TooLong(Which::Models) => put(&mut line, b"models: TooLong\n"),
         TextsFault::TooLong(Which::People) => put(&mut line, b"people: TooLong\n"),
-        TextsFault::Models(refusal) => put_models(&mut line, refusal),
-        TextsFault::People(refusal) => put_people(&mut line, refusal),
         TextsFault::Memory => put(&mut line, b"memory\n"),
     }
     line
+}
+
+/// Puts the line about an office that is not opened.
+pub(crate) fn put_fault(line: &mut Line, fault: OpenFault)
+    requires { line.old.items ≡ [] }
+    ensures { line.new.items ≡ fault_line fault }
+{
+    match fault {
+        OpenFault::Models(refusal) => put_models(line, refusal),
+        OpenFault::People(refusal) => put_people(line, refusal),
+        OpenFault::Damaged(at) => put_numbered(line, b"journal: damaged at ", at),
+        OpenFault::RecordRefused(n) => put_numbered(line, b"journal: record ", n as u64),
+        OpenFault::TextsDiffer => put(line, b"journal: texts differ\n"),
+        OpenFault::Store => put(line, b"journal: store\n"),
+        OpenFault::Memory => put(line, b"memory\n"),
+    }
+}
+
+fn put_numbered(line: &mut Line, words: &[u8], n: u64)
+    requires empty { line.old.items ≡ [] }
+    requires short { length words.now ≤ 40 }
+    ensures { line.new.items ≡ words.now ++ decimal n ++ codes "\n" }
+{
+    let mut digits = itoa::Buffer::new();
+    put(line, words);
+    put(line, digits.format(n).as_bytes());
+    put(line, b"\n");
 }
 
 fn put_models(line: &mut Line, refusal: ModelsRefusal)

@@ -1,14 +1,17 @@
-//! The whole program `office` over its words, texts and streams: the words of the command line, the task
-//! machine in memory with its connection, and the top call.
+//! The whole program `office` over its words, texts, disks and streams: the words of the command line, the
+//! durable office with its connection, and the top call.
 #![tactic(auto)]
 
+mod attaching;
+mod command;
 mod connection;
 mod fault_lines;
 mod laws;
 mod machine;
 mod numbers;
-mod office_tables;
-mod opening;
+mod office_texts;
+mod reading;
+mod running;
 mod status;
 mod top_call;
 mod words;

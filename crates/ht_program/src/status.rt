@@ -1,14 +1,17 @@
 ghost use Rattle.std.specs.Prelude.{◌≡◌, ◌≢◌, ◌+◌, ◌≤◌, [], ◌++◌, length, codes, decimal};
 ghost use Rattle.std.specs.Process.{exit_status};
-ghost use Rattle.ht_program.specs.Running.{ending_line, ending_status};
+ghost use Rattle.ht_program.specs.Statuses.{end_line, end_status, ending_line, ending_status};
 
+use crate::fault_lines::{put_fault, status_of_fault};
 use arrayvec::ArrayVec;
+use ht_desk::OpenFault;
 use ht_serve::Ending;
 use std::process::ExitCode;
 
 /// The exit status of the program: 0 done, 1 a request that can't be read, 2 wrong words, 3 a text
-/// that can't be read, 4 a text that is too long or refused, 7 a fault of input or output, 8 no
-/// memory, 9 more requests than one run answers.
+/// that can't be read, 4 a text that is too long or refused, 5 a journal that is damaged, or that is
+/// not one of this office, 6 a fault of the journal's disks, 7 a fault of input or output, 8 no memory,
+/// 9 more requests than one run answers.
 #[derive(Clone, Copy, Debug, PartialEq, Eq)]
 pub struct Status(pub u8);
 
@@ -31,9 +34,18 @@ pub(crate) type Line = ArrayVec<u8, 64>;
 /// The line for wrong words.
 pub(crate) const USAGE_LINE: &[u8] = b"usage: office run, serve, check, load or export\n";
 
-pub(crate) fn status_of(ending: Ending) -> Status
-    ensures value { result.0 ≡ ending_status ending }
-    ensures served { (result.0 ≢ 2) × (result.0 ≢ 3) × (result.0 ≢ 4) }
+/// The status of a run: that of the ending of its connection, or of why its office was not opened.
+pub(crate) fn status_of(end: Result<Ending, OpenFault>) -> Status
+    ensures { result.0 ≡ end_status end }
+{
+    match end {
+        Ok(ending) => status_of_ending(ending),
+        Err(fault) => status_of_fault(fault),
+    }
+}
+
+fn status_of_ending(ending: Ending) -> Status
+    ensures { result.0 ≡ ending_status ending }
 {
     Status(match ending {
         Ending::Done => 0,
@@ -45,20 +57,30 @@ pub(crate) fn status_of(ending: Ending) -> Status
     })
 }
 
-/// The line on complaints about an ending, empty where there is none.
-pub(crate) fn line_of(ending: Ending) -> Line
-    ensures { result.items ≡ ending_line ending }
+/// The line on complaints about a run, empty where there is none.
+pub(crate) fn line_of(end: Result<Ending, OpenFault>) -> Line
+    ensures { result.items ≡ end_line end }
 {
     let mut line = Line::new();
-    match ending {
-        Ending::Done => {}
-        Ending::Wire(code) => put_wire(&mut line, code),
-        Ending::ReadFault => {}
-        Ending::WriteFault => {}
-        Ending::Memory => put(&mut line, b"memory\n"),
-        Ending::Budget => put(&mut line, b"budget\n"),
+    match end {
+        Ok(ending) => put_ending(&mut line, ending),
+        Err(fault) => put_fault(&mut line, fault),
     }
     line
+}
+
+fn put_ending(line: &mut Line, ending: Ending)
+    requires { line.old.items ≡ [] }
+    ensures { line.new.items ≡ ending_line ending }
+{
+    match ending {
+        Ending::Done => {}
+        Ending::Wire(code) => put_wire(line, code),
+        Ending::ReadFault => {}
+        Ending::WriteFault => {}
+        Ending::Memory => put(line, b"memory\n"),
+        Ending::Budget => put(line, b"budget\n"),
+    }
 }
 
 fn put_wire(line: &mut Line, code: u16)

@@ -1,63 +1,84 @@
-ghost use Rattle.std.specs.Prelude.{◌≡◌, ◌≢◌, ◌⊎◌, ◌↔◌, ◌++◌, ℕ, [], List, None, Option, Some, IfSome, codes, map, option_map, string_bytes, unwrap_or};
+ghost use Rattle.std.specs.Prelude.{◌≡◌, ◌≢◌, ◌⊎◌, ◌↔◌, ◌++◌, ℕ, [], List, None, Option, Some, IfNone, IfSome, codes, map, option_map, string_bytes, unwrap_or};
 ghost use Rattle.ht_outside.specs.Causes.{Rose};
-ghost use Rattle.ht_outside.specs.Clocks.{moment_of};
+ghost use Rattle.ht_program.specs.Attaching.{disks};
 ghost use Rattle.ht_program.specs.Inputs.{IsAnswered, IsStatusOf, budget};
-ghost use Rattle.ht_program.specs.Named.{pair_of};
-ghost use Rattle.ht_program.specs.Opening as opening;
-ghost use Rattle.ht_program.specs.Office.{RunsOffice, outside_of};
-ghost use Rattle.ht_program.specs.Opening.{AreWrong};
-ghost use Rattle.ht_program.specs.Running.{Complains, usage_line};
-ghost use Rattle.ht_program.specs.Words.{IsRun};
+ghost use Rattle.ht_program.specs.Named.{pair_of, run_told};
+ghost use Rattle.ht_program.specs.Office.{IsAtFault, RunsOffice, outside_of};
+ghost use Rattle.ht_program.specs.Reading as reading;
+ghost use Rattle.ht_program.specs.Reading.{AreWrong};
+ghost use Rattle.ht_program.specs.Running.{Complains};
+ghost use Rattle.ht_program.specs.Statuses as spec;
+ghost use Rattle.ht_program.specs.Statuses.{usage_line};
+ghost use Rattle.ht_program.specs.Words.{IsRun, RunOf};
 
-use crate::connection::serve;
-use crate::fault_lines::{fault_line, fault_status};
-use crate::opening::{TextsFault, Which, open};
+use crate::command::{Named, Words};
+use crate::fault_lines::{line_of_missing, status_of_missing};
+use crate::reading::{TextsFault, Which, read_texts};
+use crate::running::run;
 use crate::status::{Status, USAGE_LINE, line_of, status_of};
-use crate::words::{Named, run_of};
-use ht_outside::{Failed, Sink, Source, Texts};
-use ht_serve::Ending;
+use crate::words::run_of;
+use ht_desk::{OpenFault, the_journal_of_an_office_has_no_fault};
+use ht_outside::{Disk, Failed, Sink, Source, Texts};
 use std::alloc::Global;
 
-/// The whole program over its words, its texts, its input, its output and its complaints.
+/// The whole program over its words, its texts, its disks, its input, its output and its complaints.
 ///
 /// `run --from F --step S` serves one connection over input and output. Request k, counted from 0,
 /// is at the moment F + k * S, in milliseconds since 1970-01-01T00:00:00Z and at most the last
 /// moment there is. With `--models NAME --people NAME` the office is that of the texts with these
-/// names, of at most 262,144 bytes each, and else the built-in one. See [`Status`] for how it ends.
-pub fn office<X: Texts, S: Source, K: Sink, Q: Sink>(
+/// names, of at most 262,144 bytes each, and else the built-in one. With `--journal NAME` it is kept in
+/// the files NAME.0 and NAME.1, as which the two disks are attached, and else in memory. `--limit N` is
+/// the length in bytes that its journal may have. See [`Status`] for how it ends.
+pub fn office<X: Texts, D: Disk, S: Source, K: Sink, Q: Sink>(
     alloc: Global,
     words: &Vec<String>,
     texts: &mut X,
+    first: &mut D,
+    second: &mut D,
     input: &mut S,
     output: &mut K,
     complaints: &mut Q,
 ) -> Status
     ensures usage { (result.0 ≡ 2)
-        ↔ ((from step : ℕ) (names : Option (List ℕ × List ℕ))
-        → IsRun (map string_bytes words.now.items) from step names → ⊥) }
+        ↔ ((run : RunOf) → IsRun (map string_bytes words.now.items) run → ⊥) }
     ensures refused { result.0 ≡ 2
-        → (texts.new ≡ texts.old) × (input.new ≡ input.old) × (output.new ≡ output.old)
+        → (texts.new ≡ texts.old) × (first.new ≡ first.old) × (second.new ≡ second.old)
+        × (input.new ≡ input.old) × (output.new ≡ output.old)
         × Complains (Q.sink_state complaints.old) (Q.sink_state complaints.new) usage_line }
     ensures run { result.0 ≢ 2
-        → (from : ℕ) × (step : ℕ) × (names : Option (List ℕ × List ℕ))
-        × IsRun (map string_bytes words.now.items) from step names
-        × RunsOffice (moment_of from step) budget names
+        → (run : RunOf) × IsRun (map string_bytes words.now.items) run
+        × RunsOffice D.Disk run (disks first.old second.old) (disks first.new second.new)
         (outside_of X.Texts S.Source K.Sink Q.Sink texts.old input.old output.old complaints.old)
         (outside_of X.Texts S.Source K.Sink Q.Sink texts.new input.new output.new complaints.new)
         result.0 }
     ensures unread { result.0 ≡ 3
         → Rose (X.texts_state texts.old).faults (X.texts_state texts.new).faults }
-    ensures wrong { (from step : ℕ) (names : List ℕ × List ℕ)
-        → IsRun (map string_bytes words.now.items) from step (Some names)
+    ensures wrong { (run : RunOf) (names : List ℕ × List ℕ)
+        → IsRun (map string_bytes words.now.items) run → run.texts ≡ Some names
         → IfSome (X.texts_state texts.old).texts (λ text.
-        result.0 ≢ 3 → result.0 ≢ 8 → (result.0 ≡ 4) ↔ AreWrong (text names.0) (text names.1)) }
-    ensures built_in { (from step : ℕ) → IsRun (map string_bytes words.now.items) from step None
+        result.0 ≢ 3 → result.0 ≢ 6 → result.0 ≢ 8
+        → (result.0 ≡ 4) ↔ AreWrong (text names.0) (text names.1)) }
+    ensures built_in { (run : RunOf) → IsRun (map string_bytes words.now.items) run
+        → run.texts ≡ None
         → (result.0 ≢ 3) × (result.0 ≢ 4) × (texts.new ≡ texts.old) }
-    ensures exact { result.0 ≢ 2 → result.0 ≢ 3 → result.0 ≢ 4 → result.0 ≢ 7 → result.0 ≢ 8
+    ensures journal { (run : RunOf) → IsRun (map string_bytes words.now.items) run
+        → IfSome (X.texts_state texts.old).texts (λ text. IfSome (D.gives first.old) (λ file.
+        result.0 ≢ 3 → result.0 ≢ 4 → result.0 ≢ 6 → result.0 ≢ 8
+        → (result.0 ≡ 5) ↔ IsAtFault run text file)) }
+    ensures store { result.0 ≡ 6
+        → Rose (D.faults first.old) (D.faults first.new)
+        ⊎ Rose (D.faults second.old) (D.faults second.new) }
+    ensures in_memory { (run : RunOf) → IsRun (map string_bytes words.now.items) run
+        → run.journal ≡ None
+        → (result.0 ≢ 5) × (result.0 ≢ 6)
+        × (first.new ≡ first.old) × (second.new ≡ second.old) }
+    ensures exact { result.0 ≢ 2 → result.0 ≢ 3 → result.0 ≢ 4 → result.0 ≢ 5 → result.0 ≢ 6
+        → result.0 ≢ 7 → result.0 ≢ 8
         → IsStatusOf budget (S.source_state input.old).flow result.0 }
-    ensures complete { (from step : ℕ) (names : Option (List ℕ × List ℕ))
-        → IsRun (map string_bytes words.now.items) from step names
+    ensures complete { (run : RunOf) → IsRun (map string_bytes words.now.items) run
         → (Rose (X.texts_state texts.old).faults (X.texts_state texts.new).faults → ⊥)
+        → (Rose (D.faults first.old) (D.faults first.new) → ⊥)
+        → (Rose (D.faults second.old) (D.faults second.new) → ⊥)
         → (Rose (S.source_state input.old).faults (S.source_state input.new).faults → ⊥)
         → (Rose (K.sink_state output.old).faults (K.sink_state output.new).faults → ⊥)
         → IsAnswered result.0 }
@@ -65,21 +86,49 @@ pub fn office<X: Texts, S: Source, K: Sink, Q: Sink>(
         → Rose (S.source_state input.old).faults (S.source_state input.new).faults
         ⊎ Rose (K.sink_state output.old).faults (K.sink_state output.new).faults }
 {
+    ht_models::built_in_text_reads();
+    ht_people::built_in_text_reads();
+    the_journal_of_an_office_has_no_fault();
     match run_of(words) {
-        Some(words) => match open(alloc, words.texts, texts) {
-            Ok(tables) => {
-                let ending = serve(alloc, &words.run, tables, input, output);
-                complain(complaints, &line_of(ending));
-                status_of(ending)
-            }
-            Err(fault) => {
-                complain_of(complaints, words.texts, fault);
-                fault_status(fault)
-            }
-        },
+        Some(words) => run_office(
+            alloc, &words, texts, first, second, input, output, complaints,
+        ),
         None => {
             complain(complaints, USAGE_LINE);
             Status::USAGE
+        }
+    }
+}
+
+// What the words say: reads the texts, and runs their office.
+fn run_office<X: Texts, D: Disk, S: Source, K: Sink, Q: Sink>(
+    alloc: Global,
+    words: &Words<'_>,
+    texts: &mut X,
+    first: &mut D,
+    second: &mut D,
+    input: &mut S,
+    output: &mut K,
+    complaints: &mut Q,
+) -> Status
+    ensures office { RunsOffice D.Disk (run_told words.now) (disks first.old second.old)
+        (disks first.new second.new)
+        (outside_of X.Texts S.Source K.Sink Q.Sink texts.old input.old output.old complaints.old)
+        (outside_of X.Texts S.Source K.Sink Q.Sink texts.new input.new output.new complaints.new)
+        result.0 }
+    ensures unread { result.0 ≡ 3
+        → Rose (X.texts_state texts.old).faults (X.texts_state texts.new).faults }
+    ensures built_in { IfNone words.now.texts (texts.new ≡ texts.old) }
+{
+    match read_texts(alloc, words.texts, texts) {
+        Ok(read) => {
+            let end = run(alloc, words, &read, first, second, input, output);
+            complain(complaints, &line_of(end));
+            status_of(end)
+        }
+        Err(fault) => {
+            complain_of(complaints, words.texts, fault);
+            status_of_missing(fault)
         }
     }
 }
@@ -90,23 +139,23 @@ pub fn tell_no_memory<Q: Sink>(complaints: &mut Q) -> Status
     ensures line { Complains (Q.sink_state complaints.old) (Q.sink_state complaints.new)
         (codes "memory\n") }
 {
-    complain(complaints, &line_of(Ending::Memory));
+    complain(complaints, &line_of(Err(OpenFault::Memory)));
     Status::MEMORY
 }
 
-// Tells why there is no office, for texts of these names.
+// Tells why the texts of these names are missing.
 fn complain_of<Q: Sink>(complaints: &mut Q, named: Option<Named<'_>>, fault: TextsFault)
     ensures { Complains (Q.sink_state complaints.old) (Q.sink_state complaints.new)
-        (opening.fault_line (unwrap_or (option_map pair_of named.entry) ([], [])) fault) }
+        (spec.missing_line (unwrap_or (option_map pair_of named.entry) ([], [])) fault) }
 {
     match fault {
         TextsFault::Unread(which) => complain_unread(complaints, name_in(named, which)),
-        _ => complain(complaints, &fault_line(fault)),
+        _ => complain(complaints, &line_of_missing(fault)),
     }
 }
 
 fn name_in(named: Option<Named<'_>>, which: Which) -> &str
-    ensures { result.now ≡ opening.name_in which
+    ensures { result.now ≡ reading.name_in which
         (unwrap_or (option_map pair_of named.entry) ([], [])) }
 {
     match (named, which) {

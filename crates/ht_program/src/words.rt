@@ -1,58 +1,33 @@
 ghost use Rattle.std.specs.Prelude.{◌≡◌, ◌≤◌, ℕ, List, Option, Some, bytes_eq, codes, map, option_map, string_bytes, IfSome, IfNone};
 ghost use Rattle.std.specs.List.{list_any};
 ghost use Rattle.ht_base.specs.Moment.{last_moment};
+ghost use Rattle.ht_desk.specs.declared.limits.TheConstants.{GREATEST_LIMIT, LEAST_LIMIT};
+ghost use Rattle.ht_program.specs.Named.{pair_of, run_told};
 ghost use Rattle.ht_program.specs.Words as spec;
-ghost use Rattle.ht_program.specs.Words.{AreTexts, IsNumber, IsRun};
-ghost use Rattle.ht_program.specs.Named.{pair_of};
+ghost use Rattle.ht_program.specs.Words.{AreTexts, IsLimitOf, IsNumber, IsRun, RunOf};
 
+use crate::command::{Named, Run, Words};
 use crate::numbers::decimal_of;
-use ht_base::{LAST, Moment};
-use ht_outside::StepClock;
+use ht_base::LAST;
+use ht_desk::{GREATEST_LIMIT, LEAST_LIMIT};
 
-const OPTIONS: [&[u8]; 4] = [b"--from", b"--step", b"--models", b"--people"];
+const OPTIONS: [&[u8]; 6] = [
+    b"--from",
+    b"--step",
+    b"--models",
+    b"--people",
+    b"--journal",
+    b"--limit",
+];
 
-/// The moments of the requests: request number k, counted from 0, is at the moment
-/// `from + k * step`, in milliseconds since 1970-01-01T00:00:00Z.
-#[derive(Clone, Copy)]
-pub struct Run {
-    pub from: u64,
-    pub step: u64,
-    ghost small: { (from ≤ last_moment) × (step ≤ last_moment) },
-}
-
-impl Run {
-    /// The clock that gives these moments.
-    pub(crate) fn clock(&self) -> StepClock
-        ensures next { result.next.0 ≡ self.now.from }
-        ensures step { result.step ≡ self.now.step }
-    {
-        StepClock {
-            next: Moment(self.from),
-            step: self.step,
-        }
-    }
-}
-
-/// The names of the two texts of an office.
-#[derive(Clone, Copy)]
-pub struct Named<'a> {
-    pub models: &'a str,
-    pub people: &'a str,
-}
-
-/// What the words of the command `run` say. Without names the office is the built-in one.
-#[derive(Clone, Copy)]
-pub(crate) struct Words<'a> {
-    pub(crate) run: Run,
-    pub(crate) texts: Option<Named<'a>>,
-}
+/// The length that a journal in memory may have, in bytes, where no other is given.
+const LIMIT_IN_MEMORY: u64 = 67_108_864;
 
 /// Reads the words of the command line.
 pub(crate) fn run_of(words: &[String]) -> Option<Words<'_>>
-    ensures some { IfSome result (λ w.
-        IsRun (map string_bytes words.now) w.run.from w.run.step (option_map pair_of w.texts)) }
-    ensures none { IfNone result ((from step : ℕ) (texts : Option (List ℕ × List ℕ))
-        → IsRun (map string_bytes words.now) from step texts → ⊥) }
+    ensures some { IfSome result (λ w. IsRun (map string_bytes words.now) (run_told w)) }
+    ensures none { IfNone result
+        ((run : RunOf) → IsRun (map string_bytes words.now) run → ⊥) }
 {
     let Some((command, options)) = words.split_first() else {
         return None;
@@ -69,8 +44,17 @@ pub(crate) fn run_of(words: &[String]) -> Option<Words<'_>>
     let Some(texts) = texts_of(options) else {
         return None;
     };
+    let journal = value_of(options, "--journal");
+    let Some(limit) = limit_of(options, journal) else {
+        return None;
+    };
     let run = Run { from, step };
-    Some(Words { run, texts })
+    Some(Words {
+        run,
+        texts,
+        journal,
+        limit,
+    })
 }
 
 fn are_options(words: &[String]) -> bool
@@ -129,31 +113,50 @@ fn is_word(word: &String, text: &str) -> bool
     word.as_str() == text
 }
 
-// The number of an option, which must be there.
+// The moment or the pace of an option, which must be there: a number of 0 to the last moment.
 fn number_of(options: &[String], name: &str) -> Option<u64>
     ensures some { IfSome result (λ n.
         (word : List ℕ) × (spec.value_of name.now (map string_bytes options.now) ≡ Some word)
-        × IsNumber word n) }
+        × IsNumber 0 last_moment word n) }
     ensures none { IfNone result ((word : List ℕ) (n : ℕ)
-        → spec.value_of name.now (map string_bytes options.now) ≡ Some word → IsNumber word n → ⊥) }
+        → spec.value_of name.now (map string_bytes options.now) ≡ Some word
+        → IsNumber 0 last_moment word n → ⊥) }
 {
     match value_of(options, name) {
-        Some(word) => number(word),
+        Some(word) => number(word, 0, LAST),
         None => None,
     }
 }
 
-// A number of 0 to the last moment, without leading zeros.
-fn number(word: &str) -> Option<u64>
-    ensures some { IfSome result (IsNumber word.now) }
-    ensures none { IfNone result ((n : ℕ) → IsNumber word.now n → ⊥) }
+// The length that the journal may have, which has another default in memory than in a file.
+fn limit_of(options: &[String], journal: Option<&str>) -> Option<u64>
+    ensures some { IfSome result (IsLimitOf (option_map (λ s. s.now) journal.entry)
+        (spec.value_of (codes "--limit") (map string_bytes options.now))) }
+    ensures bounded { IfSome result (λ n. (LEAST_LIMIT ≤ n) × (n ≤ GREATEST_LIMIT)) }
+    ensures none { IfNone result ((n : ℕ) → IsLimitOf (option_map (λ s. s.now) journal.entry)
+        (spec.value_of (codes "--limit") (map string_bytes options.now)) n → ⊥) }
+{
+    match (value_of(options, "--limit"), journal) {
+        (Some(word), _) => number(word, LEAST_LIMIT, GREATEST_LIMIT),
+        (None, Some(_)) => Some(GREATEST_LIMIT),
+        (None, None) => Some(LIMIT_IN_MEMORY),
+    }
+}
+
+// A number of these bounds, without leading zeros.
+fn number(word: &str, least: u64, most: u64) -> Option<u64>
+    ensures some { IfSome result (IsNumber least most word.now) }
+    ensures none { IfNone result ((n : ℕ) → IsNumber least most word.now n → ⊥) }
 {
     match decimal_of(word) {
         Some(n) => {
-            if n <= LAST {
-                return Some(n);
+            if n < least {
+                return None;
             }
-            None
+            if most < n {
+                return None;
+            }
+            Some(n)
         }
         None => None,
     }

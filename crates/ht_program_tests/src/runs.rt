@@ -1,5 +1,5 @@
 use ht_base::{Bytes, Txt};
-use ht_outside::{MemorySink, MemorySource, MemoryTexts};
+use ht_outside::{MemoryDisk, MemorySink, MemorySource, MemoryTexts};
 use ht_program::{Status, office, tell_no_memory};
 use ht_samples::{MODELS, PEOPLE};
 use std::alloc::Global;
@@ -30,7 +30,7 @@ pub(crate) struct Office<'a> {
     pub failing: &'a [u32],
 }
 
-const NO_TEXTS: Office = Office {
+pub(crate) const NO_TEXTS: Office = Office {
     texts: &[],
     failing: &[],
 };
@@ -45,7 +45,7 @@ fn texts_of(alloc: Global, office_texts: &Office<'_>) -> Result<MemoryTexts, Fai
     Ok(MemoryTexts::make(alloc, named, failing)?)
 }
 
-fn source_of(alloc: Global, input: &str, failing: &[u32]) -> Result<MemorySource, Fail> {
+pub(crate) fn source_of(alloc: Global, input: &str, failing: &[u32]) -> Result<MemorySource, Fail> {
     let bytes = Bytes::of(alloc, input.as_bytes())?;
     Ok(MemorySource::make(alloc, bytes, Vec::from_slice(alloc, failing)?)?)
 }
@@ -58,15 +58,46 @@ pub(crate) fn run_office(
     reads: &[u32],
     writes: &[u32],
 ) -> Result<Ran, Fail> {
+    let mut first = disk_of(alloc, &[])?;
+    let mut second = disk_of(alloc, &[])?;
+    let source = source_of(alloc, input, reads)?;
+    run_on(
+        alloc,
+        line,
+        office_texts,
+        &mut first,
+        &mut second,
+        source,
+        writes,
+    )
+}
+
+// An empty disk, of whose calls these fail.
+pub(crate) fn disk_of(alloc: Global, failing: &[u32]) -> Result<MemoryDisk, Fail> {
+    let failing = Vec::from_slice(alloc, failing)?;
+    Ok(MemoryDisk::make(alloc, Bytes::of(alloc, &[])?, failing)?)
+}
+
+// The same on these disks.
+pub(crate) fn run_on(
+    alloc: Global,
+    line: &str,
+    office_texts: &Office<'_>,
+    first: &mut MemoryDisk,
+    second: &mut MemoryDisk,
+    mut source: MemorySource,
+    writes: &[u32],
+) -> Result<Ran, Fail> {
     let words = words(alloc, line)?;
     let mut texts = texts_of(alloc, office_texts)?;
-    let mut source = source_of(alloc, input, reads)?;
     let mut output = MemorySink::make(alloc, Vec::from_slice(alloc, writes)?)?;
     let mut complaints = MemorySink::make(alloc, Vec::new(alloc))?;
     let status = office(
         alloc,
         &words,
         &mut texts,
+        first,
+        second,
         &mut source,
         &mut output,
         &mut complaints,
@@ -101,11 +132,11 @@ pub(crate) fn reply(alloc: Global, line: &str, text: &str, close: bool) -> Resul
     Ok(format!(in alloc; "{head}content-length: {length}\r\n{closing}\r\n{text}")?)
 }
 
-const CREATE: &str = "POST /tasks HTTP/1.1\r\nHost: a\r\nx-person: p3\r\n\r\n";
+pub(crate) const CREATE: &str = "POST /tasks HTTP/1.1\r\nHost: a\r\nx-person: p3\r\n\r\n";
 
-const CLAIM: &str = "POST /tasks/1/claim HTTP/1.1\r\nHost: a\r\nx-person: p0\r\n\r\n";
+pub(crate) const CLAIM: &str = "POST /tasks/1/claim HTTP/1.1\r\nHost: a\r\nx-person: p0\r\n\r\n";
 
-const GET: &str = "GET /tasks/1 HTTP/1.1\r\nHost: a\r\nx-person: p5\r\n\r\n";
+pub(crate) const GET: &str = "GET /tasks/1 HTTP/1.1\r\nHost: a\r\nx-person: p5\r\n\r\n";
 
 #[test]
 fn a_task_is_created_claimed_and_shown(rt: HostRuntime) -> Result<(), Fail> {
@@ -180,7 +211,10 @@ run --from 0 --step 00
 run --from 0 --step +1
 run --from 0 --step 253402300800000
 run --from=0 --step=0
-run --from 0 --step 0 --limit 1048576
+run --from 0 --step 0 --limit 1048575
+run --from 0 --step 0 --journal -j
+run --from 0 --step 0 --journal a --journal b
+run --from 0 --step 0 --port 80
 serve --from 0 --step 0";
 
 #[test]

@@ -1,10 +1,16 @@
-use Rattle.ht_machine.specs.History.{IsStep}
-use Rattle.ht_serve.proofs.PublicLaws.{served_for}
-use Rattle.ht_program.proofs.Folded.{ran}
-use Rattle.ht_program.proofs.Stepping.{steps_seen}
+use Rattle.std.proofs.Common.{sym, subst}
+use Rattle.ht_outside.specs.Clocks.{moment_of}
+use Rattle.ht_program.specs.Inputs.{budget}
+use Rattle.ht_program.specs.Running.{RanOver, streams}
+use Rattle.ht_program.proofs.Worked.{ran_over, same_disk, through}
 use Rattle.ht_program.proofs.connection.serve.Goals as goal
 
 pub returns : goal.returns
 returns g c =
-    ran _ _ _ _ _ _ _ _
-    (served_for _ _ _ _ _ _ _ _ _ _ (λ calls made. steps_seen (λ m. m.tables.tables) IsStep _ _ calls made) (rw (c.clock-clock.ensures.next, c.clock-clock.ensures.step) at c.serve_lent.ensures))
+    let served = c.serve_lent-ending.ensures in
+    let named = same_disk g.D.Disk (λ m. m.disk.now) (λ m. m.state) (λ m. m.disk.ghost_name) _ _ _ served.serves.made in
+    let before = streams (g.S.Source.source_state c.args.input.now) (g.K.Sink.sink_state c.args.output.now) in
+    let after = streams (g.S.Source.source_state c.serve_lent-ending.new.input) (g.K.Sink.sink_state c.serve_lent-ending.new.output) in
+    through (λ d. RanOver g.D.Disk (moment_of c.args.run.now.from c.args.run.now.step) budget c.args.desk c.args.disk.now d before after c.serve_lent-ending.result) _ c.disk-1.given (sym named)
+    (subst (λ d. RanOver g.D.Disk (moment_of c.args.run.now.from c.args.run.now.step) budget c.args.desk c.args.disk.now d before after c.serve_lent-ending.result) (sym c.close.ensures.disk)
+    (ran_over g.D.Disk (λ m. m.disk.now) (λ m. m.state) (λ m. m.disk.ghost_name) _ _ _ _ before after _ _ (rw (c.clock-clock.ensures.next, c.clock-clock.ensures.step) at served)))

@@ -1,82 +1,57 @@
-use Rattle.std.proofs.Common.{◌≡◌, ℕ, List, Option, Some, None, Ok, Err, String, Global, map, option_map, ap, sym, subst, refl, inr}
-use Rattle.ht_program.specs.Named.{pair_of}
-use Rattle.ht_program.specs.Opening.{Opens}
-use Rattle.ht_program.specs.Words.{IsRun}
-use Rattle.ht_program.proofs.InputStatus.{status_of_input}
+use Rattle.std.proofs.Common.{◌≡◌, ◌∙◌, List, String, Global, map, ap, sym, subst, refl}
+use Rattle.ht_program.specs.Named.{run_told}
+use Rattle.ht_program.specs.Words.{IsRun, RunOf}
 use Rattle.ht_program.proofs.Options.{bytes_of}
-use Rattle.ht_program.proofs.Statuses.{answered, broke, built_in_fault, failed_right, fault_answered, no_names, same_names, served_right}
+use Rattle.ht_program.proofs.Said.{no_names, one_reading}
+use Rattle.ht_program.proofs.Statuses.{answered, broke, exact, in_memory, not_two, store}
+use Rattle.ht_program.proofs.TextStatuses.{as_said, built_in, journal, wrong}
 use Rattle.ht_program.proofs.top_call.office.Goals as goal
 
--- ---- the office was opened, and its connection served
+abbrev IsSaid : RunOf → List (String Global) → Type 0
+IsSaid run ws = IsRun (map bytes_of ws) run
 
-pub returns-in-Ok-clause-usage : goal.returns-in-Ok-clause-usage
-returns-in-Ok-clause-usage g c =
-    let said = c.in-Some.words in
-    let P : List (String Global) → Type 0 = λ ws. IsRun (map bytes_of ws) said.run.from said.run.step (option_map pair_of said.texts) in
-    ((λ two. absurd (c.status_of.ensures.served.0 two)), (λ none. absurd (none said.run.from said.run.step (option_map pair_of said.texts) (subst P c.deref.ensures.value c.in-Some.ensures.some))))
+-- what other words are read as is the same
+same : (words read : List (String Global)) (said run : RunOf) → words ≡ read → IsSaid said words → IsSaid run read → said ≡ run
+same words read said run is own other = one_reading (map bytes_of read) said run (subst (IsSaid said) is own) other
 
-pub returns-in-Ok-clause-wrong : goal.returns-in-Ok-clause-wrong
-returns-in-Ok-clause-wrong g c = λ from step names is.
-    let told = (g.X.Texts.texts_state c.args.texts.now).texts in
-    let O : Option (List ℕ × List ℕ) → Type 0 = λ n. Opens n told (Ok c.in-Ok.tables) in
-    served_right told names c.in-Ok.tables c.status_of.result.0 (subst O (same_names _ _ c.in-Some.words _ _ _ c.deref.ensures.value c.in-Some.ensures.some is) c.in-Ok.ensures.opens) c.status_of.ensures.served.2
+-- ---- the office was run
 
-pub returns-in-Ok-clause-built_in : goal.returns-in-Ok-clause-built_in
-returns-in-Ok-clause-built_in g c = λ from step is.
-    (c.status_of.ensures.served.1, c.status_of.ensures.served.2, no_names c.in-Some.words.texts _ (same_names _ _ c.in-Some.words _ _ _ c.deref.ensures.value c.in-Some.ensures.some is) c.open.ensures.built_in)
+pub returns-in-Some-clause-usage : goal.returns-in-Some-clause-usage
+returns-in-Some-clause-usage g c = ((λ two. absurd (not_two g.D.Disk _ _ _ _ _ _ c.run_office.ensures.office two)), (λ none. absurd (none (run_told c.in-Some.words) (subst (IsSaid (run_told c.in-Some.words)) c.deref.ensures.value c.in-Some.ensures.some))))
 
-pub returns-in-Ok-clause-exact : goal.returns-in-Ok-clause-exact
-returns-in-Ok-clause-exact g c = λ two three four seven eight. status_of_input _ _ _ _ _ _ _ c.serve-ending.ensures c.status_of.ensures.value seven eight
+pub returns-in-Some-clause-refused : goal.returns-in-Some-clause-refused
+returns-in-Some-clause-refused g c = λ two. absurd (not_two g.D.Disk _ _ _ _ _ _ c.run_office.ensures.office two)
 
-pub returns-in-Ok-clause-complete : goal.returns-in-Ok-clause-complete
-returns-in-Ok-clause-complete g c = λ from step names is texts reads writes. answered _ _ _ _ _ c.serve-ending.result c.status_of.result.0 c.status_of.ensures.value c.serve-ending.ensures reads writes
+pub returns-in-Some-clause-run : goal.returns-in-Some-clause-run
+returns-in-Some-clause-run g c = λ not_two. (run_told c.in-Some.words, subst (IsSaid (run_told c.in-Some.words)) c.deref.ensures.value c.in-Some.ensures.some, c.run_office.ensures.office)
 
-pub returns-in-Ok-clause-pipe : goal.returns-in-Ok-clause-pipe
-returns-in-Ok-clause-pipe g c = λ seven. broke _ _ _ _ _ c.serve-ending.result c.status_of.result.0 c.status_of.ensures.value c.serve-ending.ensures seven
+pub returns-in-Some-clause-wrong : goal.returns-in-Some-clause-wrong
+returns-in-Some-clause-wrong g c = λ run names is named. wrong g.D.Disk run _ _ _ _ _ names named (as_said g.D.Disk _ run _ _ _ _ _ (same _ _ _ run c.deref.ensures.value c.in-Some.ensures.some is) c.run_office.ensures.office)
 
--- ---- the office was not opened
+pub returns-in-Some-clause-built_in : goal.returns-in-Some-clause-built_in
+returns-in-Some-clause-built_in g c = λ run is none.
+    let told = built_in g.D.Disk run _ _ _ _ _ c.built_in_text_reads.ensures.answered c.built_in_text_reads-2.ensures.answered none (as_said g.D.Disk _ run _ _ _ _ _ (same _ _ _ run c.deref.ensures.value c.in-Some.ensures.some is) c.run_office.ensures.office) in
+    (told.0, told.1, no_names c.in-Some.words.texts _ (ap (λ (r : RunOf). r.texts) (same _ _ _ run c.deref.ensures.value c.in-Some.ensures.some is) ∙ none) c.run_office.ensures.built_in)
 
-pub returns-in-Err-clause-usage : goal.returns-in-Err-clause-usage
-returns-in-Err-clause-usage g c =
-    let said = c.in-Some.words in
-    let P : List (String Global) → Type 0 = λ ws. IsRun (map bytes_of ws) said.run.from said.run.step (option_map pair_of said.texts) in
-    ((λ two. absurd (c.fault_status.ensures.opening two)), (λ none. absurd (none said.run.from said.run.step (option_map pair_of said.texts) (subst P c.deref.ensures.value c.in-Some.ensures.some))))
+pub returns-in-Some-clause-journal : goal.returns-in-Some-clause-journal
+returns-in-Some-clause-journal g c = λ run is. journal g.D.Disk run _ _ _ _ _ c.the_journal_of_an_office_has_no_fault.ensures (as_said g.D.Disk _ run _ _ _ _ _ (same _ _ _ run c.deref.ensures.value c.in-Some.ensures.some is) c.run_office.ensures.office)
 
-pub returns-in-Err-clause-run : goal.returns-in-Err-clause-run
-returns-in-Err-clause-run g c = λ not_two.
-    let said = c.in-Some.words in
-    let P : List (String Global) → Type 0 = λ ws. IsRun (map bytes_of ws) said.run.from said.run.step (option_map pair_of said.texts) in (
-      said.run.from,
-      said.run.step,
-      option_map pair_of said.texts,
-      subst P c.deref.ensures.value c.in-Some.ensures.some,
-      inr (record {
-        why = c.in-Err.fault;
-        opens = c.in-Err.ensures.opens;
-        asks = c.in-Err.ensures.asks;
-        status_is = c.fault_status.ensures.value;
-        untouched = refl;
-        complains = c.complain_of.ensures;
-      }),
-    )
+pub returns-in-Some-clause-store : goal.returns-in-Some-clause-store
+returns-in-Some-clause-store g c = λ six. (store g.D.Disk _ _ _ _ _ _ c.run_office.ensures.office six).1
 
-pub returns-in-Err-clause-wrong : goal.returns-in-Err-clause-wrong
-returns-in-Err-clause-wrong g c = λ from step names is.
-    let told = (g.X.Texts.texts_state c.args.texts.now).texts in
-    let O : Option (List ℕ × List ℕ) → Type 0 = λ n. Opens n told (Err c.in-Err.fault) in
-    failed_right told names c.in-Err.fault c.fault_status.result.0 (subst O (same_names _ _ c.in-Some.words _ _ _ c.deref.ensures.value c.in-Some.ensures.some is) c.in-Err.ensures.opens) c.fault_status.ensures.value
+pub returns-in-Some-clause-in_memory : goal.returns-in-Some-clause-in_memory
+returns-in-Some-clause-in_memory g c = λ run is none.
+    let told = in_memory g.D.Disk run _ _ _ _ _ (as_said g.D.Disk _ run _ _ _ _ _ (same _ _ _ run c.deref.ensures.value c.in-Some.ensures.some is) c.run_office.ensures.office) none in
+    (told.0, told.1, ap (λ d. d.first) told.2, ap (λ d. d.second) told.2)
 
-pub returns-in-Err-clause-built_in : goal.returns-in-Err-clause-built_in
-returns-in-Err-clause-built_in g c = λ from step is.
-    let told = (g.X.Texts.texts_state c.args.texts.now).texts in
-    let none : option_map pair_of c.in-Some.words.texts ≡ None = same_names _ _ c.in-Some.words _ _ _ c.deref.ensures.value c.in-Some.ensures.some is in
-    let O : Option (List ℕ × List ℕ) → Type 0 = λ n. Opens n told (Err c.in-Err.fault) in
-    let right = built_in_fault told c.in-Err.fault c.fault_status.result.0 (subst O none c.in-Err.ensures.opens) c.fault_status.ensures.value in
-    (right.0, right.1, no_names c.in-Some.words.texts _ none c.open.ensures.built_in)
+pub returns-in-Some-clause-exact : goal.returns-in-Some-clause-exact
+returns-in-Some-clause-exact g c = λ two three four five six seven eight. exact g.D.Disk _ _ _ _ _ _ c.run_office.ensures.office three four five six seven eight
 
-pub returns-in-Err-clause-complete : goal.returns-in-Err-clause-complete
-returns-in-Err-clause-complete g c = λ from step names is texts reads writes.
-    fault_answered _ _ c.in-Err.fault c.fault_status.result.0 c.fault_status.ensures.value (λ w e. c.in-Err.ensures.cause.failed (w, ap Err e)) texts
+pub returns-in-Some-clause-complete : goal.returns-in-Some-clause-complete
+returns-in-Some-clause-complete g c = λ run is texts first second reads writes. answered g.D.Disk _ _ _ _ _ _ c.run_office.ensures.office (λ three. texts (c.run_office.ensures.unread three)) first second reads writes
+
+pub returns-in-Some-clause-pipe : goal.returns-in-Some-clause-pipe
+returns-in-Some-clause-pipe g c = λ seven. broke g.D.Disk _ _ _ _ _ _ c.run_office.ensures.office seven
 
 -- ---- wrong words
 
@@ -84,11 +59,10 @@ pub returns-in-None-clause-usage : goal.returns-in-None-clause-usage
 returns-in-None-clause-usage g c = ((λ is. rw (← c.deref.ensures.value) c.in-None.ensures.none), (λ none. refl))
 
 pub returns-in-None-clause-wrong : goal.returns-in-None-clause-wrong
-returns-in-None-clause-wrong g c = λ from step names is.
-    let P : List (String Global) → Type 0 = λ ws. IsRun (map bytes_of ws) from step (Some names) in
-    absurd (c.in-None.ensures.none from step (Some names) (subst P (sym c.deref.ensures.value) is))
+returns-in-None-clause-wrong g c = λ run names is named. absurd (c.in-None.ensures.none run (subst (IsSaid run) (sym c.deref.ensures.value) is))
+
+pub returns-in-None-clause-journal : goal.returns-in-None-clause-journal
+returns-in-None-clause-journal g c = λ run is. absurd (c.in-None.ensures.none run (subst (IsSaid run) (sym c.deref.ensures.value) is))
 
 pub returns-in-None-clause-complete : goal.returns-in-None-clause-complete
-returns-in-None-clause-complete g c = λ from step names is texts reads writes.
-    let P : List (String Global) → Type 0 = λ ws. IsRun (map bytes_of ws) from step names in
-    absurd (c.in-None.ensures.none from step names (subst P (sym c.deref.ensures.value) is))
+returns-in-None-clause-complete g c = λ run is texts first second reads writes. absurd (c.in-None.ensures.none run (subst (IsSaid run) (sym c.deref.ensures.value) is))

@@ -1,11 +1,22 @@
-use Rattle.std.proofs.Common.{arith, sym, ◌∙◌, ◌≡◌, ◌<◌, ◌^◌}
+use Rattle.std.proofs.Common.{ℕ, arith, sym, ◌∙◌, ◌≡◌, ◌<◌, ◌^◌, List, decimal}
+use Rattle.ht_program.specs.Words.{IsNumber}
 use Rattle.ht_program.proofs.Grammar.{same_number}
 use Rattle.ht_program.proofs.words.number.Goals as goal
 
-pub returns-else-n-le-LAST-clause-none : goal.returns-else-n-le-LAST-clause-none
-returns-else-n-le-LAST-clause-none c = λ m is.
+-- the word is no other number than the one that was read
+the_same : (least most n m : ℕ) (word : List ℕ) → most < 2 ^ 64 → n < 2 ^ 64 → word ≡ decimal n → IsNumber least most word m → n ≡ m
+the_same least most n m word bound small read is = same_number n m small (let high = is.small in omega (arith, high, bound)) (sym read ∙ is.spelled)
+
+pub returns-then-n-least-clause-none : goal.returns-then-n-least-clause-none
+returns-then-n-least-clause-none c = λ m is.
+    let same = the_same _ _ c.in-Some.n m c.args.word.now (c.ranges.most).fits c.in-Some.ensures.some.0 c.in-Some.ensures.some.1 is in
+    let great = is.great in
+    let below = c.if-n-least.true in
+    omega (arith, same, great, below)
+
+pub returns-then-most-n-clause-none : goal.returns-then-most-n-clause-none
+returns-then-most-n-clause-none c = λ m is.
+    let same = the_same _ _ c.in-Some.n m c.args.word.now (c.ranges.most).fits c.in-Some.ensures.some.0 c.in-Some.ensures.some.1 is in
     let small = is.small in
-    let fits : m < 2 ^ 64 = omega arith in
-    let same : c.in-Some.n ≡ m = same_number c.in-Some.n m c.in-Some.ensures.some.0 fits (sym c.in-Some.ensures.some.1 ∙ is.spelled) in
-    let over = c.if-n-le-LAST.false in
-    omega arith
+    let over = c.if-most-n.true in
+    omega (arith, same, small, over)

@@ -1,5 +1,5 @@
 use Rattle.ht_program.proofs.Opened.{no_memory, read_failed, read_long}
-use Rattle.ht_program.proofs.opening.text_of.Goals as goal
+use Rattle.ht_program.proofs.reading.text_of.Goals as goal
 
 pub returns-in-Err-Failed-clause-text : goal.returns-in-Err-Failed-clause-text
 returns-in-Err-Failed-clause-text g c = read_failed c.args.which _ _
