@@ -12,4 +12,5 @@ mod PeriodCuts
 mod PeriodTexts
 mod Putting
 pub mod PublicLaws
+pub mod Readings
 mod Spelling

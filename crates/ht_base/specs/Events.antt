@@ -1,5 +1,5 @@
 -- Commands and events: which operation a command asks for, and which events are valid.
-use Rattle.std.specs.Prelude.{◌≡◌, ◌≤◌, ◌==◌, ℕ, nat_le, nat_lt, ◌+◌, Bool, true, List, length, IfSome, IsTrue}
+use Rattle.std.specs.Prelude.{◌≡◌, ◌≤◌, ◌==◌, ℕ, nat_le, nat_lt, ◌+◌, Bool, true, false, List, length, IfSome, IsTrue}
 use Rattle.std.specs.List.{list_all}
 use Rattle.ht_base.specs.declared.event.Command.{Command}
 use Rattle.ht_base.specs.declared.event.Command.TheVariants.{Create, Claim, Start, Stop, Release, Delegate, Forward, Nominate, Activate, SetRole, SetPriority, Suspend, SuspendUntil, Resume, SetOutput, Complete, Fail, Skip, Exit, Error, AddComment, InstantiateSubTask}
@@ -7,11 +7,14 @@ use Rattle.ht_base.specs.declared.end.End.{End}
 use Rattle.ht_base.specs.declared.end.End.TheVariants.{After, At}
 use Rattle.ht_base.specs.declared.event.Event.{Event}
 use Rattle.ht_base.specs.declared.event.Event.TheVariants.{Ask, Read, Turn}
-use Rattle.ht_base.specs.declared.event.Query.TheVariants as query
-use Rattle.ht_base.specs.declared.limits.TheConstants.{LAST_DEVICE, LONGEST_PERIOD, LONGEST_TEXT, LOWEST_PRIORITY, MOST_NAMES, MOST_PARTS}
+use Rattle.ht_base.specs.declared.limits.TheConstants.{LAST_DEVICE, LONGEST_PERIOD, LONGEST_TEXT, LOWEST_PRIORITY, MOST_LISTED, MOST_NAMES, MOST_PARTS}
 use Rattle.ht_base.specs.declared.operation.Op.{Op}
 use Rattle.ht_base.specs.declared.operation.Op.TheVariants as op
+use Rattle.ht_base.specs.declared.query.Query.{Query}
+use Rattle.ht_base.specs.declared.query.Query.TheVariants as query
 use Rattle.ht_base.specs.declared.retry.Retry.{Retry}
+use Rattle.ht_base.specs.declared.role.Role.{Role}
+use Rattle.ht_base.specs.declared.role.Role.TheVariants as role
 use Rattle.ht_base.specs.declared.scalar.Scalar.{Scalar}
 use Rattle.ht_base.specs.declared.scalar.Scalar.TheVariants as scalar
 use Rattle.ht_base.specs.declared.task_id.TaskId.{TaskId}
@@ -88,9 +91,22 @@ IsCommand _ = Unit {0}
 abbrev pub IsRetry : Retry → Type 0
 IsRetry r = (r.device ≤ LAST_DEVICE) × (1 ≤ r.number)
 
+-- lists go by the roles that a person has in a task
+abbrev pub is_of_task : Role → Bool
+is_of_task role.Operator = false
+is_of_task _ = true
+
+abbrev pub AreCounted : ℕ → Type 0
+AreCounted count = (1 ≤ count) × (count ≤ MOST_LISTED)
+
+abbrev pub IsQuery : Query → Type 0
+IsQuery (query.Sheet task) = 1 ≤ task.0
+IsQuery (query.Tasks role which from count) = IfSome role (λ r. IsTrue (is_of_task r)) × AreCounted count
+IsQuery (query.Notices from count) = AreCounted count
+
 -- Its moment is at most the last there is, its number is one of a device, just a create names no task,
 -- and what it gives is in its limits.
 abbrev pub IsValid : Event → Type 0
 IsValid (Turn at) = at.0 ≤ last_moment
 IsValid (Ask at caller retry task command) = (at.0 ≤ last_moment) × IfSome retry IsRetry × IsTaskOf command task × IsCommand command
-IsValid (Read caller (query.Sheet task)) = 1 ≤ task.0
+IsValid (Read caller asked) = IsQuery asked

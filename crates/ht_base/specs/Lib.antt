@@ -13,6 +13,7 @@ pub mod Ordered
 pub mod Periods
 pub mod Persons
 pub mod Places
+pub mod Readings
 pub mod Records
 pub mod Role
 pub mod State

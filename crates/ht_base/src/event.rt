@@ -1,7 +1,7 @@
 ghost use Rattle.std.specs.Prelude.{◌≡◌, IfOk};
 ghost use Rattle.ht_base.specs.Events.{op_of};
 
-use crate::{End, Memory, Moment, Name, Names, Op, Parts, Retry, RoleList, TaskId, Txt};
+use crate::{End, Memory, Moment, Name, Names, Op, Parts, Query, Retry, RoleList, TaskId, Txt};
 use std::alloc::Global;
 
 /// What a command does (WS-HumanTask 1.1, 7.1.1 "Participant operations").
@@ -163,13 +163,6 @@ impl Command {
             Command::InstantiateSubTask { sub } => Command::InstantiateSubTask { sub: *sub },
         })
     }
-}
-
-/// What is asked of the tables.
-#[derive(Clone, Copy)]
-pub enum Query {
-    /// The sheet of a task.
-    Sheet(TaskId),
 }
 
 /// One thing that happens to the task machine.

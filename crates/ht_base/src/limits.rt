@@ -27,6 +27,9 @@ pub const MOST_COMMENTS: usize = 32;
 /// The names in a list of persons that a request gives, at most.
 pub const MOST_NAMES: usize = 1024;
 
+/// The rows that a list tells at once, at most.
+pub const MOST_LISTED: u32 = 100;
+
 /// The decimal digits of a number in a period, at most.
 pub const MOST_DIGITS: usize = 6;
 

@@ -1,4 +1,4 @@
-use crate::{BoxedSheet, Name, Roles, State, StateSet, TaskId};
+use crate::{BoxedSheet, Name, NoticePage, Page, Roles, State, StateSet, TaskId};
 
 /// The limit that a command would pass.
 #[derive(Clone, Copy, Debug)]
@@ -93,6 +93,8 @@ pub enum Answer {
     /// What was due is done.
     Turned,
     Sheet(BoxedSheet),
+    Page(Page),
+    Notices(NoticePage),
     Refused(Refusal),
 }
 

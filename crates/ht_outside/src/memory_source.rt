@@ -35,7 +35,12 @@ impl MemorySource {
     /// A source of these bytes. `failing` has the numbers, counted from 1, of the reads that fail.
     pub fn make(_alloc: Global, bytes: Bytes, failing: Vec<u32>) -> Result<MemorySource, Memory>
         ensures { IfOk result (λ s.
-            s ≡ record { flow = record { left = bytes.items; taken = []; before = [] }; failing = failing.items; calls = 0; faults = 0 }) }
+            s ≡ record {
+              flow = record { left = bytes.items; taken = []; before = [] };
+              failing = failing.items;
+              calls = 0;
+              faults = 0;
+            }) }
     {
         Ok(MemorySource {
             bytes,

@@ -39,7 +39,13 @@ impl MemoryTexts {
         failing: Vec<u32>,
     ) -> Result<MemoryTexts, Memory>
         ensures { IfOk result (λ t.
-            t ≡ record { texts = texts.items; asked = []; failing = failing.items; calls = 0; faults = 0 }) }
+            t ≡ record {
+              texts = texts.items;
+              asked = [];
+              failing = failing.items;
+              calls = 0;
+              faults = 0;
+            }) }
     {
         Ok(MemoryTexts {
             texts,
