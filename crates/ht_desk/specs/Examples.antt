@@ -2,7 +2,7 @@
 use Rattle.std.specs.Prelude.{◌≡◌, ℕ, ◌+◌, List, [], ◌∷◌, ◌++◌, None, Some, true, false, refl}
 use Rattle.ht_base.specs.declared.event.Command.{Command}
 use Rattle.ht_base.specs.declared.event.Event.TheVariants.{Ask, Read, Turn}
-use Rattle.ht_base.specs.declared.event.Query.{Query}
+use Rattle.ht_base.specs.declared.query.Query.{Query}
 use Rattle.ht_base.specs.Records.{RecordOf}
 use Rattle.ht_base.specs.Records.RecordOf.{an_opening, a_turn, an_asking}
 use Rattle.ht_codec.specs.declared.refusal.CodecRefusal.TheVariants.{Short, Tag}

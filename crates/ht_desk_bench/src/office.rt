@@ -2,9 +2,11 @@ ghost use Rattle.std.specs.Prelude.{IfSome};
 ghost use Rattle.ht_base.specs.Events.{IsValid};
 ghost use Rattle.ht_desk.specs.Stepping.{Stands};
 
-use ht_base::{Answer, Bytes, Command, Event, LONGEST_OFFICE_TEXT, Moment, Name, Parts, TaskId};
+use ht_base::{
+    Answer, Bytes, Command, Event, LONGEST_OFFICE_TEXT, Moment, Name, Parts, Reply, TaskId,
+};
 use ht_desk::{DeskState, GREATEST_LIMIT, open};
-use ht_machine::run_one;
+use ht_machine::{decide, last_behind};
 use ht_models::Models;
 use ht_outside::{Disk, MemoryDisk, RoomDisk};
 use ht_people::Directory;
@@ -97,14 +99,23 @@ fn in_memory(alloc: Global, creates: u32, claims: u32) -> Option<u64> {
     let mut tables = Tables::new(alloc, models, people).ok()?;
     let mut count: u64 = 0;
     for _ in 0..creates {
-        let reply = run_one(alloc, &mut tables, &create(alloc)?).ok()?;
+        let reply = step_in_memory(alloc, &mut tables, &create(alloc)?)?;
         count = count.saturating_add(is_done(&reply.answer));
     }
     for place in 0..claims {
-        let reply = run_one(alloc, &mut tables, &claim(place)?).ok()?;
+        let reply = step_in_memory(alloc, &mut tables, &claim(place)?)?;
         count = count.saturating_add(is_done(&reply.answer));
     }
     Some(count)
+}
+
+fn step_in_memory(alloc: Global, tables: &mut Tables, event: &Event) -> Option<Reply>
+    requires { IsValid event.now }
+{
+    let decision = decide(alloc, tables, event).ok()?;
+    let last = last_behind(&decision.left, tables);
+    tables.commit(decision.plan, last);
+    Some(decision.reply)
 }
 
 fn is_done(answer: &Answer) -> u64 {

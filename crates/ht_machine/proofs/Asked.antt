@@ -31,10 +31,6 @@ use Rattle.ht_tree.proofs.PublicLaws.{keeping_fits, keeping_planned, slot_sound,
 pub stays : (t : TablesOf) (p : PlanOf) → IsPlanOf t p → IsSound (planned t p) → Makes t p None (planned t p)
 stays t p fit sound = record { fits = fit; makes = refl; sound = sound; later = omega arith; within = sound.last_within }
 
-pub none_found : {A : Type 0} (o : Option A) → ((x : A) → o ≡ Some x → ⊥) → o ≡ None
-none_found None other = refl
-none_found (Some x) other = absurd (other x refl)
-
 -- ---- the reply that is kept
 
 -- a command on a task names it: it is about that task, or about a new one behind it

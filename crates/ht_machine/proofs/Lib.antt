@@ -2,7 +2,6 @@ mod Asked
 mod BehindTurn
 mod Coming
 mod Commanded
-mod CommentsShown
 mod Coursing
 mod Created
 mod EffectsInOrder
@@ -16,7 +15,6 @@ mod MadeByHand
 mod OldAndNew
 mod OneOutcome
 mod OneTurn
-mod PartsShown
 pub mod PublicLaws
 mod Refusing
 mod RefusingItself

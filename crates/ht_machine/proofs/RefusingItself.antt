@@ -6,8 +6,8 @@ use Rattle.ht_base.specs.declared.event.Command.{Command}
 use Rattle.ht_base.specs.declared.event.Command.TheVariants as command
 use Rattle.ht_base.specs.declared.event.Event.{Event}
 use Rattle.ht_base.specs.declared.event.Event.TheVariants.{Ask, Read, Turn}
-use Rattle.ht_base.specs.declared.event.Query.{Query}
-use Rattle.ht_base.specs.declared.event.Query.TheVariants as query
+use Rattle.ht_base.specs.declared.query.Query.{Query}
+use Rattle.ht_base.specs.declared.query.Query.TheVariants as query
 use Rattle.ht_base.specs.declared.moment.Moment.{Moment}
 use Rattle.ht_base.specs.declared.operation.Op.{Op}
 use Rattle.ht_base.specs.declared.operation.Op.TheVariants as op
@@ -245,6 +245,8 @@ sheet_itself t (shuts why) own = own
 shown_itself : (t : TablesOf) (what : Query) (person : Option ℕ) → AnswersItself (shown_to t what person)
 shown_itself t what None = refl
 shown_itself t (query.Sheet task) (Some person) = sheet_itself t (gate t op.Get person task.0) (gate_own t op.Get person task.0 (task_row t task.0))
+shown_itself t (query.Tasks role which from count) (Some person) = tt
+shown_itself t (query.Notices from count) (Some person) = tt
 
 pub answers_itself : (t : TablesOf) (e : Event) (left : Option Record) (reply : Reply) (after : TablesOf) → Decides t e left reply after → AnswersItself reply.answer
 answers_itself t (Turn at) left reply after d = let A : Answer → Type 0 = λ x. AnswersItself x in subst A (sym d.does.1) tt

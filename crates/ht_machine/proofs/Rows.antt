@@ -1,11 +1,5 @@
--- Rows and persons that are found.
-use Rattle.std.proofs.Common.{◌≡◌, ℕ, ◌<◌, zero, suc, get_or, List, [], ◌∷◌, length, Option, Some, arith}
-use Rattle.ht_base.specs.Persons.{AllBelow}
-
-pub below_at : (n : ℕ) (ps : List ℕ) (i p : ℕ) → AllBelow n ps → i < length ps → p ≡ get_or ps i p → p < n
-below_at n [] i p all h is = absurd (omega arith)
-below_at n (q ∷ ps) zero p all h is = let low = all.0 in omega arith
-below_at n (q ∷ ps) (suc i) p all h is = below_at n ps i p all.1 (omega arith) is
+-- Rows that are found.
+use Rattle.std.proofs.Common.{◌≡◌, Option, Some}
 
 -- one thing is found
 pub one : {A : Type 0} (o : Option A) (x y : A) → o ≡ Some x → o ≡ Some y → x ≡ y

@@ -3,15 +3,15 @@ use Rattle.std.specs.Prelude.{◌≡◌, ℕ, zero, suc, max, List, length, Opti
 use Rattle.ht_base.specs.declared.event.Command.{Command}
 use Rattle.ht_base.specs.declared.event.Event.{Event}
 use Rattle.ht_base.specs.declared.event.Event.TheVariants.{Ask, Read, Turn}
-use Rattle.ht_base.specs.declared.event.Query.{Query}
-use Rattle.ht_base.specs.declared.event.Query.TheVariants as query
+use Rattle.ht_base.specs.declared.query.Query.{Query}
+use Rattle.ht_base.specs.declared.query.Query.TheVariants as query
 use Rattle.ht_base.specs.declared.operation.Op.{Op}
 use Rattle.ht_base.specs.declared.operation.Op.TheVariants as op
 use Rattle.ht_base.specs.declared.record.Record.{Record}
 use Rattle.ht_base.specs.declared.record.Record.TheVariants as record_of
 use Rattle.ht_base.specs.declared.record.Record.TheVariants.{Asked, Opening}
 use Rattle.ht_base.specs.declared.reply.Answer.{Answer}
-use Rattle.ht_base.specs.declared.reply.Answer.TheVariants.{Sheet, Refused, Turned}
+use Rattle.ht_base.specs.declared.reply.Answer.TheVariants.{Notices, Page, Refused, Sheet, Turned}
 use Rattle.ht_base.specs.declared.reply.Refusal.TheVariants as refusal
 use Rattle.ht_base.specs.declared.reply.Reply.{Reply}
 use Rattle.ht_base.specs.declared.retry.Retry.{Retry}
@@ -23,14 +23,15 @@ use Rattle.ht_tree.specs.declared.row.Row.{Row}
 use Rattle.ht_tree.specs.declared.slot.Kept.{Kept}
 use Rattle.ht_tree.specs.declared.slot.Kept.TheVariants as reply
 use Rattle.ht_tree.specs.Tables.{TablesOf, at_moment, directory, task_row}
+use Rattle.ht_lists.specs.Lists.{notice_page_of, page_of}
+use Rattle.ht_lists.specs.Naming.{name_or_none}
+use Rattle.ht_lists.specs.Sheets.{sheet_of}
 use Rattle.ht_machine.specs.Commands.{Comes, Consequence, accepted, refused}
 use Rattle.ht_machine.specs.Gate.{Gate, gate, opens, shuts}
-use Rattle.ht_machine.specs.Naming.{name_or_none}
 use Rattle.ht_machine.specs.declared.sending.Sending.{Sending}
 use Rattle.ht_machine.specs.declared.sending.Sending.TheVariants as sending
 use Rattle.ht_machine.specs.declared.sending.Sending.TheVariants.{New, Answered}
 use Rattle.ht_machine.specs.Sending.{IsSent, answer_of, with_reply}
-use Rattle.ht_machine.specs.Sheets.{sheet_of}
 use Rattle.ht_machine.specs.Turning.{IsTurn}
 
 -- the moment at which an event acts: its own, and never before the last record
@@ -80,13 +81,17 @@ pub record Asks (t : TablesOf) (moment : ℕ) (caller : List ℕ) (retry : Optio
 
 -- ---- reads
 
+-- the sheet of a task is shown to those who may see the task
 abbrev pub sheet_behind : TablesOf → Gate → Answer
 sheet_behind t (opens row) = Sheet (sheet_of t row)
 sheet_behind t (shuts why) = Refused why
 
+-- Lists have just what is the person's, so there is nothing to refuse but a caller who is no person.
 abbrev pub shown_to : TablesOf → Query → Option ℕ → Answer
 shown_to t what None = Refused refusal.Person
 shown_to t (query.Sheet task) (Some person) = sheet_behind t (gate t op.Get person task.0)
+shown_to t (query.Tasks role which from count) (Some person) = Page (page_of t person role which from count)
+shown_to t (query.Notices from count) (Some person) = Notices (notice_page_of t person from count)
 
 -- ---- what is due before
 

@@ -6,7 +6,7 @@ use Rattle.ht_base.specs.declared.event.Command.{Command}
 use Rattle.ht_base.specs.declared.event.Command.TheVariants.{AddComment, Create, Claim, Exit}
 use Rattle.ht_base.specs.declared.event.Event.{Event}
 use Rattle.ht_base.specs.declared.event.Event.TheVariants.{Ask, Read}
-use Rattle.ht_base.specs.declared.event.Query.TheVariants as query
+use Rattle.ht_base.specs.declared.query.Query.TheVariants as query
 use Rattle.ht_base.specs.declared.kind.Kind.TheVariants.{Int}
 use Rattle.ht_base.specs.declared.operation.Op.TheVariants as op
 use Rattle.ht_base.specs.declared.record.Record.{Record}
@@ -30,7 +30,7 @@ use Rattle.ht_machine.specs.Deciding.{Behind, Decides, Doing, kept_at, left_with
 use Rattle.ht_machine.specs.Sending.{IsSent}
 use Rattle.ht_machine.specs.Turning.{Takings}
 use Rattle.ht_machine.specs.Gate.{gate, shuts}
-use Rattle.ht_machine.specs.Sheets.{sheet_of}
+use Rattle.ht_lists.specs.Sheets.{sheet_of}
 use Rattle.ht_entries.specs.declared.deadlines.DeadlineKind.TheVariants.{Start}
 use Rattle.ht_models.specs.Model.{ModelOf}
 use Rattle.ht_entries.specs.Parts.{Part}

@@ -8,14 +8,12 @@ pub mod Following
 pub mod Gate
 pub mod History
 pub mod Itself
-pub mod Naming
 pub mod Once
 pub mod Outcomes
 pub mod Planning
 pub mod RefusalExamples
 pub mod Refusals
 pub mod Sending
-pub mod Sheets
 pub mod TakenOnce
 pub mod Timer
 pub mod TimerExamples

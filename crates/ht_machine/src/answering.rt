@@ -6,8 +6,8 @@ ghost use Rattle.ht_tree.specs.Plans.{IsPlanOf, planned};
 ghost use Rattle.ht_tree.specs.Tables.{directory, task_row};
 ghost use Rattle.ht_tree.specs.declared.row.Row.{Row};
 
-use crate::naming::name_or_none;
 use ht_base::{Answer, Refusal, TaskId};
+use ht_lists::name_or_none;
 use ht_tree::{Kept, Plan, Tables};
 
 /// How a command is answered: it is accepted with this reply, or was before, or it is refused.

@@ -1,7 +1,6 @@
-ghost use Rattle.std.specs.Prelude.{◌≡◌, ◌≤◌, max, IfOk, MatchResult, OnErr, OnOk};
+ghost use Rattle.std.specs.Prelude.{◌≡◌, ◌≤◌, max, IfOk, OnOk};
 ghost use Rattle.ht_base.specs.Events.{IsValid};
 ghost use Rattle.ht_machine.specs.Deciding.{last_after};
-ghost use Rattle.ht_machine.specs.History.{IsStep, memory_reply};
 ghost use Rattle.ht_machine.specs.Once.{ActsOnce};
 ghost use Rattle.ht_machine.specs.Planning as spec;
 ghost use Rattle.ht_machine.specs.Planning.{IsDecided, Plans, PlansBehindTurn, record_by, record_in};
@@ -39,21 +38,6 @@ pub fn decide(alloc: Global, tables: &mut Tables, event: &Event) -> Result<Decis
     let (left, reply) = prepare_event(alloc, tables, &mut plan, event)?;
     let left = left.record(alloc, event)?;
     Ok(Decision { plan, left, reply })
-}
-
-/// Decides an event, and leaves the tables as it decides. After `Memory` they are as before.
-pub fn run_one(alloc: Global, tables: &mut Tables, event: &Event) -> Result<Reply, Memory>
-    requires { IsValid event.now }
-    ensures step { MatchResult result
-        (λ reply. IsStep tables.old.tables event.now reply tables.new.tables)
-        (λ _. IsStep tables.old.tables event.now memory_reply tables.new.tables) }
-    ensures err { OnErr result (tables.new.tables ≡ tables.old.tables) }
-{
-    let mut plan = Plan::begin(alloc)?;
-    let (left, reply) = prepare_event(alloc, tables, &mut plan, event)?;
-    let at = left.last(tables);
-    tables.commit(plan, at);
-    Ok(reply)
 }
 
 // Plans an event, and prepares the tables for the plan.

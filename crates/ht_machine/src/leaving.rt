@@ -30,16 +30,6 @@ impl Left {
         }
     }
 
-    /// The last moment of the tables behind it.
-    pub(crate) fn last(self, tables: &Tables) -> Moment
-        ensures { (event : Event) → result.0 ≡ last_after tables.now.tables (record_in event self) }
-    {
-        match self {
-            Left::Turned(at) | Left::Commanded(at) => at,
-            Left::Nothing => tables.last(),
-        }
-    }
-
     /// The record of it, of this event.
     pub(crate) fn record(self, alloc: Global, event: &Event) -> Result<Option<Record>, Memory>
         ensures { IfOk result (λ r. r ≡ record_in event.now self) }
@@ -49,6 +39,16 @@ impl Left {
             Left::Turned(at) => Ok(Some(Record::Turn { at })),
             Left::Commanded(at) => Ok(Some(record_at(alloc, at, event)?)),
         }
+    }
+}
+
+/// The last moment of the tables behind what an event left: that of its record, if there is one.
+pub fn last_behind(left: &Option<Record>, tables: &Tables) -> Moment
+    ensures { result.0 ≡ last_after tables.now.tables left.now }
+{
+    match left {
+        Some(Record::Turn { at }) | Some(Record::Asked { at, .. }) => *at,
+        Some(Record::Opening { .. }) | None => tables.last(),
     }
 }
 

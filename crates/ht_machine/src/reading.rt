@@ -5,8 +5,8 @@ ghost use Rattle.ht_machine.specs.Gate as gates;
 ghost use Rattle.ht_tree.specs.Tables.{directory};
 
 use crate::gating::refusal_at_gate;
-use crate::sheets::sheet;
 use ht_base::{Answer, BoxedSheet, Memory, Name, Op, Person, Query, Refusal, TaskId};
+use ht_lists::{my_tasks, notices, sheet};
 use ht_tree::{Plan, Tables};
 use std::alloc::Global;
 
@@ -28,6 +28,19 @@ pub(crate) fn read(
     };
     match query {
         Query::Sheet(task) => show(alloc, tables, person, *task),
+        Query::Tasks {
+            role,
+            which,
+            from,
+            count,
+        } => {
+            let page = my_tasks(alloc, tables, person, *role, *which, *from, *count)?;
+            Ok(Answer::Page(page))
+        }
+        Query::Notices { from, count } => {
+            let page = notices(alloc, tables, person, *from, *count)?;
+            Ok(Answer::Notices(page))
+        }
     }
 }
 
@@ -42,11 +55,6 @@ fn show(alloc: Global, tables: &Tables, person: Person, task: TaskId) -> Result<
     if let Some(refusal) = refusal_at_gate(tables, &nothing, person, task, Op::Get) {
         return Ok(Answer::Refused(refusal));
     }
-    match tables.row(task) {
-        Some(row) => {
-            let sheet = sheet(alloc, tables, &nothing, row)?;
-            Ok(Answer::Sheet(BoxedSheet::new(alloc, sheet)?))
-        }
-        None => unreachable!(),
-    }
+    let sheet = sheet(alloc, tables, task)?;
+    Ok(Answer::Sheet(BoxedSheet::new(alloc, sheet)?))
 }

@@ -5,7 +5,7 @@ ghost use Rattle.ht_base.specs.Moment.{last_moment};
 use ht_base::{
     Answer, Command, End, Event, LAST, Moment, Name, Parts, Person, Record, Refusal, TaskId,
 };
-use ht_machine::{Decision, decide, run_one, turn};
+use ht_machine::{Decision, decide, last_behind, turn};
 use ht_models::Models;
 use ht_people::Directory;
 use ht_samples::{MODELS, PEOPLE};
@@ -168,14 +168,13 @@ fn decision_told(alloc: Global, decision: &Decision) -> Result<String, Fail> {
     Ok(format!(in alloc; "{} {left} {answer}", decision.reply.taken)?)
 }
 
-// What an event takes, leaves and is answered.
+// What an event takes, leaves and is answered. It is committed.
 fn outcome_of(alloc: Global, tables: &mut Tables, line: &str) -> Result<String, Fail> {
     let event = event_of(alloc, line)?;
-    let outcome = {
-        let decision = decide(alloc, tables, &event)?;
-        decision_told(alloc, &decision)?
-    };
-    run_one(alloc, tables, &event)?;
+    let decision = decide(alloc, tables, &event)?;
+    let outcome = decision_told(alloc, &decision)?;
+    let last = last_behind(&decision.left, tables);
+    tables.commit(decision.plan, last);
     Ok(outcome)
 }
 

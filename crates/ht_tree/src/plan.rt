@@ -10,6 +10,7 @@ ghost use Rattle.ht_tree.specs.Tables.{TablesOf, task_row};
 
 use crate::activating::activated;
 use crate::puts::Puts;
+use crate::roles::roles_in;
 use crate::sizes::resized;
 use crate::{Notice, Row, Slot, Tables};
 use ht_base::{Memory, Person, Roles, State, TaskId};
@@ -341,19 +342,5 @@ impl Plan {
             rows: rows.max(row.task.0),
             size: resized(tables.models(), size, before, row),
         }
-    }
-}
-
-fn roles_in(tables: &Tables, row: &Row, person: Person) -> Roles
-    requires { person < length tables.now.tables.people.persons }
-    ensures { result ≡ spec.roles_in tables.now.tables row.now person }
-{
-    Roles {
-        initiator: row.initiator == person,
-        stakeholder: row.stakeholders.contains(person),
-        potential_owner: row.potential_owners.contains(person),
-        actual_owner: row.owner == Some(person),
-        administrator: row.administrators.contains(person),
-        operator: tables.people().operator(person),
     }
 }

@@ -4,10 +4,10 @@ use Rattle.std.proofs.lemmas.Option.{slice_get_read}
 use Rattle.ht_base.specs.declared.scalar.Scalar.{Scalar}
 use Rattle.ht_base.specs.declared.value.Value.{Value}
 use Rattle.ht_base.specs.Values.{Ascend, IsBehind}
-use Rattle.ht_machine.specs.Naming.{scalar_of}
+use Rattle.ht_lists.specs.Naming.{scalar_of}
 use Rattle.ht_tree.specs.Soundness.{is_known, is_timely}
-use Rattle.ht_machine.proofs.PartsShown.{next_behind, passes_at}
-use Rattle.ht_machine.proofs.naming.parts_of.Goals as goal
+use Rattle.ht_lists.proofs.PartsShown.{next_behind, passes_at}
+use Rattle.ht_lists.proofs.naming.parts_of.Goals as goal
 
 pub scalar_of-requires-clause-known : goal.scalar_of-requires-clause-known
 scalar_of-requires-clause-known c =

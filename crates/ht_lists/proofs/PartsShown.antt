@@ -3,7 +3,7 @@ use Rattle.std.proofs.Common.{◌≡◌, ℕ, ◌<◌, zero, suc, Bool, true, ge
 use Rattle.std.specs.List.{list_all}
 use Rattle.std.proofs.lemmas.Bool.{and_parts}
 use Rattle.ht_base.specs.Values.{Ascend, IsBehind}
-use Rattle.ht_machine.specs.Naming.{AreShown}
+use Rattle.ht_lists.specs.Naming.{AreShown}
 use Rattle.ht_models.specs.Model.{ModelOf}
 use Rattle.ht_tree.specs.declared.row.Row.{Row}
 use Rattle.ht_tree.specs.Soundness.{IsHeldBy, IsSoundIn}

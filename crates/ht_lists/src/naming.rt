@@ -1,8 +1,8 @@
 ghost use Rattle.std.specs.Prelude.{◌≡◌, ◌<◌, true, IfOk, IfSome, IsSome, length};
 ghost use Rattle.std.specs.List.{All};
 ghost use Rattle.ht_base.specs.Persons.{AllBelow};
-ghost use Rattle.ht_machine.specs.Naming as spec;
-ghost use Rattle.ht_machine.specs.Naming.{AreShown};
+ghost use Rattle.ht_lists.specs.Naming as spec;
+ghost use Rattle.ht_lists.specs.Naming.{AreShown};
 ghost use Rattle.ht_people.specs.Directory.{find};
 ghost use Rattle.ht_tree.specs.Soundness.{is_known, is_timely};
 
@@ -31,7 +31,7 @@ pub(crate) fn names_of(
 }
 
 /// The name of a person, if there is one.
-pub(crate) fn name_or_none(people: &Directory, person: Option<Person>) -> Option<Name>
+pub fn name_or_none(people: &Directory, person: Option<Person>) -> Option<Name>
     requires { IfSome person (λ p. p < length people.now.persons) }
     ensures name { result ≡ spec.name_or_none people.now person }
     ensures known { IfSome result (λ name. IsSome (find name people.now)) }

@@ -1,6 +1,6 @@
 use Rattle.std.proofs.Common.{◌≡◌, length}
-use Rattle.ht_machine.proofs.Rows.{below_at}
-use Rattle.ht_machine.proofs.naming.names_of.Goals as goal
+use Rattle.ht_lists.proofs.Found.{below_at}
+use Rattle.ht_lists.proofs.naming.names_of.Goals as goal
 
 pub name-requires : goal.name-requires
 name-requires c =

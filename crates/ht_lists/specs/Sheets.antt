@@ -5,8 +5,8 @@ use Rattle.ht_base.specs.declared.sheet.Sheet.{Sheet}
 use Rattle.ht_tree.specs.declared.row.Row.{Row}
 use Rattle.ht_tree.specs.Families.{sub_tasks}
 use Rattle.ht_tree.specs.Tables.{TablesOf, administrators_of, directory, excluded_owners_of, model_of, potential_owners_of, stakeholders_of}
-use Rattle.ht_machine.specs.declared.sheets.RoleNames.{RoleNames}
-use Rattle.ht_machine.specs.Naming.{comments_of, name_of, name_or_none, names_of, parts_of}
+use Rattle.ht_lists.specs.declared.sheets.RoleNames.{RoleNames}
+use Rattle.ht_lists.specs.Naming.{comments_of, name_of, name_or_none, names_of, parts_of}
 
 abbrev pub model_name : TablesOf → Row → List ℕ
 model_name t row = unwrap_or (option_map (λ m. m.name) (model_of t row)) []

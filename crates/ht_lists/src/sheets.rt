@@ -1,22 +1,31 @@
-ghost use Rattle.std.specs.Prelude.{◌≡◌, IfOk, map};
-ghost use Rattle.ht_machine.specs.Sheets as spec;
+ghost use Rattle.std.specs.Prelude.{◌≡◌, IfOk, IsSome, Some, map, option_map};
+ghost use Rattle.ht_lists.specs.Sheets as spec;
 ghost use Rattle.ht_tree.specs.Families.{sub_tasks};
 ghost use Rattle.ht_tree.specs.Plans.{no_plan};
 ghost use Rattle.ht_tree.specs.Soundness.{IsSoundRow};
+ghost use Rattle.ht_tree.specs.Tables.{task_row};
 
 use crate::naming::{comments_of, name_or_none, names_of, parts_of};
 use ht_base::{Ids, Memory, Names, Sheet, TaskId};
 use ht_tree::{Plan, Row, Tables, sub_tasks};
 use std::alloc::Global;
 
-/// The sheet of a task.
+/// The sheet of a task, which must be there (WS-HumanTask 1.1, 7.1.1 "getTaskDetails"): its row, with
+/// persons and the model by their names.
+pub fn sheet(alloc: Global, tables: &Tables, task: TaskId) -> Result<Sheet, Memory>
+    requires { IsSome (task_row tables.now.tables task.0) }
+    ensures { IfOk result (λ s. option_map (spec.sheet_of tables.now.tables)
+        (task_row tables.now.tables task.0) ≡ Some s) }
+{
+    let nothing = Plan::begin(alloc)?;
+    match tables.row(task) {
+        Some(row) => sheet_in(alloc, tables, &nothing, row),
+        None => unreachable!(),
+    }
+}
+
 #[tactic(auto, using(crate::proofs::PartsShown::input_shown, crate::proofs::PartsShown::output_shown))]
-pub(crate) fn sheet(
-    alloc: Global,
-    tables: &Tables,
-    nothing: &Plan,
-    row: &Row,
-) -> Result<Sheet, Memory>
+fn sheet_in(alloc: Global, tables: &Tables, nothing: &Plan, row: &Row) -> Result<Sheet, Memory>
     requires sound { IsSoundRow tables.now.tables row.now }
     requires nothing { nothing.now ≡ no_plan }
     ensures { IfOk result (λ s. s ≡ spec.sheet_of tables.now.tables row.now) }

@@ -1,9 +1,9 @@
 use Rattle.std.proofs.Common.{option_map, ap, sym, ◌∙◌}
-use Rattle.ht_machine.specs.Naming as spec
-use Rattle.ht_machine.proofs.Asked.{none_found}
-use Rattle.ht_machine.proofs.CommentsShown.{added, there_is}
-use Rattle.ht_machine.proofs.naming.comments_of.Goals as goal
-use Rattle.ht_machine.proofs.naming.comments_of.Goals.{in-Some+in_ok-shown_comment+in_ok-push, in_default}
+use Rattle.ht_lists.specs.Naming as spec
+use Rattle.ht_lists.proofs.Found.{none_found}
+use Rattle.ht_lists.proofs.CommentsShown.{added, there_is}
+use Rattle.ht_lists.proofs.naming.comments_of.Goals as goal
+use Rattle.ht_lists.proofs.naming.comments_of.Goals.{in-Some+in_ok-shown_comment+in_ok-push, in_default}
 
 pub loop-place-preserved : goal.loop-place-preserved
 loop-place-preserved c =
