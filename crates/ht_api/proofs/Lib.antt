@@ -1,7 +1,10 @@
+mod Alike
 mod Ascii
 mod ByKey
+mod Chains
 mod Fitting
 mod Going
+mod Inserting
 mod JsonIn
 mod KeysAscend
 mod Numerals
@@ -11,3 +14,5 @@ mod Room
 mod Routing
 mod Sound
 mod Validity
+mod Walks
+mod Words

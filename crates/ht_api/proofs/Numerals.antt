@@ -5,7 +5,7 @@ use Rattle.std.specs.List.{list_all}
 use Rattle.std.specs.Str.Parse.{AllDigits, IsNumeral, digits_value, digits_value_after, without_leading_plus}
 use Rattle.std.proofs.lemmas.Bool.{and_parts, cases_lt, le-leb, leb-true, lt-leb}
 use Rattle.std.proofs.lemmas.Bool.Decides.{eqb_tells, nat_tests}
-use Rattle.ht_api.specs.Numbers.{is_numeral, last_task, task_in}
+use Rattle.ht_api.specs.Numbers.{is_numeral, last_number, numeral_in}
 
 -- a digit's value
 record IsDigit (c : ℕ) : Type 0 where
@@ -39,9 +39,9 @@ other b h low = elim (eqb_tells b 48) [ inl is ↦ zero_not (b == 48) is.0 h | i
     zero_not true e n = cc
     zero_not false e n = cc
 
-pub some_task : (text : List ℕ) → is_numeral text ≡ true → 1 ≤ digits_value 10 text
-some_task [] h = cc
-some_task (b ∷ bs) h =
+pub some_number : (text : List ℕ) → is_numeral text ≡ true → 1 ≤ digits_value 10 text
+some_number [] h = cc
+some_number (b ∷ bs) h =
     let p = and_parts (not (b == 48)) (list_all is_ascii_digit (b ∷ bs)) h in
     let d = digit_is b (and_parts (is_ascii_digit b) (list_all is_ascii_digit bs) p.1).0 in
     let more = other b p.0 d.low in
@@ -63,17 +63,17 @@ numeral [] h = cc
 numeral (b ∷ bs) h = (omega arith, all_digits (b ∷ bs) (and_parts (not (b == 48)) (list_all is_ascii_digit (b ∷ bs)) h).1)
 
 pub reads : (text : List ℕ) (n : ℕ) → is_numeral text ≡ true → digits_value 10 (without_leading_plus text) < 2 ^ 32 → n ≡ digits_value 10 (without_leading_plus text)
-    → Some (record { 0 = n }) ≡ task_in text
+    → Some n ≡ numeral_in text
 reads text n h small is =
     let same = ap (digits_value 10) (no_plus text h) in
-    let fits : digits_value 10 text ≤ last_task = omega arith in
-    rw (h, le-leb (digits_value 10 text) last_task fits) (ap (λ (m : ℕ). Some (record { 0 = m })) (is ∙ same))
+    let fits : digits_value 10 text ≤ last_number = omega arith in
+    rw (h, le-leb (digits_value 10 text) last_number fits) (ap (λ (m : ℕ). Some m) (is ∙ same))
 
-pub reads_none : (text : List ℕ) → is_numeral text ≡ true → (IsNumeral 10 (without_leading_plus text) × (digits_value 10 (without_leading_plus text) < 2 ^ 32) → ⊥) → None ≡ task_in text
+pub reads_none : (text : List ℕ) → is_numeral text ≡ true → (IsNumeral 10 (without_leading_plus text) × (digits_value 10 (without_leading_plus text) < 2 ^ 32) → ⊥) → None ≡ numeral_in text
 reads_none text h refused =
     let P : List ℕ → Type 0 = λ ds. IsNumeral 10 ds × (digits_value 10 ds < 2 ^ 32) → ⊥ in
     let none = subst P (no_plus text h) refused in
     elim (cases_lt (digits_value 10 text) (2 ^ 32)) [
       | inl small ↦ absurd (none (numeral text h, small))
-      | inr past ↦ (let over : last_task < digits_value 10 text = omega arith in rw (h, lt-leb (digits_value 10 text) last_task over) refl)
+      | inr past ↦ (let over : last_number < digits_value 10 text = omega arith in rw (h, lt-leb (digits_value 10 text) last_number over) refl)
     ]

@@ -1,32 +1,38 @@
 -- Every event that is due is valid.
-use Rattle.std.proofs.Common.{◌≡◌, ◌≤◌, ◌∙◌, sym, refl, subst, ℕ, ◌==◌, ◌&&◌, nat_eq, nat_le, drop, codes, Bool, true, false, List, [], ◌∷◌, Option, Some, None, option_map, Result, Ok, Err, if◌then◌else◌, bytes_eq}
-use Rattle.std.specs.Prelude.{IfOk}
+use Rattle.std.proofs.Common.{◌≡◌, ◌≤◌, ◌∙◌, sym, refl, subst, ℕ, ◌&&◌, nat_le, Bool, true, false, List, [], ◌∷◌, Option, Some, None, option_and_then, Result, Ok, Err, if◌then◌else◌, bytes_eq}
+use Rattle.std.specs.Prelude.{IfOk, IfSome, IsTrue}
 use Rattle.std.specs.Char.{is_ascii}
-use Rattle.std.specs.List.{list_all, starts_with}
+use Rattle.std.specs.List.{list_all}
 use Rattle.std.specs.Str.Parse.{digits_value}
-use Rattle.std.proofs.lemmas.Bool.{and_parts, le-leb}
+use Rattle.std.proofs.lemmas.Bool.{and_parts, le-leb, leb-true}
 use Rattle.ht_base.specs.declared.event.Event.{Event}
 use Rattle.ht_base.specs.declared.event.Event.TheVariants.{Ask, Read}
-use Rattle.ht_base.specs.declared.event.Query.TheVariants as query
+use Rattle.ht_base.specs.declared.limits.TheConstants.{MOST_LISTED}
 use Rattle.ht_base.specs.declared.moment.Moment.{Moment}
+use Rattle.ht_base.specs.declared.query.Query.{Query}
+use Rattle.ht_base.specs.declared.query.Query.TheVariants as query
+use Rattle.ht_base.specs.declared.role.Role.{Role}
 use Rattle.ht_base.specs.declared.task_id.TaskId.{TaskId}
-use Rattle.ht_base.specs.Events.{IsValid}
+use Rattle.ht_base.specs.Events.{AreCounted, IsQuery, IsValid, is_of_task}
 use Rattle.ht_base.specs.Moment.{last_moment}
 use Rattle.ht_wire.specs.declared.request.Request.{Request}
 use Rattle.ht_api.specs.declared.asked.Asked.{Asked}
 use Rattle.ht_api.specs.declared.asked.Asked.TheVariants as asked
 use Rattle.ht_api.specs.declared.refusal.ApiRefusal.{ApiRefusal}
 use Rattle.ht_api.specs.declared.refusal.ApiRefusal.TheVariants.{Method}
+use Rattle.ht_api.specs.declared.routes.Path.{Path}
+use Rattle.ht_api.specs.declared.routes.Path.TheVariants as path
 use Rattle.ht_api.specs.declared.routes.Place.{Place}
 use Rattle.ht_api.specs.declared.routes.Place.TheVariants as place
 use Rattle.ht_api.specs.Asked.{asked_in, named_in, operations}
 use Rattle.ht_api.specs.Commands.{Numbered, command_in}
 use Rattle.ht_api.specs.Events.{asks, event_at, reads}
-use Rattle.ht_api.specs.Numbers.{is_numeral, last_task, task_in}
+use Rattle.ht_api.specs.Lists.{of_name, role_asked, role_choice, role_choices, which_asked}
+use Rattle.ht_api.specs.Numbers.{count_in, from_in, is_numeral, last_number, listed, numeral_in, task_in}
 use Rattle.ht_api.specs.Refusals.{Gives}
-use Rattle.ht_api.specs.Routes.{cut, method_of, place_behind, place_from, place_of, place_with, routed}
+use Rattle.ht_api.specs.Routes.{has_bytes, method_of, nth_of, parts, path_of, paths, place_at, place_from, place_of, place_of_path, routed, with_part}
 use Rattle.ht_api.proofs.Fitting.{from_if, from_mapped, from_some}
-use Rattle.ht_api.proofs.Numerals.{some_task}
+use Rattle.ht_api.proofs.Numerals.{some_number}
 use Rattle.ht_api.proofs.Sound.{FitsEvent, IsTask, command_fits}
 
 -- ---- places
@@ -51,36 +57,104 @@ named_on_task (row ∷ rows) name what h e = on_task_if (bytes_eq name row.0) ro
     p : (is_on_task row.1 ≡ true) × (list_all (λ row. is_on_task row.1) rows ≡ true)
     p = and_parts (is_on_task row.1) (list_all (λ row. is_on_task row.1) rows) h
 
+numeral_some : (text : List ℕ) (n : ℕ) → numeral_in text ≡ Some n → 1 ≤ n
+numeral_some text n e =
+    let q = from_if (is_numeral text && nat_le (digits_value 10 text) last_number) (digits_value 10 text) n e in
+    subst (λ (n : ℕ). 1 ≤ n) q.1 (some_number text (and_parts (is_numeral text) (nat_le (digits_value 10 text) last_number) q.0).0)
+
 task_some : (text : List ℕ) (t : TaskId) → task_in text ≡ Some t → 1 ≤ t.0
 task_some text t e =
-    let q = from_if (is_numeral text && nat_le (digits_value 10 text) last_task) (record { 0 = digits_value 10 text }) t e in
+    let m = from_mapped (λ n. record { 0 = n }) (numeral_in text) t e in
     let P : TaskId → Type 0 = λ (t : TaskId). 1 ≤ t.0 in
-    subst P q.1 (some_task text (and_parts (is_numeral text) (nat_le (digits_value 10 text) last_task) q.0).0)
+    subst P m.2 (numeral_some text m.0 m.1)
+
+count_some : (text : List ℕ) (n : ℕ) → count_in text ≡ Some n → AreCounted n
+count_some text n e =
+    let m = from_some (numeral_in text) listed n e in
+    let q = from_if (nat_le m.0 MOST_LISTED) m.0 n m.2 in
+    subst AreCounted q.1 (numeral_some text m.0 m.1, leb-true m.0 MOST_LISTED q.0)
+
+-- what is named passes what all do
+named_passes : {A : Type 0} (name : A → List ℕ) (test : A → Bool) (xs : List A) (text : List ℕ) (a : A) → list_all test xs ≡ true → of_name name xs text ≡ Some a → test a ≡ true
+named_passes name test [] text a h e = cc
+named_passes name test (x ∷ xs) text a h e = one (bytes_eq text (name x)) e (named_passes name test xs text a p.1)
+  where
+    p : (test x ≡ true) × (list_all test xs ≡ true)
+    p = and_parts (test x) (list_all test xs) h
+
+    one : (same : Bool) → (if same then Some x else of_name name xs text) ≡ Some a → (of_name name xs text ≡ Some a → test a ≡ true) → test a ≡ true
+    one true e later = let is : x ≡ a = cc in subst (λ y. test y ≡ true) is p.0
+    one false e later = later e
+
+-- each list is one of a role that persons have in a task, or of any
+abbrev goes_by : Option Role → Bool
+goes_by None = true
+goes_by (Some role) = is_of_task role
+
+role_of_task : (role : Option Role) → goes_by role ≡ true → IfSome role (λ r. IsTrue (is_of_task r))
+role_of_task None h = tt
+role_of_task (Some role) h = h
 
 abbrev pub IsPlace : Place → Type 0
 IsPlace place.Tasks = Unit {0}
 IsPlace (place.Task task) = 1 ≤ task.0
 IsPlace (place.Operation task what) = IsTask what task
+IsPlace (place.List role which from count) = IfSome role (λ r. IsTrue (is_of_task r)) × AreCounted count
+IsPlace (place.Notifications from count) = AreCounted count
 
-place_with_is : (id : List ℕ) (op : Option (List ℕ)) (p : Place) → place_with id op ≡ Some p → IsPlace p
-place_with_is id None p e = let m = from_mapped place.Task (task_in id) p e in subst IsPlace m.2 (task_some id m.0 m.1)
-place_with_is id (Some op) p e =
-    let t = from_some (task_in id) (λ task. option_map (place.Operation task) (asked_in op)) p e in
-    let m = from_mapped (place.Operation t.0) (asked_in op) p t.2 in
-    subst IsPlace m.2 (on_task m.0 t.0 (named_on_task operations op m.0 refl m.1) (task_some id t.0 t.1))
+-- with a part that fits
+from_part : {A : Type 0} (n : ℕ) (others : List (List ℕ)) (fit : List ℕ → Option A) (make : A → Option Place) (p : Place) → with_part n others fit make ≡ Some p
+    → (part : List ℕ) × (a : A) × (fit part ≡ Some a) × (make a ≡ Some p)
+from_part n others fit make p e =
+    let q = from_some (option_and_then fit (nth_of n others)) make p e in
+    let r = from_some (nth_of n others) fit q.0 q.1 in
+    (r.0, q.0, r.2, q.2)
+
+place_at_is : (path : Path) (others : List (List ℕ)) (p : Place) → place_at path others ≡ Some p → IsPlace p
+place_at_is path.Tasks others p e = let same : place.Tasks ≡ p = cc in subst IsPlace same tt
+place_at_is path.Task others p e =
+    let t = from_part 0 others task_in (λ task. Some (place.Task task)) p e in
+    let given = t.3 in
+    let same : place.Task t.1 ≡ p = cc in
+    subst IsPlace same (task_some t.0 t.1 t.2)
+place_at_is path.Operation others p e =
+    let t = from_part 0 others task_in (λ task. with_part 1 others asked_in (λ what. Some (place.Operation task what))) p e in
+    let w = from_part 1 others asked_in (λ what. Some (place.Operation t.1 what)) p t.3 in
+    let given = w.3 in
+    let same : place.Operation t.1 w.1 ≡ p = cc in
+    subst IsPlace same (on_task w.1 t.1 (named_on_task operations w.0 w.1 refl w.2) (task_some t.0 t.1 t.2))
+place_at_is path.List others p e =
+    let r = from_part 0 others role_asked (λ role. with_part 1 others which_asked (λ which. with_part 2 others from_in (λ from. with_part 3 others count_in (λ count. Some (place.List role which from count))))) p e in
+    let w = from_part 1 others which_asked (λ which. with_part 2 others from_in (λ from. with_part 3 others count_in (λ count. Some (place.List r.1 which from count)))) p r.3 in
+    let f = from_part 2 others from_in (λ from. with_part 3 others count_in (λ count. Some (place.List r.1 w.1 from count))) p w.3 in
+    let c = from_part 3 others count_in (λ count. Some (place.List r.1 w.1 f.1 count)) p f.3 in
+    let given = c.3 in
+    let same : place.List r.1 w.1 f.1 c.1 ≡ p = cc in
+    subst IsPlace same (role_of_task r.1 (named_passes role_choice goes_by role_choices r.0 r.1 refl r.2), count_some c.0 c.1 c.2)
+place_at_is path.Notifications others p e =
+    let f = from_part 0 others from_in (λ from. with_part 1 others count_in (λ count. Some (place.Notifications from count))) p e in
+    let c = from_part 1 others count_in (λ count. Some (place.Notifications f.1 count)) p f.3 in
+    let given = c.3 in
+    let same : place.Notifications f.1 c.1 ≡ p = cc in
+    subst IsPlace same (count_some c.0 c.1 c.2)
 
 place_if : (t : Bool) (o : Option Place) (p : Place) → (if t then o else None) ≡ Some p → o ≡ Some p
 place_if true o p e = e
 place_if false o p e = cc
 
-place_behind_is : (rest : List ℕ) (p : Place) → place_behind rest ≡ Some p → IsPlace p
-place_behind_is [] p e = let same : place.Tasks ≡ p = cc in subst IsPlace same tt
-place_behind_is (b ∷ bs) p e = place_with_is (cut bs).0 (cut bs).1 p (place_if (b == 47) (place_with (cut bs).0 (cut bs).1) p e)
+place_of_path_is : (o : Option Path) (others : List (List ℕ)) (p : Place) → place_of_path o others ≡ Some p → IsPlace p
+place_of_path_is None others p e = cc
+place_of_path_is (Some path) others p e = place_at_is path others p e
+
+place_from_is : (ps : List (List ℕ)) (p : Place) → place_from ps ≡ Some p → IsPlace p
+place_from_is [] p e = cc
+place_from_is ([] ∷ []) p e = cc
+place_from_is ((b ∷ bs) ∷ ps) p e = cc
+place_from_is ([] ∷ (word ∷ others)) p e =
+    place_of_path_is (path_of paths word others) others p (place_if (list_all has_bytes others) (place_of_path (path_of paths word others) others) p e)
 
 place_is : (target : List ℕ) (p : Place) → place_of target ≡ Some p → IsPlace p
-place_is target p e =
-    let f = place_if (list_all is_ascii target) (place_from target) p e in
-    place_behind_is (drop 6 target) p (place_if (starts_with nat_eq target (codes "/tasks")) (place_behind (drop 6 target)) p f)
+place_is target p e = place_from_is (parts target) p (place_if (list_all is_ascii target) (place_from (parts target)) p e)
 
 method_fits : (t : Bool) (q p : Place) → ◌≡◌ {A = Result Place ApiRefusal} (if t then Ok q else Err Method) (Ok p) → q ≡ p
 method_fits true q p e = cc
@@ -101,9 +175,9 @@ asks_valid at task (Ok (retry, c)) (Some name) e h l all =
     let p = all (retry, c) refl in
     subst IsValid same (l, p.retry, p.command.0, p.command.1)
 
-reads_valid : (task : TaskId) (caller : Option (List ℕ)) (e : Event) → reads task caller ≡ Ok e → 1 ≤ task.0 → IsValid e
-reads_valid task None e h l = cc
-reads_valid task (Some name) e h l = let same : Read name (query.Sheet task) ≡ e = cc in subst IsValid same l
+reads_valid : (asked : Query) (caller : Option (List ℕ)) (e : Event) → reads asked caller ≡ Ok e → IsQuery asked → IsValid e
+reads_valid asked None e h l = cc
+reads_valid asked (Some name) e h l = let same : Read name asked ≡ e = cc in subst IsValid same l
 
 at_valid : (r : Request) (at : Moment) (p : Result Place ApiRefusal) (e : Event) → event_at r at p ≡ Ok e → at.0 ≤ last_moment → ((q : Place) → p ≡ Ok q → IsPlace q) → IsValid e
 at_valid r at (Err why) e h l is = cc
@@ -111,7 +185,10 @@ at_valid r at (Ok place.Tasks) e h l is =
     asks_valid at (record { 0 = 0 }) (command_in asked.Create r.body.items) r.person e h l (λ sent made. command_fits (record { 0 = 0 }) sent asked.Create r.body.items made refl)
 at_valid r at (Ok (place.Operation task what)) e h l is =
     asks_valid at task (command_in what r.body.items) r.person e h l (λ sent made. command_fits task sent what r.body.items made (is (place.Operation task what) refl))
-at_valid r at (Ok (place.Task task)) e h l is = reads_valid task r.person e h (is (place.Task task) refl)
+at_valid r at (Ok (place.Task task)) e h l is = reads_valid (query.Sheet task) r.person e h (is (place.Task task) refl)
+at_valid r at (Ok (place.List role which from count)) e h l is =
+    reads_valid (query.Tasks role which from count) r.person e h (is (place.List role which from count) refl)
+at_valid r at (Ok (place.Notifications from count)) e h l is = reads_valid (query.Notices from count) r.person e h (is (place.Notifications from count) refl)
 
 given_valid : (due r : Result Event ApiRefusal) → Gives due r → ((e : Event) → due ≡ Ok e → IsValid e) → IfOk r IsValid
 given_valid due (Ok e) h all = all e (sym h)

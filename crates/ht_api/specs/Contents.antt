@@ -3,6 +3,8 @@ use Rattle.std.specs.Prelude.{ℕ, ℤ, pos, negsuc, List, [], ◌∷◌, map, f
 use Rattle.std.specs.Borrow.{Bor}
 use Rattle.serde_json.specs.Data.{Data, null, boolean, number, string, array, object, unsigned, negative, Items, no_items, item, Members, no_members, member}
 use Rattle.ht_base.specs.declared.moment.Moment.{Moment}
+use Rattle.ht_base.specs.declared.notice_page.NoticeRow.{NoticeRow}
+use Rattle.ht_base.specs.declared.page.PageRow.{PageRow}
 use Rattle.ht_base.specs.declared.parts.Parts.{Parts}
 use Rattle.ht_base.specs.declared.role.Roles.{Roles}
 use Rattle.ht_base.specs.declared.scalar.Scalar.{Scalar}
@@ -84,6 +86,41 @@ comment_items (c ∷ cs) = item (comment_data c) (comment_items cs)
 -- the comments in their order
 abbrev pub comments_data : List ShownComment → Data
 comments_data cs = array (comment_items cs)
+
+-- ---- lists
+
+-- what a list tells of a task
+abbrev pub page_row_rows : PageRow → List (List ℕ × Data)
+page_row_rows r =
+    (codes "created", whole r.created.0)
+    ∷ (codes "model", string r.model)
+    ∷ (codes "owner", name_or_null r.owner)
+    ∷ (codes "priority", whole r.priority)
+    ∷ (codes "state", string (state_name r.state))
+    ∷ (codes "task", whole r.task.0)
+    ∷ []
+
+abbrev pub page_items : List PageRow → Items
+page_items [] = no_items
+page_items (r ∷ rs) = item (row_object (page_row_rows r)) (page_items rs)
+
+-- what a list tells of a notification
+abbrev pub notice_row_rows : NoticeRow → List (List ℕ × Data)
+notice_row_rows r =
+    (codes "deadline", string r.deadline)
+    ∷ (codes "escalation", string r.escalation)
+    ∷ (codes "moment", whole r.moment.0)
+    ∷ (codes "number", whole r.number)
+    ∷ (codes "task", whole r.task.0)
+    ∷ []
+
+abbrev pub notice_items : List NoticeRow → Items
+notice_items [] = no_items
+notice_items (r ∷ rs) = item (row_object (notice_row_rows r)) (notice_items rs)
+
+-- a part of a list, and how many rows the whole list has
+abbrev pub list_data : Items → ℕ → Data
+list_data rows total = row_object ((codes "rows", array rows) ∷ (codes "total", whole total) ∷ [])
 
 -- ---- as the code has them
 

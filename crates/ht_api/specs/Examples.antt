@@ -9,8 +9,11 @@ use Rattle.serde_json.specs.Written.{compact_text}
 use Rattle.ht_base.specs.declared.end.End.TheVariants.{At, After}
 use Rattle.ht_base.specs.declared.event.Command.TheVariants as command
 use Rattle.ht_base.specs.declared.event.Event.TheVariants.{Ask, Read}
-use Rattle.ht_base.specs.declared.event.Query.TheVariants as query
-use Rattle.ht_base.specs.declared.reply.Answer.TheVariants.{Done, Turned, Sheet, Refused}
+use Rattle.ht_base.specs.declared.query.Query.TheVariants as query
+use Rattle.ht_base.specs.declared.query.Which.TheVariants.{Live, All, Only}
+use Rattle.ht_base.specs.declared.notice_page.NoticeRow.{NoticeRow}
+use Rattle.ht_base.specs.declared.page.PageRow.{PageRow}
+use Rattle.ht_base.specs.declared.reply.Answer.TheVariants.{Done, Turned, Sheet, Page, Notices, Refused}
 use Rattle.ht_base.specs.declared.reply.Answer.{Answer}
 use Rattle.ht_base.specs.declared.reply.Refusal.{Refusal}
 use Rattle.ht_base.specs.declared.reply.Refusal.TheVariants as refusal
@@ -19,7 +22,7 @@ use Rattle.ht_base.specs.declared.role.Role.TheVariants.{ActualOwner, PotentialO
 use Rattle.ht_base.specs.declared.role_list.RoleList.TheVariants.{Stakeholders}
 use Rattle.ht_base.specs.declared.scalar.Scalar.TheVariants.{Int, Text}
 use Rattle.ht_base.specs.declared.sheet.Sheet.{Sheet as TaskSheet}
-use Rattle.ht_base.specs.declared.state.State.TheVariants.{Ready, Reserved}
+use Rattle.ht_base.specs.declared.state.State.TheVariants.{InProgress, Ready, Reserved}
 use Rattle.ht_base.specs.Role.{no_roles, with_role}
 use Rattle.ht_base.specs.State.{no_states, with_state}
 use Rattle.ht_base.specs.Values.{is_before}
@@ -29,7 +32,7 @@ use Rattle.ht_api.specs.declared.refusal.ApiRefusal.TheVariants.{Route, Method, 
 use Rattle.ht_api.specs.declared.routes.Place.TheVariants as place
 use Rattle.ht_api.specs.Bodies.{json_in}
 use Rattle.ht_api.specs.Commands.{command_in}
-use Rattle.ht_api.specs.Contents.{comments_data, tasks_data}
+use Rattle.ht_api.specs.Contents.{comments_data, notice_row_rows, page_row_rows, row_object, tasks_data}
 use Rattle.ht_api.specs.Events.{event_due}
 use Rattle.ht_api.specs.Numbers.{task_in}
 use Rattle.ht_api.specs.Refusals.{wire_refusal}
@@ -66,6 +69,68 @@ a_query = refl
 no_operation : place_of (codes "/tasks/1/create") ≡ None
 unfolding on_literals
 no_operation = refl
+
+-- ---- lists, by the parts of their paths
+
+a_live_list : place_of (codes "/lists/any/live/0/10") ≡ Some (place.List None Live 0 10)
+unfolding on_literals
+a_live_list = refl
+
+a_list_of_a_state : place_of (codes "/lists/potentialOwner/InProgress/4294967295/100") ≡ Some (place.List (Some PotentialOwner) (Only InProgress) 4294967295 100)
+unfolding on_literals
+a_list_of_a_state = refl
+
+an_operator_has_no_list : place_of (codes "/lists/operator/live/0/10") ≡ None
+unfolding on_literals
+an_operator_has_no_list = refl
+
+a_number_with_a_leading_zero : place_of (codes "/lists/any/Ready/00/10") ≡ None
+unfolding on_literals
+a_number_with_a_leading_zero = refl
+
+no_rows_are_told : place_of (codes "/lists/any/live/0/0") ≡ None
+unfolding on_literals
+no_rows_are_told = refl
+
+a_row_too_many : place_of (codes "/lists/any/live/0/101") ≡ None
+unfolding on_literals
+a_row_too_many = refl
+
+a_part_is_left_out : place_of (codes "/lists/any/live/0") ≡ None
+unfolding on_literals
+a_part_is_left_out = refl
+
+a_part_is_empty : place_of (codes "/lists//live/0/10") ≡ None
+unfolding on_literals
+a_part_is_empty = refl
+
+a_role_in_another_case : place_of (codes "/lists/actualowner/all/0/1") ≡ None
+unfolding on_literals
+a_role_in_another_case = refl
+
+the_last_notifications : place_of (codes "/notifications/4294967295/100") ≡ Some (place.Notifications 4294967295 100)
+unfolding on_literals
+the_last_notifications = refl
+
+from_too_far : place_of (codes "/notifications/4294967296/1") ≡ None
+unfolding on_literals
+from_too_far = refl
+
+an_empty_part_behind : place_of (codes "/notifications/0/10/") ≡ None
+unfolding on_literals
+an_empty_part_behind = refl
+
+no_first_slash : place_of (codes "notifications/0/10") ≡ None
+unfolding on_literals
+no_first_slash = refl
+
+a_word_alone : place_of (codes "/tasks") ≡ Some place.Tasks
+unfolding on_literals
+a_word_alone = refl
+
+a_longer_word : place_of (codes "/tasksx") ≡ None
+unfolding on_literals
+a_longer_word = refl
 
 one_too_many : task_in (codes "4294967296") ≡ None
 one_too_many = refl
@@ -221,6 +286,22 @@ a_sheet : event_due (request (codes "GET") (codes "/tasks/1") (Some (codes "ben"
 unfolding on_literals
 a_sheet = refl
 
+a_list : event_due (request (codes "GET") (codes "/lists/actualOwner/all/20/10") (Some (codes "ben")) []) 5 ≡ Ok (Read (codes "ben") (query.Tasks (Some ActualOwner) All 20 10))
+unfolding on_literals
+a_list = refl
+
+notifications : event_due (request (codes "GET") (codes "/notifications/0/1") (Some (codes "cora")) []) 5 ≡ Ok (Read (codes "cora") (query.Notices 0 1))
+unfolding on_literals
+notifications = refl
+
+a_list_by_another_method : event_due (request (codes "POST") (codes "/lists/any/live/0/10") None []) 5 ≡ Err Method
+unfolding on_literals
+a_list_by_another_method = refl
+
+a_list_of_nobody : event_due (request (codes "GET") (codes "/lists/any/live/0/10") None []) 5 ≡ Err Person
+unfolding on_literals
+a_list_of_nobody = refl
+
 the_place_goes_first : event_due (request (codes "PUT") (codes "/tasks/0") None (codes "{")) 5 ≡ Err Route
 unfolding on_literals
 the_place_goes_first = refl
@@ -277,6 +358,22 @@ comments_in_order :
 unfolding on_literals
 comments_in_order = refl
 
+an_empty_page : answer_text (Page (record { rows = []; total = 3 })) ≡ codes "{\"rows\":[],\"total\":3}"
+unfolding on_literals
+an_empty_page = refl
+
+a_page :
+    answer_text (Page (record { rows = record { created = record { 0 = 500 }; model = codes "unit"; owner = Some (codes "ben"); priority = 5; state = Reserved; task = record { 0 = 2 } } ∷ record { created = record { 0 = 0 }; model = codes "m"; owner = None; priority = 10; state = Ready; task = record { 0 = 1 } } ∷ []; total = 2 }))
+    ≡ codes "{\"rows\":[{\"created\":500,\"model\":\"unit\",\"owner\":\"ben\",\"priority\":5,\"state\":\"Reserved\",\"task\":2},{\"created\":0,\"model\":\"m\",\"owner\":null,\"priority\":10,\"state\":\"Ready\",\"task\":1}],\"total\":2}"
+unfolding on_literals
+a_page = refl
+
+notices_of_one :
+    answer_text (Notices (record { rows = record { deadline = codes "late"; escalation = codes "tell"; moment = record { 0 = 61000 }; number = 4; task = record { 0 = 7 } } ∷ []; total = 12 }))
+    ≡ codes "{\"rows\":[{\"deadline\":\"late\",\"escalation\":\"tell\",\"moment\":61000,\"number\":4,\"task\":7}],\"total\":12}"
+unfolding on_literals
+notices_of_one = refl
+
 a_sheet_has_comments : (s : TaskSheet) → get (codes "comments") (answer_data (Sheet s)) ≡ Some (comments_data s.comments)
 unfolding sheet_data
 a_sheet_has_comments s = refl
@@ -330,9 +427,17 @@ refusals_ascend refusal.Store = refl
 refusals_ascend refusal.Spent = refl
 refusals_ascend refusal.Memory = refl
 
+page_rows_ascend : (r : PageRow) → ascends (row_object (page_row_rows r)) ≡ true
+page_rows_ascend r = refl
+
+notice_rows_ascend : (r : NoticeRow) → ascends (row_object (notice_row_rows r)) ≡ true
+notice_rows_ascend r = refl
+
 answers_ascend : (a : Answer) → ascends (answer_data a) ≡ true
 unfolding sheet_data
 answers_ascend (Done task state owner) = refl
 answers_ascend Turned = refl
 answers_ascend (Sheet s) = refl
+answers_ascend (Page p) = refl
+answers_ascend (Notices p) = refl
 answers_ascend (Refused why) = refusals_ascend why

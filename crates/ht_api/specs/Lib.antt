@@ -7,6 +7,7 @@ pub mod Examples
 pub mod Fields
 pub mod Fits
 pub mod Keys
+pub mod Lists
 pub mod Numbers
 pub mod Refusals
 pub mod Replies

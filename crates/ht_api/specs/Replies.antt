@@ -4,7 +4,7 @@ use Rattle.serde_json.specs.Data.{Data, boolean, string}
 use Rattle.serde_json.specs.Written.{compact_text}
 use Rattle.ht_base.specs.declared.limits.TheConstants.{LONGEST_NAME}
 use Rattle.ht_base.specs.declared.reply.Answer.{Answer}
-use Rattle.ht_base.specs.declared.reply.Answer.TheVariants.{Done, Turned, Sheet, Refused}
+use Rattle.ht_base.specs.declared.reply.Answer.TheVariants.{Done, Turned, Sheet, Page, Notices, Refused}
 use Rattle.ht_base.specs.declared.reply.Limit.{Limit}
 use Rattle.ht_base.specs.declared.reply.Limit.TheVariants.{Tasks, Comments, Journal}
 use Rattle.ht_base.specs.declared.reply.Refusal.{Refusal}
@@ -12,7 +12,7 @@ use Rattle.ht_base.specs.declared.reply.Refusal.TheVariants as refusal
 use Rattle.ht_base.specs.declared.reply.Unknown.TheVariants as unknown
 use Rattle.ht_base.specs.declared.sheet.Sheet.{Sheet as TaskSheet}
 use Rattle.ht_base.specs.State.{state_name}
-use Rattle.ht_api.specs.Contents.{comments_data, moment_or_null, name_or_null, names, part_rows, roles_data, row_object, states_data, task_or_null, tasks_data, whole}
+use Rattle.ht_api.specs.Contents.{comments_data, list_data, moment_or_null, name_or_null, names, notice_items, page_items, part_rows, roles_data, row_object, states_data, task_or_null, tasks_data, whole}
 
 -- ---- refusals
 
@@ -111,17 +111,21 @@ answer_data (Done task state owner) =
     row_object ((codes "owner", name_or_null owner) ∷ (codes "state", string (state_name state)) ∷ (codes "task", whole task.0) ∷ [])
 answer_data Turned = row_object []
 answer_data (Sheet s) = sheet_data s
+answer_data (Page p) = list_data (page_items p.rows) p.total
+answer_data (Notices p) = list_data (notice_items p.rows) p.total
 answer_data (Refused why) = refusal_data why
 
 abbrev pub answer_text : Answer → List ℕ
 answer_text a = compact_text (answer_data a)
 
--- the answer is a sheet
-abbrev pub IsSheet : Answer → Type 0
-IsSheet (Done task state owner) = ⊥
-IsSheet Turned = ⊥
-IsSheet (Sheet s) = Unit {0}
-IsSheet (Refused why) = ⊥
+-- the answer tells what the tables hold: a sheet, a page or notices
+abbrev pub IsTold : Answer → Type 0
+IsTold (Done task state owner) = ⊥
+IsTold Turned = ⊥
+IsTold (Sheet s) = Unit {0}
+IsTold (Page p) = Unit {0}
+IsTold (Notices p) = Unit {0}
+IsTold (Refused why) = ⊥
 
 -- the name, if there is one, is no longer than a name may be
 abbrev pub IsShort : Option (List ℕ) → Type 0

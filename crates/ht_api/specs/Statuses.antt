@@ -1,7 +1,7 @@
 -- The status of each answer (RFC 9110, 15).
 use Rattle.std.specs.Prelude.{ℕ}
 use Rattle.ht_base.specs.declared.reply.Answer.{Answer}
-use Rattle.ht_base.specs.declared.reply.Answer.TheVariants.{Done, Turned, Sheet, Refused}
+use Rattle.ht_base.specs.declared.reply.Answer.TheVariants.{Done, Turned, Sheet, Page, Notices, Refused}
 use Rattle.ht_base.specs.declared.reply.Refusal.{Refusal}
 use Rattle.ht_base.specs.declared.reply.Refusal.TheVariants as refusal
 
@@ -40,4 +40,6 @@ abbrev pub answer_status : Answer → ℕ
 answer_status (Done task state owner) = 200
 answer_status Turned = 200
 answer_status (Sheet s) = 200
+answer_status (Page p) = 200
+answer_status (Notices p) = 200
 answer_status (Refused why) = refusal_status why

@@ -42,7 +42,17 @@ fn event_at(
     match place? {
         Place::Tasks => ask(alloc, request, at, TaskId(0), Asked::Create),
         Place::Operation(task, asked) => ask(alloc, request, at, task, asked),
-        Place::Task(task) => read(request, task),
+        Place::Task(task) => read(request, Query::Sheet(task)),
+        Place::List(role, which, from, count) => read(
+            request,
+            Query::Tasks {
+                role,
+                which,
+                from,
+                count,
+            },
+        ),
+        Place::Notifications(from, count) => read(request, Query::Notices { from, count }),
     }
 }
 
@@ -69,14 +79,11 @@ fn ask(
     }
 }
 
-fn read(request: &Request, task: TaskId) -> Result<Event, ApiRefusal>
-    ensures { result ≡ reads task request.now.person }
+fn read(request: &Request, query: Query) -> Result<Event, ApiRefusal>
+    ensures { result ≡ reads query request.now.person }
 {
     match request.person {
-        Some(caller) => Ok(Event::Read {
-            caller,
-            query: Query::Sheet(task),
-        }),
+        Some(caller) => Ok(Event::Read { caller, query }),
         None => Err(ApiRefusal::Person),
     }
 }

@@ -1,13 +1,14 @@
-ghost use Rattle.std.specs.Prelude.{◌≡◌, IfOk, IsAscii, option_map};
+ghost use Rattle.std.specs.Prelude.{◌≡◌, IfOk, IsAscii, OnOk, option_map};
 ghost use Rattle.matchit.specs.Params.{walk};
 ghost use Rattle.ht_api.specs.Routes as spec;
-ghost use Rattle.ht_api.specs.Routes.{routed};
-ghost use Rattle.ht_api.specs.Table.{nth_of, place_at, table, values_of};
+ghost use Rattle.ht_api.specs.Routes.{nth_of, paths, place_at, routed};
+ghost use Rattle.ht_api.specs.Table.{paths_of, table, values_of, with_paths};
 
 use crate::asked::Asked;
-use crate::numbers::task_in;
+use crate::lists::{role_asked, which_asked};
+use crate::numbers::{count_in, from_in, task_in};
 use crate::refusal::ApiRefusal;
-use ht_base::{Memory, TaskId};
+use ht_base::{Memory, Role, TaskId, Which};
 use ht_wire::Request;
 use http::Method;
 use matchit::{InsertError, Params, Router};
@@ -21,6 +22,8 @@ pub(crate) enum Path {
     Tasks,
     Task,
     Operation,
+    List,
+    Notifications,
 }
 
 /// A path of the interface, with values that fit.
@@ -32,6 +35,10 @@ pub(crate) enum Place {
     Task(TaskId),
     /// `/tasks/{id}/{op}`
     Operation(TaskId, Asked),
+    /// `/lists/{role}/{which}/{from}/{count}`
+    List(Option<Role>, Which, u32, u32),
+    /// `/notifications/{from}/{count}`
+    Notifications(u32, u32),
 }
 
 /// The paths of the interface. They are the same whenever they are made, so a contract sees nothing of
@@ -86,14 +93,35 @@ impl Routes {
     }
 }
 
+// The paths with what they are. What stands in braces is a part of its own.
+fn all_paths() -> [(&'static str, Path); 5]
+    ensures { paths_of result ≡ paths }
+{
+    [
+        ("/lists/{role}/{which}/{from}/{count}", Path::List),
+        ("/notifications/{from}/{count}", Path::Notifications),
+        ("/tasks/{id}/{op}", Path::Operation),
+        ("/tasks/{id}", Path::Task),
+        ("/tasks", Path::Tasks),
+    ]
+}
+
 fn table_router(alloc: Global) -> Result<Router<Path>, InsertError>
     ensures { IfOk result (λ r. r ≡ table) }
 {
+    let paths = all_paths();
     let mut router = Router::new(alloc);
-    router.insert("/tasks", Path::Tasks)?;
-    router.insert("/tasks/{id}", Path::Task)?;
-    router.insert("/tasks/{id}/{op}", Path::Operation)?;
+    insert_all(&paths, &mut router)?;
     Ok(router)
+}
+
+fn insert_all(paths: &[(&'static str, Path)], router: &mut Router<Path>) -> Result<(), InsertError>
+    ensures { OnOk result (with_paths (paths_of paths.now) router.old ≡ router.new) }
+{
+    for (text, path) in paths {
+        router.insert(text, *path)?;
+    }
+    Ok(())
 }
 
 fn by_method(method: &Method, place: Place) -> Result<Place, ApiRefusal>
@@ -113,6 +141,8 @@ fn method_of(place: Place) -> Method
         Place::Tasks => Method::POST,
         Place::Task(_) => Method::GET,
         Place::Operation(_, _) => Method::POST,
+        Place::List(_, _, _, _) => Method::GET,
+        Place::Notifications(_, _) => Method::GET,
     }
 }
 
@@ -131,6 +161,18 @@ fn place_at(path: Path, params: &Params<'_, '_>) -> Option<Place>
             let task = task_in(part(params, 0)?)?;
             let asked = Asked::named(part(params, 1)?)?;
             Some(Place::Operation(task, asked))
+        }
+        Path::List => {
+            let role = role_asked(part(params, 0)?)?;
+            let which = which_asked(part(params, 1)?)?;
+            let from = from_in(part(params, 2)?)?;
+            let count = count_in(part(params, 3)?)?;
+            Some(Place::List(role, which, from, count))
+        }
+        Path::Notifications => {
+            let from = from_in(part(params, 0)?)?;
+            let count = count_in(part(params, 1)?)?;
+            Some(Place::Notifications(from, count))
         }
     }
 }

@@ -13,6 +13,8 @@ pub(crate) fn status_of(answer: &Answer) -> u16
         Answer::Done { .. } => 200,
         Answer::Turned => 200,
         Answer::Sheet(_) => 200,
+        Answer::Page(_) => 200,
+        Answer::Notices(_) => 200,
         Answer::Refused(refusal) => status_of_refusal(refusal),
     }
 }

@@ -1,6 +1,7 @@
 use ht_api::{ApiRefusal, Routes, event_of, text_of};
 use ht_base::{
-    Answer, Bytes, Command, Event, Moment, Name, Refusal, Reply, Retry, State, TaskId, Unknown,
+    Answer, Bytes, Command, Event, Moment, Name, NoticePage, NoticeRow, NoticeRows, Page, PageRow,
+    PageRows, Query, Refusal, Reply, Retry, Role, State, TaskId, Unknown, Which,
 };
 use ht_wire::Request;
 use http::Method;
@@ -56,6 +57,101 @@ fn a_request_is_an_event(rt: HostRuntime) -> Result<(), Fail> {
     Ok(())
 }
 
+// Whether it is anna's question for 100 of her tasks that are ready, behind the first 20.
+fn is_list(event: &Event) -> bool {
+    let Event::Read {
+        caller,
+        query: Query::Tasks {
+            role: Some(Role::ActualOwner),
+            which: Which::Only(State::Ready),
+            from: 20,
+            count: 100,
+        },
+    } = event
+    else {
+        return false;
+    };
+    Some(*caller) == Name::of(b"anna")
+}
+
+// Whether it is anna's question for the first of her notifications.
+fn is_notices(event: &Event) -> bool {
+    let Event::Read {
+        caller,
+        query: Query::Notices { from: 0, count: 1 },
+    } = event
+    else {
+        return false;
+    };
+    Some(*caller) == Name::of(b"anna")
+}
+
+#[test]
+fn a_list_is_a_question(rt: HostRuntime) -> Result<(), Fail> {
+    let routes = Routes::new(rt.alloc())?;
+    let list = request(rt.alloc(), "GET", "/lists/actualOwner/Ready/20/100", "")?;
+    assert!(rt; is_list(&event_of(rt.alloc(), &routes, &list, Moment(7000))?));
+    let notices = request(rt.alloc(), "GET", "/notifications/0/1", "")?;
+    assert!(rt; is_notices(&event_of(rt.alloc(), &routes, &notices, Moment(7000))?));
+    Ok(())
+}
+
+// The request is refused so.
+fn is_refused(
+    rt: &impl Abort,
+    alloc: Global,
+    method: &str,
+    target: &str,
+    why: ApiRefusal,
+) -> Result<(), Fail> {
+    let routes = Routes::new(alloc)?;
+    let asked = request(alloc, method, target, "")?;
+    assert_eq!(rt;
+        event_of(alloc, &routes, &asked, Moment(7000)).err(),
+        Some(why)
+    );
+    Ok(())
+}
+
+#[test]
+fn other_paths_are_no_lists(rt: HostRuntime) -> Result<(), Fail> {
+    is_refused(
+        &rt,
+        rt.alloc(),
+        "GET",
+        "/lists/operator/live/0/10",
+        ApiRefusal::Route,
+    )?;
+    is_refused(
+        &rt,
+        rt.alloc(),
+        "GET",
+        "/lists/any/live/0/101",
+        ApiRefusal::Route,
+    )?;
+    is_refused(
+        &rt,
+        rt.alloc(),
+        "GET",
+        "/notifications/00/10",
+        ApiRefusal::Route,
+    )?;
+    is_refused(
+        &rt,
+        rt.alloc(),
+        "GET",
+        "/notifications/0/10/",
+        ApiRefusal::Route,
+    )?;
+    is_refused(
+        &rt,
+        rt.alloc(),
+        "POST",
+        "/notifications/0/10",
+        ApiRefusal::Method,
+    )
+}
+
 // The answer has this status and this text, whatever the buffer held.
 fn is_told(
     rt: &impl Abort,
@@ -84,4 +180,43 @@ fn an_answer_is_a_text(rt: HostRuntime) -> Result<(), Fail> {
     let text = "{\"fault\":\"Unknown\",\"person\":\"eve\"}";
     is_told(&rt, rt.alloc(), refused, 422, text)?;
     is_told(&rt, rt.alloc(), Answer::Turned, 200, "{}")
+}
+
+#[test]
+fn a_page_is_a_text(rt: HostRuntime) -> Result<(), Fail> {
+    let mut rows = PageRows::new(rt.alloc());
+    rows.push(PageRow {
+        created: Moment(1000),
+        model: name("unit")?,
+        owner: None,
+        priority: 5,
+        state: State::Ready,
+        task: TaskId(2),
+    })?;
+    let text = "{\"rows\":[{\"created\":1000,\"model\":\"unit\",\"owner\":null,\"priority\":5,\
+                \"state\":\"Ready\",\"task\":2}],\"total\":4294967295}";
+    let total = 4_294_967_295;
+    is_told(
+        &rt,
+        rt.alloc(),
+        Answer::Page(Page { rows, total }),
+        200,
+        text,
+    )
+}
+
+#[test]
+fn notices_are_a_text(rt: HostRuntime) -> Result<(), Fail> {
+    let mut rows = NoticeRows::new(rt.alloc());
+    rows.push(NoticeRow {
+        deadline: name("late")?,
+        escalation: name("tell")?,
+        moment: Moment(6000),
+        number: 3,
+        task: TaskId(1),
+    })?;
+    let text = "{\"rows\":[{\"deadline\":\"late\",\"escalation\":\"tell\",\"moment\":6000,\
+                \"number\":3,\"task\":1}],\"total\":1}";
+    let page = NoticePage { rows, total: 1 };
+    is_told(&rt, rt.alloc(), Answer::Notices(page), 200, text)
 }

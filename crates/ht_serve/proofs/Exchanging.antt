@@ -23,7 +23,7 @@ use Rattle.ht_api.specs.declared.refusal.ApiRefusal.{ApiRefusal}
 use Rattle.ht_api.specs.declared.refusal.ApiRefusal.TheVariants as refusal
 use Rattle.ht_api.specs.Events.{event_due}
 use Rattle.ht_api.specs.Refusals.{Gives, refusal_of}
-use Rattle.ht_api.specs.Replies.{IsSheet, answer_text}
+use Rattle.ht_api.specs.Replies.{IsTold, answer_text}
 use Rattle.ht_api.specs.Statuses.{refusal_status}
 use Rattle.ht_serve.specs.declared.ending.Ending.{Ending}
 use Rattle.ht_serve.specs.declared.ending.Ending.TheVariants as ending
@@ -50,7 +50,7 @@ module _ (Made : List Call → Type 0) (Spent : Type 0) where
     text_is = text_is;
   }
 
-  pub answers_unshown : {E : Type 0} (e : Event) (reply : Reply) (result : Result ℕ E) (text : List ℕ) → Made (call_made e reply ∷ []) → IsErr result → IsSheet reply.answer → Answers Made Spent (Ok e) (status_or result) (text_or result text)
+  pub answers_unshown : {E : Type 0} (e : Event) (reply : Reply) (result : Result ℕ E) (text : List ℕ) → Made (call_made e reply ∷ []) → IsErr result → IsTold reply.answer → Answers Made Spent (Ok e) (status_or result) (text_or result text)
   answers_unshown e reply (Ok status) text made err sheet = absurd (cc)
   answers_unshown e reply (Err x) text made err sheet = record {
     outcome = not_shown (call_made e reply);

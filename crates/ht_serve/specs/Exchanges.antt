@@ -11,7 +11,7 @@ use Rattle.ht_wire.specs.Replies.{reply_bytes}
 use Rattle.ht_api.specs.declared.refusal.ApiRefusal.{ApiRefusal}
 use Rattle.ht_api.specs.Events.{event_due}
 use Rattle.ht_api.specs.Refusals.{Gives, refusal_of}
-use Rattle.ht_api.specs.Replies.{IsSheet, answer_text}
+use Rattle.ht_api.specs.Replies.{IsTold, answer_text}
 use Rattle.ht_api.specs.Statuses.{refusal_status}
 use Rattle.ht_serve.specs.Calls.{Call}
 use Rattle.ht_serve.specs.Closing.{closes_at}
@@ -37,7 +37,7 @@ pub record Exchange : Type 0 where
 abbrev pub IsOutcome : Result Event ApiRefusal → Outcome → Type 0
 IsOutcome due (refused why) = Gives due (Err why)
 IsOutcome due (answered c) = Ok c.event ≡ due
-IsOutcome due (not_shown c) = (Ok c.event ≡ due) × IsSheet c.reply.answer
+IsOutcome due (not_shown c) = (Ok c.event ≡ due) × IsTold c.reply.answer
 IsOutcome due (turned_away e) = Ok e ≡ due
 
 -- the status and the text of the reply

@@ -1,6 +1,7 @@
 use Rattle.std.proofs.Common.{◌≡◌}
 use Rattle.matchit.specs.Params.{walk}
-use Rattle.ht_api.specs.Table.{nth_of, values_of}
+use Rattle.ht_api.specs.Routes.{nth_of}
+use Rattle.ht_api.specs.Table.{values_of}
 use Rattle.ht_api.proofs.Ascii.{AreTexts}
 use Rattle.ht_api.proofs.routes.part.Given as goal
 

@@ -1,8 +1,7 @@
-use Rattle.std.proofs.Common.{refl}
-use Rattle.matchit.proofs.OnLiterals.{matchit_on_literals}
-use Rattle.ht_api.specs.Table.{table}
+use Rattle.std.proofs.Common.{◌∙◌, sym}
+use Rattle.ht_api.specs.Table.{table, with_paths}
 use Rattle.ht_api.proofs.routes.table_router.Goals as goal
 
 pub returns : goal.returns
-unfolding matchit_on_literals table
-returns c = rw (c.in_ok-insert-3.ensures.1, c.in_ok-insert-2.ensures.1, c.in_ok-insert.ensures.1, c.new-router.ensures) refl
+unfolding table
+returns c = sym c.in_ok-insert_all.ensures ∙ (λ i. with_paths (c.all_paths-paths.ensures i) (c.new-router.ensures i))

@@ -2,7 +2,8 @@ use Rattle.std.proofs.Common.{◌∙◌, None, ap, ap₂, sym}
 use Rattle.std.proofs.lemmas.Str.{IsUtf8-from_ascii}
 use Rattle.matchit.specs.Params.{walk}
 use Rattle.matchit.specs.Seek.{first}
-use Rattle.ht_api.specs.Table.{place_at, values_of}
+use Rattle.ht_api.specs.Routes.{place_at}
+use Rattle.ht_api.specs.Table.{values_of}
 use Rattle.ht_api.proofs.Routing.{place_found}
 use Rattle.ht_api.proofs.routes.Routes.place_in.Goals as goal
 

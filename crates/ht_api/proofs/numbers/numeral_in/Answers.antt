@@ -1,7 +1,7 @@
 use Rattle.std.proofs.Common.{◌∙◌, ap, sym}
 use Rattle.ht_api.specs.Numbers.{is_numeral}
 use Rattle.ht_api.proofs.Numerals.{reads, reads_none}
-use Rattle.ht_api.proofs.numbers.task_in.Goals as goal
+use Rattle.ht_api.proofs.numbers.numeral_in.Goals as goal
 
 pub returns-in-Ok : goal.returns-in-Ok
 returns-in-Ok c =
