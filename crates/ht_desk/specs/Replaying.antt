@@ -1,9 +1,6 @@
 -- What records lead to, one after another, and which records are those of an office.
-use Rattle.std.specs.Prelude.{◌≡◌, ℕ, ◌==◌, Bool, false, List, [], ◌∷◌, Ok}
-use Rattle.ht_base.specs.declared.event.Event.{Event}
-use Rattle.ht_base.specs.declared.event.Event.TheVariants.{Ask, Turn}
+use Rattle.std.specs.Prelude.{◌≡◌, ℕ, List, [], ◌∷◌, Ok}
 use Rattle.ht_base.specs.declared.record.Record.{Record}
-use Rattle.ht_base.specs.declared.record.Record.TheVariants as records
 use Rattle.ht_base.specs.Records.{RecordOf, record_of}
 use Rattle.ht_base.specs.Records.RecordOf.{an_opening}
 use Rattle.ht_machine.specs.History as machine
@@ -14,12 +11,6 @@ use Rattle.ht_tree.specs.Tables.{TablesOf, empty_tables}
 -- A record is applied to tables: on them its own event leaves just this record. An Opening is of no event.
 abbrev pub Applies : TablesOf → RecordOf → TablesOf → Type 0
 Applies old r new = (kept : Record) × (record_of kept ≡ r) × machine.Applies old kept new
-
--- a record is of the event's kind, and of its moment
-abbrev pub is_at : Record → Event → Bool
-is_at (records.Turn at) (Turn moment) = at.0 == moment.0
-is_at (records.Asked at caller retry task command) (Ask moment asker number asked what) = at.0 == moment.0
-is_at left event = false
 
 -- one after another
 abbrev pub Replays : TablesOf → List RecordOf → TablesOf → Type 0

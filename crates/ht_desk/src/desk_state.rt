@@ -1,3 +1,5 @@
+ghost use Rattle.std.specs.Prelude.{◌≡◌};
+
 use crate::{Counts, Doubt};
 use ht_journal::JournalState;
 use ht_tree::Tables;
@@ -11,4 +13,13 @@ pub struct DeskState {
     pub(crate) tables: Tables,
     pub(crate) doubt: Option<Doubt>,
     pub(crate) counts: Counts,
+}
+
+impl DeskState {
+    /// The tables.
+    pub fn tables(&self) -> &Tables
+        ensures { result.now ≡ self.now.tables }
+    {
+        &self.tables
+    }
 }

@@ -4,21 +4,19 @@ ghost use Rattle.ht_codec.specs.Records.{IsRecord, Spells};
 ghost use Rattle.ht_desk.specs.Opening.{FailsNext};
 ghost use Rattle.ht_desk.specs.Faults.{ComesWhere};
 ghost use Rattle.ht_desk.specs.Records.{IsSpelled, spelling};
-ghost use Rattle.ht_desk.specs.Replaying.{Applies, is_at};
+ghost use Rattle.ht_desk.specs.Replaying.{Applies};
 ghost use Rattle.ht_journal.specs.Bodies.{IsNth};
 ghost use Rattle.ht_journal.specs.declared.limits.TheConstants.{LONGEST_BODY};
 ghost use Rattle.ht_journal.specs.Keeping.{IsKept};
 ghost use Rattle.ht_journal.specs.Quiet.{IsQuiet};
 ghost use Rattle.ht_journal.specs.Rooms.{IsRoomy};
-ghost use Rattle.ht_machine.specs.Deciding.{last_after};
-ghost use Rattle.ht_machine.specs.History.{event_of};
 ghost use Rattle.ht_tree.specs.Tables.{TablesOf};
 
 use crate::OpenFault;
 use crate::kept::record_of;
-use ht_base::{Event, Moment, Record};
+use ht_base::Record;
 use ht_journal::JournalState;
-use ht_machine::{Decision, decide, one_outcome};
+use ht_machine::apply;
 use ht_outside::Disk;
 use ht_tree::Tables;
 use std::alloc::Global;
@@ -68,83 +66,24 @@ pub(crate) fn replay_one<D: Disk>(
         Ok(kept) => kept,
         Err(fault) => return Err(fault),
     };
-    match replay_record(alloc, tables, n, kept) {
+    match replay_record(alloc, tables, n, &kept) {
         Ok(()) => Ok(size),
         Err(fault) => Err(fault),
     }
 }
 
-// Replays a record. What its event leaves has its parts, so that kind and moment alone are compared.
-fn replay_record(alloc: Global, tables: &mut Tables, n: u32, kept: Record) -> Result<(), OpenFault>
-    requires { IsRecord (record_of kept) }
-    ensures applied { OnOk result (Applies tables.old.tables (record_of kept) tables.new.tables) }
+// Replays a record.
+fn replay_record(alloc: Global, tables: &mut Tables, n: u32, kept: &Record) -> Result<(), OpenFault>
+    requires { IsRecord (record_of kept.now) }
+    ensures applied { OnOk result
+        (Applies tables.old.tables (record_of kept.now) tables.new.tables) }
     ensures refused { IfErr result (λ fault.
         (fault ≡ OpenFault.Memory)
-        ⊎ (((u : TablesOf) → Applies tables.old.tables (record_of kept) u → ⊥)
+        ⊎ (((u : TablesOf) → Applies tables.old.tables (record_of kept.now) u → ⊥)
         × (fault ≡ OpenFault.RecordRefused n))) }
 {
-    one_outcome();
-    let Some(event) = event_of(kept) else {
-        return Err(OpenFault::RecordRefused(n));
-    };
-    tables.last();
-    let Decision {
-        plan,
-        left,
-        reply: _,
-    } = decide(alloc, tables, &event)?;
-    let Some(left) = left else {
-        return Err(OpenFault::RecordRefused(n));
-    };
-    if !is_at(&left, &event) {
+    if !apply(alloc, tables, kept)? {
         return Err(OpenFault::RecordRefused(n));
     }
-    let at = moment_of(&left, tables);
-    tables.commit(plan, at);
     Ok(())
-}
-
-// The event that a record is of.
-fn event_of(kept: Record) -> Option<Event>
-    ensures { result ≡ event_of kept }
-{
-    match kept {
-        Record::Opening { .. } => None,
-        Record::Turn { at } => Some(Event::Turn { at }),
-        Record::Asked {
-            at,
-            caller,
-            retry,
-            task,
-            command,
-        } => Some(Event::Ask {
-            at,
-            caller,
-            retry,
-            task,
-            command,
-        }),
-    }
-}
-
-// Whether a record is of the event's kind and moment.
-fn is_at(left: &Record, event: &Event) -> bool
-    ensures { result ≡ is_at left.now event.now }
-{
-    match left {
-        Record::Opening { .. } => false,
-        Record::Turn { at } => matches!(event, Event::Turn { at: moment } if at.0 == moment.0),
-        Record::Asked { at, .. } =>
-            matches!(event, Event::Ask { at: moment, .. } if at.0 == moment.0),
-    }
-}
-
-/// The last moment of the tables behind a record.
-pub(crate) fn moment_of(kept: &Record, tables: &Tables) -> Moment
-    ensures { result.0 ≡ last_after tables.now.tables (Some kept.now) }
-{
-    match kept {
-        Record::Turn { at } | Record::Asked { at, .. } => *at,
-        Record::Opening { .. } => tables.last(),
-    }
 }

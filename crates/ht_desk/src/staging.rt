@@ -6,11 +6,10 @@ ghost use Rattle.ht_desk.specs.States.{is_asking};
 ghost use Rattle.ht_desk.specs.Steps.{store_reply};
 
 use crate::entry::{Entry, Staged};
-use crate::replaying::moment_of;
 use crate::{DeskState, Doubt};
 use ht_base::{Event, Memory, Record};
 use ht_codec::write;
-use ht_machine::{Decision, decide};
+use ht_machine::{Decision, decide, moment_behind};
 use ht_tree::Tables;
 use std::alloc::Global;
 
@@ -39,7 +38,7 @@ fn stage(alloc: Global, tables: &mut Tables, event: &Event) -> Result<Staged, Me
         return Ok(Staged { reply, entry: None });
     };
     let body = write(alloc, &record)?;
-    let at = moment_of(&record, tables);
+    let at = moment_behind(&record, tables);
     let asked = is_asking(&record);
     let doubt = Doubt { plan, at, asked };
     Ok(Staged {

@@ -1,3 +1,4 @@
+mod AppliedAgain
 mod Asked
 mod BehindTurn
 mod Coming

@@ -1,11 +1,11 @@
 -- That a plan makes what is decided.
-use Rattle.std.specs.Prelude.{◌≡◌, ◌≤◌, ℕ, List, Option, Some, None, IfSome, Result, Ok, Err}
+use Rattle.std.specs.Prelude.{◌≡◌, ◌==◌, ◌≤◌, ℕ, Bool, false, List, Option, Some, None, IfSome, Result, Ok, Err}
 use Rattle.ht_base.specs.declared.event.Command.{Command}
 use Rattle.ht_base.specs.declared.event.Event.{Event}
 use Rattle.ht_base.specs.declared.event.Event.TheVariants as event
 use Rattle.ht_base.specs.declared.moment.Moment.{Moment}
 use Rattle.ht_base.specs.declared.record.Record.{Record}
-use Rattle.ht_base.specs.declared.record.Record.TheVariants.{Turn}
+use Rattle.ht_base.specs.declared.record.Record.TheVariants.{Asked, Turn}
 use Rattle.ht_base.specs.declared.reply.Answer.{Answer}
 use Rattle.ht_base.specs.declared.reply.Answer.TheVariants.{Refused}
 use Rattle.ht_base.specs.declared.reply.Limit.TheVariants.{Tasks}
@@ -109,6 +109,13 @@ record_by make (left.Commanded at) = Some (make at)
 
 abbrev pub record_in : Event → Left → Option Record
 record_in e l = record_by (record_at e) l
+
+-- which is just this record, where that is of the event: it is of the same kind and moment
+abbrev pub is_of : Left → Record → Bool
+is_of (left.Turned by) (Turn at) = by.0 == at.0
+is_of (left.Commanded by) (Turn at) = by.0 == at.0
+is_of (left.Commanded by) (Asked at caller retry task command) = by.0 == at.0
+is_of l kept = false
 
 -- the plan makes these tables, where this record is left, whose moment is no earlier than the last one
 pub record Makes (t : TablesOf) (p : PlanOf) (left : Option Record) (u : TablesOf) : Type 0 where

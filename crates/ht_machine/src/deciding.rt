@@ -1,5 +1,7 @@
 ghost use Rattle.std.specs.Prelude.{◌≡◌, ◌≤◌, max, IfOk, OnOk};
+ghost use Rattle.ht_base.specs.declared.event.Event.TheVariants.{Turn};
 ghost use Rattle.ht_base.specs.Events.{IsValid};
+ghost use Rattle.ht_base.specs.Moment.{last_moment};
 ghost use Rattle.ht_machine.specs.Deciding.{last_after};
 ghost use Rattle.ht_machine.specs.Once.{ActsOnce};
 ghost use Rattle.ht_machine.specs.Planning as spec;
@@ -73,12 +75,7 @@ fn plan_event(
 {
     let last = tables.last();
     match event {
-        Event::Turn { at } => {
-            let at = effective(last, *at);
-            let taken = turn(alloc, tables, plan, at)?;
-            let answer = Answer::Turned;
-            Ok((Left::by_turn(at, taken), Reply { taken, answer }))
-        }
+        Event::Turn { at } => plan_turn(alloc, tables, plan, *at),
         Event::Ask {
             at,
             caller,
@@ -102,15 +99,33 @@ fn plan_event(
     }
 }
 
+// Plans what is due by a moment.
+pub(crate) fn plan_turn(
+    alloc: Global,
+    tables: &Tables,
+    plan: &mut Plan,
+    at: Moment,
+) -> Result<(Left, Reply), Memory>
+    requires at { at.0 ≤ last_moment }
+    requires plan { plan.old ≡ no_plan }
+    ensures { IfOk result (λ r.
+        Plans tables.now.tables plan.new (Turn at) (record_in (Turn at) r.0) r.1) }
+{
+    let by = effective(tables.last(), at);
+    let taken = turn(alloc, tables, plan, by)?;
+    let answer = Answer::Turned;
+    Ok((Left::by_turn(by, taken), Reply { taken, answer }))
+}
+
 // The moment at which an event acts: its own, and never before the last record.
-fn effective(last: Moment, at: Moment) -> Moment
+pub(crate) fn effective(last: Moment, at: Moment) -> Moment
     ensures { result.0 ≡ max at.0 last.0 }
 {
     last.max(at)
 }
 
 // Plans what is due at the moment of a command, and then the command.
-fn turn_then_ask(
+pub(crate) fn turn_then_ask(
     alloc: Global,
     tables: &Tables,
     plan: &mut Plan,

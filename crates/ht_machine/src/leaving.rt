@@ -1,9 +1,10 @@
-ghost use Rattle.std.specs.Prelude.{◌≡◌, IfOk, None};
+ghost use Rattle.std.specs.Prelude.{◌≡◌, IfOk, None, Some};
 ghost use Rattle.ht_base.specs.declared.event.Event.{Event};
 ghost use Rattle.ht_base.specs.declared.moment.Moment.{Moment};
 ghost use Rattle.ht_base.specs.declared.record.Record.{Record};
 ghost use Rattle.ht_machine.specs.Deciding.{last_after, left_with};
 ghost use Rattle.ht_machine.specs.History.{record_at};
+ghost use Rattle.ht_machine.specs.Planning as spec;
 ghost use Rattle.ht_machine.specs.Planning.{record_by, record_in};
 
 use ht_base::{Event, Memory, Moment, Record};
@@ -40,6 +41,18 @@ impl Left {
             Left::Commanded(at) => Ok(Some(record_at(alloc, at, event)?)),
         }
     }
+
+    /// Whether the record of it is just this one, where this one is of its event.
+    pub(crate) fn is_of(self, kept: &Record) -> bool
+        ensures { result ≡ spec.is_of self kept.now }
+    {
+        match kept {
+            Record::Opening { .. } => false,
+            Record::Turn { at } =>
+                matches!(self, Left::Turned(by) | Left::Commanded(by) if by.0 == at.0),
+            Record::Asked { at, .. } => matches!(self, Left::Commanded(by) if by.0 == at.0),
+        }
+    }
 }
 
 /// The last moment of the tables behind what an event left: that of its record, if there is one.
@@ -47,8 +60,18 @@ pub fn last_behind(left: &Option<Record>, tables: &Tables) -> Moment
     ensures { result.0 ≡ last_after tables.now.tables left.now }
 {
     match left {
-        Some(Record::Turn { at }) | Some(Record::Asked { at, .. }) => *at,
-        Some(Record::Opening { .. }) | None => tables.last(),
+        Some(kept) => moment_behind(kept, tables),
+        None => tables.last(),
+    }
+}
+
+/// The last moment of the tables behind a record.
+pub fn moment_behind(kept: &Record, tables: &Tables) -> Moment
+    ensures { result.0 ≡ last_after tables.now.tables (Some kept.now) }
+{
+    match kept {
+        Record::Turn { at } | Record::Asked { at, .. } => *at,
+        Record::Opening { .. } => tables.last(),
     }
 }
 

@@ -4,6 +4,7 @@
 
 mod ahead;
 mod answering;
+mod applying;
 mod asking;
 mod commanding;
 mod course;
@@ -19,6 +20,7 @@ mod sending;
 mod taking;
 mod turning;
 
+pub use applying::apply;
 pub use deciding::{Decision, decide};
 pub use laws::{
     a_command_acts_once, a_deadline_is_taken_once, a_last_turn_leaves_the_same,
@@ -26,5 +28,5 @@ pub use laws::{
     a_turn_has_one_end, a_turn_may_come_in_two, an_event_has_an_outcome, one_outcome,
     the_machine_refuses_by_the_tables, the_timer_changes_no_answer, what_is_left_is_of_its_moment,
 };
-pub use leaving::last_behind;
+pub use leaving::{last_behind, moment_behind};
 pub use turning::turn;

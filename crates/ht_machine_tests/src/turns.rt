@@ -1,11 +1,12 @@
 ghost use Rattle.std.specs.Prelude.{◌≤◌, IfOk, IfSome};
 ghost use Rattle.ht_base.specs.Events.{IsValid};
 ghost use Rattle.ht_base.specs.Moment.{last_moment};
+ghost use Rattle.ht_machine.specs.History.{event_of};
 
 use ht_base::{
     Answer, Command, End, Event, LAST, Moment, Name, Parts, Person, Record, Refusal, TaskId,
 };
-use ht_machine::{Decision, decide, last_behind, turn};
+use ht_machine::{Decision, apply, decide, last_behind, turn};
 use ht_models::Models;
 use ht_people::Directory;
 use ht_samples::{MODELS, PEOPLE};
@@ -238,5 +239,47 @@ fn a_turn_is_planned(rt: HostRuntime) -> Result<(), Fail> {
     outcome_of(rt.alloc(), &mut tables, "1000 dan create timed")?;
     let mut plan = Plan::begin(rt.alloc())?;
     assert_eq!(rt; turn(rt.alloc(), &tables, &mut plan, Moment(11_000))?, 2);
+    Ok(())
+}
+
+// A create by dan, as it is kept.
+fn created_at(alloc: Global, at: Moment) -> Result<Record, Fail>
+    requires { at.0 ≤ last_moment }
+    ensures { IfOk result (λ kept. IfSome (event_of kept) IsValid) }
+{
+    let caller = Name::of(b"dan").ok_or("a name")?;
+    let command = Command::Create {
+        model: Name::of(b"solo"),
+        input: Parts::new(alloc),
+        activate_at: None,
+    };
+    Ok(Record::Asked {
+        at,
+        caller,
+        retry: None,
+        task: TaskId(0),
+        command,
+    })
+}
+
+#[test]
+fn a_record_is_applied_where_its_event_leaves_it(rt: HostRuntime) -> Result<(), Fail> {
+    let alloc = rt.alloc();
+    let mut tables = tables_of(alloc)?;
+    let at = Moment(1000);
+    assert!(rt;
+        !apply(alloc, &mut tables, &Record::Turn { at })?,
+        "nothing was due"
+    );
+    assert!(rt;
+        apply(alloc, &mut tables, &created_at(alloc, at)?)?,
+        "a create"
+    );
+    let earlier = created_at(alloc, Moment(999))?;
+    assert!(rt;
+        !apply(alloc, &mut tables, &earlier)?,
+        "the event acts at 1000"
+    );
+    assert!(rt; tables.rows() == 1, "one task");
     Ok(())
 }

@@ -14,7 +14,7 @@ write-requires c =
 pub returns-clause-staged : goal.returns-clause-staged
 returns-clause-staged c =
     let left : c.in_ok-plan.field-0.left ≡ Some c.in-Some.record = cc in
-    staged_by c.decide.new.tables c.args.event.now c.in_ok-plan.field-0 c.in_ok-plan.ensures.decides c.in-Some.record left c.in_ok-body.body c.in_ok-body.ensures c.moment_of-at.result c.moment_of-at.ensures c.is_asking-asked.result c.is_asking-asked.ensures
+    staged_by c.decide.new.tables c.args.event.now c.in_ok-plan.field-0 c.in_ok-plan.ensures.decides c.in-Some.record left c.in_ok-body.body c.in_ok-body.ensures c.moment_behind-at.result c.moment_behind-at.ensures c.is_asking-asked.result c.is_asking-asked.ensures
 
 pub returns-in_default-clause-not_store : goal.returns-in_default-clause-not_store
 returns-in_default-clause-not_store c =
