@@ -30,4 +30,4 @@ exact a b e =
     let p = exact_unsigned a.priority b.priority one.0 in
     let c = exact_unsigned a.created.0 b.created.0 two.0 in
     let t = exact_unsigned a.task.0 b.task.0 two.1 in
-    λ i. record { priority = p i; created = record { 0 = c i }; task = record { 0 = t i } }
+    λ i. record { created = record { 0 = c i }; task = record { 0 = t i }; priority = p i }

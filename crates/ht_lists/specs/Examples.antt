@@ -1,14 +1,11 @@
 -- Worked examples of the definitions. A wrong reading of one fails the check.
-use Rattle.std.specs.Prelude.{◌≡◌, refl, ℕ, Bool, true, false, List, [], ◌∷◌, map, Option, Some, None, codes}
-use Rattle.std.specs.declared.cmp.Ordering.TheVariants.{Less, Equal}
-use Rattle.ht_base.specs.declared.notice_page.NoticePage.{NoticePage}
-use Rattle.ht_base.specs.declared.page.Page.{Page}
+use Rattle.std.specs.Prelude.{◌≡◌, refl, ℕ, true, false, List, [], ◌∷◌, map, Option, Some, None, codes}
+use Rattle.std.specs.declared.cmp.Ordering.TheVariants.{Less}
 use Rattle.ht_base.specs.declared.query.Which.{Which}
 use Rattle.ht_base.specs.declared.query.Which.TheVariants as which
 use Rattle.ht_base.specs.declared.role.Role.{Role}
 use Rattle.ht_base.specs.declared.role.Role.TheVariants as role
 use Rattle.ht_base.specs.declared.role.Roles.{Roles}
-use Rattle.ht_base.specs.declared.state.State.{State}
 use Rattle.ht_base.specs.declared.state.State.TheVariants.{Completed, Created, Error, Exited, Failed, InProgress, Obsolete, Ready, Reserved, SuspendedReady}
 use Rattle.ht_finding.specs.Examples.{office}
 use Rattle.ht_lists.specs.Lists.{compare_rows, is_in_role, is_shown, notice_page_of, page_of, part_of, tasks_of}

@@ -1,6 +1,5 @@
 -- A person's tasks (WS-HumanTask 1.1, 7.1.2 "getMyTasks"), and the notifications that a person has got.
 use Rattle.std.specs.Prelude.{ℕ, ◌+◌, Bool, true, ◌&&◌, ◌||◌, not, List, [], ◌∷◌, drop, filter, length, map, take, Option, Some, None, if◌then◌else◌}
-use Rattle.std.specs.Ordering.{nat_cmp, ordering_then}
 use Rattle.std.specs.declared.cmp.Ordering.{Ordering}
 use Rattle.ht_base.specs.declared.role.Role.{Role}
 use Rattle.ht_base.specs.declared.role.Roles.{Roles}
@@ -15,6 +14,7 @@ use Rattle.ht_base.specs.declared.notice_page.NoticePage.{NoticePage}
 use Rattle.ht_base.specs.declared.notice_page.NoticeRow.{NoticeRow}
 use Rattle.ht_base.specs.declared.page.Page.{Page}
 use Rattle.ht_base.specs.declared.page.PageRow.{PageRow}
+use Rattle.ht_lists.specs.Keys.{compare_keys, key_of}
 use Rattle.ht_lists.specs.Naming.{name_or_none}
 use Rattle.ht_lists.specs.Sheets.{model_name}
 use Rattle.ht_lists.specs.Sorted.{sorted_by}
@@ -45,9 +45,9 @@ is_listed t person role which row = is_shown which row.state && is_in_role role 
 
 -- ---- in which order
 
--- by priority, of which 0 is the highest, then by age, then by number
+-- by priority, of which 0 is the highest, then by the moment of creation, then by number: as their keys
 abbrev pub compare_rows : Row → Row → Ordering
-compare_rows a b = ordering_then (nat_cmp a.priority b.priority) (ordering_then (nat_cmp a.created.0 b.created.0) (nat_cmp a.task.0 b.task.0))
+compare_rows a b = compare_keys (key_of a) (key_of b)
 
 abbrev pub tasks_of : TablesOf → ℕ → Option Role → Which → List Row
 tasks_of t person role which = sorted_by compare_rows (filter (is_listed t person role which) t.rows)
