@@ -1,0 +1,3 @@
+mod Dates
+mod Pieces
+mod Rows
