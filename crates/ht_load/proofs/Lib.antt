@@ -1,0 +1,5 @@
+mod Callers
+mod Deciding
+mod Histories
+mod Loaded
+mod OneLoad

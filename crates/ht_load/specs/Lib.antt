@@ -1,0 +1,6 @@
+pub mod Answers
+pub mod Draws
+pub mod Examples
+pub mod Loads
+pub mod Requests
+pub mod Sums
