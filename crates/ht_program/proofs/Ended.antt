@@ -17,20 +17,20 @@ use Rattle.ht_program.specs.Attaching.{Attaches, AttachesBoth, Disks}
 use Rattle.ht_program.specs.Attaching.AttachesBoth.{not_first, then_second}
 use Rattle.ht_program.specs.Office.{NotOpenedOn, RunsOver, WorkedInMemory, WorkedOn}
 use Rattle.ht_program.specs.Running.{Streams}
-use Rattle.ht_program.specs.Words.{RunOf}
+use Rattle.ht_program.specs.Words.{WordsOf}
 
 -- ---- in memory
 
-module _ {R : Type 0} (r : Ghosts R) (run : RunOf) (texts : TextsOf) (before after : R) (old new : Streams)
-    (empty : r.gives before ≡ Some []) (room : r.room before ≡ Some run.limit) (unfailed : r.faults before ≡ 0) where
-  pub in_memory : (ending : Ending) → RunsOver r run texts before after old new (Ok ending) → WorkedInMemory run texts old new ending
+module _ {R : Type 0} (r : Ghosts R) (said : WordsOf) (texts : TextsOf) (before after : R) (old new : Streams)
+    (empty : r.gives before ≡ Some []) (room : r.room before ≡ Some said.limit) (unfailed : r.faults before ≡ 0) where
+  pub in_memory : (ending : Ending) → RunsOver r said texts before after old new (Ok ending) → WorkedInMemory said texts old new ending
   in_memory ending runs =
       let mid = runs.1 in
       let opens = runs.2 in
       let st = opens.found 0 in
       let ran = runs.3 0 texts st.state st.at in
-      let bound : st.state.limit ≤ run.limit = (let e = (st.opened).limited in omega (arith, e)) in
-      let roomy : IsRoomy (r.room mid) st.state.limit = record { most = run.limit; is = opens.room ∙ room; enough = bound } in
+      let bound : st.state.limit ≤ said.limit = (let e = (st.opened).limited in omega (arith, e)) in
+      let roomy : IsRoomy (r.room mid) st.state.limit = record { most = said.limit; is = opens.room ∙ room; enough = bound } in
       let safe = ran.4 roomy in
       let none : st.state.faults ≡ 0 = (st.at).failures ∙ ap (λ n. together n 0) (opens.still ∙ unfailed) in
       record {
@@ -41,7 +41,7 @@ module _ {R : Type 0} (r : Ghosts R) (run : RunOf) (texts : TextsOf) (before aft
           spelled = (st.at).spelled;
           found = subst (λ g. IfSome g (AreOfFile texts st.state.records)) empty st.file;
           begun = st.opened;
-          ran = ran.2;
+          did = ran.2;
         };
         no_faults = (none, safe.0 ∙ none);
         none_failed = safe.1;
@@ -56,10 +56,10 @@ module _ {R : Type 0} (r : Ghosts R) (run : RunOf) (texts : TextsOf) (before aft
   same_count now Store safe is = absurd (safe refl)
   same_count now Memory safe is = refl
 
-  pub none_in_memory : (fault : OpenFault) → RunsOver r run texts before after old new (Err fault) → IsOpenFault texts (Some []) 0 0 fault × (new ≡ old)
+  pub none_in_memory : (fault : OpenFault) → RunsOver r said texts before after old new (Err fault) → IsOpenFault texts (Some []) 0 0 fault × (new ≡ old)
   none_in_memory fault runs =
       let opens = runs.0 in
-      let roomy : IsRoomy (r.room before) run.limit = record { most = run.limit; is = room; enough = (omega arith) } in
+      let roomy : IsRoomy (r.room before) said.limit = record { most = said.limit; is = room; enough = (omega arith) } in
       let safe : fault ≢ Store = λ is. opens.in_room roomy (ap Err is) in
       let told = subst (λ g. IsOpenFault texts g (r.faults before) (r.faults after) fault) empty opens.refused in
       (same_count (r.faults after) fault safe (subst (λ n. IsOpenFault texts (Some []) n (r.faults after) fault) unfailed told), runs.1)
@@ -86,9 +86,9 @@ still_begun texts was now same = subst (λ (g : Option (List ℕ)). IfSome was (
 not_store : ◌≡◌ {A = Result (Unit {0}) OpenFault} (Ok tt) (Err Store) → ⊥
 not_store e = cc
 
-module _ {D : Type 0} (d : Ghosts D) (run : RunOf) (texts : TextsOf) (before mid after : Disks D) (old new : Streams)
+module _ {D : Type 0} (d : Ghosts D) (said : WordsOf) (texts : TextsOf) (before mid after : Disks D) (old new : Streams)
     (first : Attaches d before.first mid.first (Ok tt)) (second : Attaches d before.second after.second (Ok tt)) where
-  pub on_disks : (ending : Ending) → RunsOver d run texts mid.first after.first old new (Ok ending) → WorkedOn d run texts before after old new ending
+  pub on_disks : (ending : Ending) → RunsOver d said texts mid.first after.first old new (Ok ending) → WorkedOn d said texts before after old new ending
   on_disks ending runs =
       let opens = runs.2 in
       let st = opens.found (d.faults after.second) in
@@ -102,7 +102,7 @@ module _ {D : Type 0} (d : Ghosts D) (run : RunOf) (texts : TextsOf) (before mid
           spelled = (st.at).spelled;
           found = subst (λ g. IfSome g (AreOfFile texts st.state.records)) first.file st.file;
           begun = st.opened;
-          ran = ran.2;
+          did = ran.2;
         };
         opened_faults = (st.at).failures ∙ ap (λ n. together n (d.faults after.second)) (opens.still ∙ first.still not_store) ∙ ap (together (d.faults before.first)) (second.still not_store);
         last_faults = last.failures;
@@ -113,7 +113,7 @@ module _ {D : Type 0} (d : Ghosts D) (run : RunOf) (texts : TextsOf) (before mid
         second = second.file;
       }
 
-  pub none_on_disks : (fault : OpenFault) → RunsOver d run texts mid.first after.first old new (Err fault) → NotOpenedOn d texts before after fault × (new ≡ old)
+  pub none_on_disks : (fault : OpenFault) → RunsOver d said texts mid.first after.first old new (Err fault) → NotOpenedOn d texts before after fault × (new ≡ old)
   none_on_disks fault runs =
       let opens = runs.0 in (
         record {

@@ -1,4 +1,4 @@
--- Which words the command run is given.
+-- Which text and which number a word is.
 use Rattle.std.proofs.Common.{◌≡◌, ℕ, ◌<◌, Bool, true, false, List, decimal, sym, ap, ◌∙◌, ◌^◌, Some, None, Result, Ok, bytes_eq}
 use Rattle.std.specs.Result.{result_ok}
 use Rattle.std.specs.Str.Parse.{ParsesUnsigned, digits_value}

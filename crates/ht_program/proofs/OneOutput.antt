@@ -30,7 +30,8 @@ use Rattle.ht_program.specs.Folding.{AreAll, Decided, Folds, IsBehind, IsIn, IsO
 use Rattle.ht_program.specs.Folding.Decided.{nothing_left, kept, full}
 use Rattle.ht_program.specs.Inputs.{budget, lasts}
 use Rattle.ht_program.specs.Reading.{Reads}
-use Rattle.ht_program.specs.Words.{RunOf}
+use Rattle.ht_program.specs.Words.{WordsOf}
+use Rattle.ht_program.specs.Words.WorkOf.{serving}
 use Rattle.ht_program.proofs.Said.{one_reading}
 use Rattle.ht_program.proofs.TextStatuses.{same_texts}
 use Rattle.ht_serve.proofs.PublicLaws.{over_later}
@@ -188,29 +189,35 @@ some_records texts records t journal none = let is = ap bodies_of journal.opened
 same_contents : (file : List ℕ) (a b : List (List ℕ)) → contents file ≡ Ok a → contents file ≡ Ok b → a ≡ b
 same_contents file a b p q = cc
 
-same_records : (texts : TextsOf) (file : List ℕ) (a b : OfficeOf) → IsIn texts file a → IsIn texts file b → AreOfFile texts a.records file → AreOfFile texts b.records file → a.records ≡ b.records
+same_records : (texts : TextsOf) (file : List ℕ) (a b : OfficeOf) → IsIn texts (Some file) a → IsIn texts (Some file) b → AreOfFile texts a.records file → AreOfFile texts b.records file → a.records ≡ b.records
 same_records texts file a b p q (inl found) (inl other) = same_bodies a.records b.records p.spelled q.spelled (same_contents file (bodies_of a.records) (bodies_of b.records) found other)
 same_records texts file a b p q (inl found) (inr new) = absurd (some_records texts a.records a.tables p.journal (same_contents file (bodies_of a.records) [] found new.0))
 same_records texts file a b p q (inr new) (inl found) = absurd (some_records texts b.records b.tables q.journal (same_contents file (bodies_of b.records) [] found new.0))
 same_records texts file a b p q (inr new) (inr other) = new.1 ∙ sym other.1
 
-module _ (one_left : (t : TablesOf) (e : Event) (k l : Option Record) (r s : Reply) (u v : TablesOf) → machine.Decides t e k r u → machine.Decides t e l s v → k ≡ l)
-    (one_reply : (t : TablesOf) (e : Event) (k l : Option Record) (r s : Reply) (u v : TablesOf) → machine.Decides t e k r u → machine.Decides t e l s v → r ≡ s)
-    (one_after : (t : TablesOf) (e : Event) (k l : Option Record) (r s : Reply) (u v : TablesOf) → machine.Decides t e k r u → machine.Decides t e l s v → u ≡ v)
-    (one_state : (texts : TextsOf) (records : List RecordOf) (t u : TablesOf) → IsJournalOf texts records t → IsJournalOf texts records u → t ≡ u) where
-  same_office : (texts : TextsOf) (file : List ℕ) (a b : OfficeOf) → IsIn texts file a → IsIn texts file b → a ≡ b
+one_pace : (a b m n : ℕ) → serving a b ≡ serving m n → (a ≡ m) × (b ≡ n)
+one_pace a b m n e = (cc, cc)
+
+module _ (one_state : (texts : TextsOf) (records : List RecordOf) (t u : TablesOf) → IsJournalOf texts records t → IsJournalOf texts records u → t ≡ u) where
+  pub same_office : (texts : TextsOf) (file : List ℕ) (a b : OfficeOf) → IsIn texts (Some file) a → IsIn texts (Some file) b → a ≡ b
   same_office texts file a b p q =
       let records = same_records texts file a b p q p.found q.found in
       let tables = one_state texts b.records a.tables b.tables (subst (λ (l : List RecordOf). IsJournalOf texts l a.tables) records p.journal) q.journal in
       λ i. record { tables = tables i; records = records i }
 
+module _ (one_left : (t : TablesOf) (e : Event) (k l : Option Record) (r s : Reply) (u v : TablesOf) → machine.Decides t e k r u → machine.Decides t e l s v → k ≡ l)
+    (one_reply : (t : TablesOf) (e : Event) (k l : Option Record) (r s : Reply) (u v : TablesOf) → machine.Decides t e k r u → machine.Decides t e l s v → r ≡ s)
+    (one_after : (t : TablesOf) (e : Event) (k l : Option Record) (r s : Reply) (u v : TablesOf) → machine.Decides t e k r u → machine.Decides t e l s v → u ≡ v)
+    (one_state : (texts : TextsOf) (records : List RecordOf) (t u : TablesOf) → IsJournalOf texts records t → IsJournalOf texts records u → t ≡ u) where
   pub one_output_of : (words : List (List ℕ)) (told : List ℕ → List ℕ) (file bytes a b : List ℕ) → IsOutputOf words told file bytes a → IsOutputOf words told file bytes b → IsRefusedOneWay bytes → a ≡ b
   one_output_of words told file bytes a b x y one_way =
-      let run : y.run ≡ x.run = one_reading words y.run x.run y.said x.said in
-      let reads = subst (λ (r : RunOf). Reads r.texts (Some told) (Ok y.texts)) run y.reads in
-      let texts = same_texts (x.run).texts told y.texts x.texts reads x.reads in
-      let opens = subst (λ (t : TextsOf). IsIn t (file_of (x.run).journal file) y.office) texts (subst (λ (r : RunOf). IsIn y.texts (file_of r.journal file) y.office) run y.opens) in
-      let office = same_office x.texts (file_of (x.run).journal file) y.office x.office opens x.opens in
-      let mine = subst (λ (r : RunOf). IsOutput (Decided r.limit) (moment_of r.from r.step) budget y.office bytes b) run y.output in
-      let other = subst (λ (o : OfficeOf). IsOutput (Decided (x.run).limit) (moment_of (x.run).from (x.run).step) budget o bytes b) office mine in
-      one_output (x.run).limit one_left one_reply one_after (moment_of (x.run).from (x.run).step) budget x.office bytes a b x.output other one_way
+      let said : y.said ≡ x.said = one_reading words y.said x.said y.said_is x.said_is in
+      let pace = one_pace y.from y.step x.from x.step (sym y.serves ∙ ap (λ (w : WordsOf). w.work) said ∙ x.serves) in
+      let reads = subst (λ (w : WordsOf). Reads w.texts (Some told) (Ok y.texts)) said y.reads in
+      let texts = same_texts (x.said).texts told y.texts x.texts reads x.reads in
+      let opens = subst (λ (t : TextsOf). IsIn t (Some (file_of (x.said).journal file)) y.office) texts (subst (λ (w : WordsOf). IsIn y.texts (Some (file_of w.journal file)) y.office) said y.opens) in
+      let office = same_office one_state x.texts (file_of (x.said).journal file) y.office x.office opens x.opens in
+      let mine = subst (λ (w : WordsOf). IsOutput (Decided w.limit) (moment_of y.from y.step) budget y.office bytes b) said y.output in
+      let paced = subst (λ (n : ℕ). IsOutput (Decided (x.said).limit) (moment_of x.from n) budget y.office bytes b) pace.1 (subst (λ (n : ℕ). IsOutput (Decided (x.said).limit) (moment_of n y.step) budget y.office bytes b) pace.0 mine) in
+      let other = subst (λ (o : OfficeOf). IsOutput (Decided (x.said).limit) (moment_of x.from x.step) budget o bytes b) office paced in
+      one_output (x.said).limit one_left one_reply one_after (moment_of x.from x.step) budget x.office bytes a b x.output other one_way

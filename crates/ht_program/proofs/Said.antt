@@ -1,10 +1,11 @@
 -- What words say is one.
-use Rattle.std.proofs.Common.{◌≡◌, ◌∙◌, ℕ, ◌<◌, ◌^◌, List, ◌∷◌, codes, Option, Some, None, IfNone, option_map, refl, sym, ap, subst, arith}
+use Rattle.std.proofs.Common.{◌≡◌, ◌∙◌, ℕ, ◌<◌, ◌-◌, ◌^◌, List, ◌∷◌, codes, Option, Some, None, IfNone, option_map, refl, sym, ap, subst, arith}
 use Rattle.ht_base.specs.Moment.{last_moment}
 use Rattle.ht_desk.specs.declared.limits.TheConstants.{GREATEST_LIMIT, LEAST_LIMIT}
 use Rattle.ht_program.specs.declared.command.Named.{Named}
 use Rattle.ht_program.specs.Named.{pair_of}
-use Rattle.ht_program.specs.Words.{AreTexts, IsLimitOf, IsNumber, IsRun, RunOf, value_of}
+use Rattle.ht_program.specs.Words.{AreTexts, AreWords, Gives, IsAsked, IsLimitOf, IsNumber, WordsOf, WorkOf, most_loaded, value_of}
+use Rattle.ht_program.specs.Words.WorkOf.{checking, exporting, loading, serving}
 use Rattle.ht_program.proofs.Grammar.{same_number}
 
 same_texts : (a b : Option (List ℕ)) (x y : Option (List ℕ × List ℕ)) → AreTexts a b x → AreTexts a b y → x ≡ y
@@ -26,44 +27,86 @@ same_limit : (journal word : Option (List ℕ)) (m n : ℕ) → IsLimitOf journa
 same_limit journal None m n p q = p ∙ sym q
 same_limit journal (Some word) m n p q = one_number LEAST_LIMIT GREATEST_LIMIT m n word (omega arith) p q
 
-same_rest : (words a b : List (List ℕ)) (command : List ℕ) → words ≡ command ∷ a → words ≡ command ∷ b → a ≡ b
-same_rest words a b command e f = cc
-
 same_word : (given : Option (List ℕ)) (a b : List ℕ) → given ≡ Some a → given ≡ Some b → a ≡ b
 same_word given a b e f = cc
 
--- of the same options
-module _ (words : List (List ℕ)) (run other : RunOf) (p : IsRun words run) (q : IsRun words other) where
-  options_are : p.options ≡ q.options
-  options_are = same_rest words p.options q.options (codes "run") p.words_are q.words_are
+-- an option gives one number
+one_given : (name : List ℕ) (most : ℕ) (options : List (List ℕ)) (m n : ℕ) → most < 2 ^ 64 → Gives name 0 most options m → Gives name 0 most options n → m ≡ n
+one_given name most options m n small p q =
+    one_number 0 most m n q.word small (subst (λ (w : List ℕ). IsNumber 0 most w m) (same_word (value_of name options) p.word q.word p.given q.given) p.number) q.number
 
-  given : (name word : List ℕ) → value_of name p.options ≡ Some word → value_of name q.options ≡ Some word
-  given name word is = ap (value_of name) (sym options_are) ∙ is
+-- ---- what is asked by a command
 
-  moments : (name a b : List ℕ) (m n : ℕ) → value_of name p.options ≡ Some a → value_of name q.options ≡ Some b → IsNumber 0 last_moment a m → IsNumber 0 last_moment b n → m ≡ n
-  moments name a b m n is was first second =
-      let same = same_word (value_of name q.options) b a was (given name a is) in
-      one_number 0 last_moment m n a (omega arith) first (subst (λ (w : List ℕ). IsNumber 0 last_moment w n) same second)
+pub of_run : (options : List (List ℕ)) (w : WorkOf) (P : WorkOf → Type 0) → ((from step : ℕ) → IsAsked (codes "run") options (serving from step) → P (serving from step)) → IsAsked (codes "run") options w → P w
+of_run options (serving from step) P made is = made from step is
+of_run options checking P made is = let named = is.named in absurd (cc)
+of_run options exporting P made is = let named = is.named in absurd (cc)
+of_run options (loading seed count) P made is = let named = is.named in absurd (cc)
 
-  texts_are : run.texts ≡ other.texts
+pub of_check : (options : List (List ℕ)) (w : WorkOf) (P : WorkOf → Type 0) → (IsAsked (codes "check") options checking → P checking) → IsAsked (codes "check") options w → P w
+of_check options (serving from step) P made is = let named = is.named in absurd (cc)
+of_check options checking P made is = made is
+of_check options exporting P made is = let named = is.named in absurd (cc)
+of_check options (loading seed count) P made is = let named = is.named in absurd (cc)
+
+pub of_export : (options : List (List ℕ)) (w : WorkOf) (P : WorkOf → Type 0) → (IsAsked (codes "export") options exporting → P exporting) → IsAsked (codes "export") options w → P w
+of_export options (serving from step) P made is = let named = is.named in absurd (cc)
+of_export options checking P made is = let named = is.named in absurd (cc)
+of_export options exporting P made is = made is
+of_export options (loading seed count) P made is = let named = is.named in absurd (cc)
+
+pub of_load : (options : List (List ℕ)) (w : WorkOf) (P : WorkOf → Type 0) → ((seed count : ℕ) → IsAsked (codes "load") options (loading seed count) → P (loading seed count)) → IsAsked (codes "load") options w → P w
+of_load options (serving from step) P made is = let named = is.named in absurd (cc)
+of_load options checking P made is = let named = is.named in absurd (cc)
+of_load options exporting P made is = let named = is.named in absurd (cc)
+of_load options (loading seed count) P made is = made seed count is
+
+-- a command with its options asks for one work
+same_work : (command : List ℕ) (options : List (List ℕ)) (w other : WorkOf) → IsAsked command options w → IsAsked command options other → w ≡ other
+same_work command options (serving from step) other p q =
+    of_run options other (λ v. serving from step ≡ v) (λ f s is.
+    let said = p.said in
+    let also = is.said in
+    ap (λ (n : ℕ). serving n step) (one_given (codes "--from") last_moment options from f (omega arith) said.0 also.0)
+    ∙ ap (λ (n : ℕ). serving f n) (one_given (codes "--step") last_moment options step s (omega arith) said.1 also.1)) (subst (λ (c : List ℕ). IsAsked c options other) p.named q)
+same_work command options checking other p q = of_check options other (λ v. checking ≡ v) (λ is. refl) (subst (λ (c : List ℕ). IsAsked c options other) p.named q)
+same_work command options exporting other p q = of_export options other (λ v. exporting ≡ v) (λ is. refl) (subst (λ (c : List ℕ). IsAsked c options other) p.named q)
+same_work command options (loading seed count) other p q =
+    of_load options other (λ v. loading seed count ≡ v) (λ s n is.
+    let said = p.said in
+    let also = is.said in
+    ap (λ (m : ℕ). loading m count) (one_given (codes "--seed") (2 ^ 64 - 1) options seed s (omega arith) said.0 also.0)
+    ∙ ap (λ (m : ℕ). loading s m) (one_given (codes "--count") most_loaded options count n (omega arith) said.1 also.1)) (subst (λ (c : List ℕ). IsAsked c options other) p.named q)
+
+-- ---- what the same words say
+
+same_command : (words : List (List ℕ)) (a b : List ℕ) (os ps : List (List ℕ)) → words ≡ a ∷ os → words ≡ b ∷ ps → (a ≡ b) × (os ≡ ps)
+same_command words a b os ps e f = (cc, cc)
+
+module _ (words : List (List ℕ)) (said other : WordsOf) (p : AreWords words said) (q : AreWords words other) where
+  same : (p.command ≡ q.command) × (p.options ≡ q.options)
+  same = same_command words p.command q.command p.options q.options p.words_are q.words_are
+
+  work_is : said.work ≡ other.work
+  work_is =
+      same_work q.command q.options said.work other.work (subst (λ (os : List (List ℕ)). IsAsked q.command os said.work) same.1 (subst (λ (c : List ℕ). IsAsked c p.options said.work) same.0 p.work_is)) q.work_is
+
+  texts_are : said.texts ≡ other.texts
   texts_are =
-      let P : List (List ℕ) → Type 0 = λ os. AreTexts (value_of (codes "--models") os) (value_of (codes "--people") os) run.texts in
-      same_texts _ _ run.texts other.texts (subst P options_are p.texts_are) q.texts_are
+      let P : List (List ℕ) → Type 0 = λ os. AreTexts (value_of (codes "--models") os) (value_of (codes "--people") os) said.texts in
+      same_texts _ _ said.texts other.texts (subst P same.1 p.texts_are) q.texts_are
 
-  journal_is : run.journal ≡ other.journal
-  journal_is = sym p.journal_is ∙ ap (value_of (codes "--journal")) options_are ∙ q.journal_is
+  journal_is : said.journal ≡ other.journal
+  journal_is = sym p.journal_is ∙ ap (value_of (codes "--journal")) same.1 ∙ q.journal_is
 
-  limit_is : run.limit ≡ other.limit
+  limit_is : said.limit ≡ other.limit
   limit_is =
-      let P : List (List ℕ) → Type 0 = λ os. IsLimitOf run.journal (value_of (codes "--limit") os) run.limit in
-      let mine = subst (λ (j : Option (List ℕ)). IsLimitOf j (value_of (codes "--limit") q.options) run.limit) journal_is (subst P options_are p.limit_is) in
-      same_limit other.journal (value_of (codes "--limit") q.options) run.limit other.limit mine q.limit_is
+      let P : List (List ℕ) → Type 0 = λ os. IsLimitOf said.journal (value_of (codes "--limit") os) said.limit in
+      let mine = subst (λ (j : Option (List ℕ)). IsLimitOf j (value_of (codes "--limit") q.options) said.limit) journal_is (subst P same.1 p.limit_is) in
+      same_limit other.journal (value_of (codes "--limit") q.options) said.limit other.limit mine q.limit_is
 
-  pub one_reading : run ≡ other
-  one_reading =
-      let from = moments (codes "--from") p.from_word q.from_word run.from other.from p.from_given q.from_given p.from_is q.from_is in
-      let step = moments (codes "--step") p.step_word q.step_word run.step other.step p.step_given q.step_given p.step_is q.step_is in
-      λ i. record { from = from i; step = step i; texts = texts_are i; journal = journal_is i; limit = limit_is i }
+  pub one_reading : said ≡ other
+  one_reading = λ i. record { work = work_is i; texts = texts_are i; journal = journal_is i; limit = limit_is i }
 
 -- without names nothing is asked of the texts
 pub no_names : (names : Option Named) (P : Type 0) → option_map pair_of names ≡ None → IfNone names P → P

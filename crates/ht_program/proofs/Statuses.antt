@@ -9,9 +9,13 @@ use Rattle.ht_desk.specs.Replaying.{Begins, TextsOf}
 use Rattle.ht_desk.specs.States.{State}
 use Rattle.ht_journal.specs.Bodies.{IsNth}
 use Rattle.ht_journal.proofs.PublicLaws.{contents_short}
+use Rattle.ht_models.specs.Model.{ModelOf}
+use Rattle.ht_models.specs.Reading as models_text
 use Rattle.ht_models.specs.Refusals as models_wrong
 use Rattle.ht_outside.specs.Causes.{Rose}
 use Rattle.ht_outside.specs.declared.disk.Disk.{Ghosts}
+use Rattle.ht_people.specs.Directory.{DirectoryOf}
+use Rattle.ht_people.specs.Reading as people_text
 use Rattle.ht_people.specs.Refusals as people_wrong
 use Rattle.ht_serve.specs.declared.ending.Ending.{Ending}
 use Rattle.ht_serve.specs.declared.ending.Ending.TheVariants as ending
@@ -20,11 +24,16 @@ use Rattle.ht_tree.specs.Tables.{TablesOf}
 use Rattle.ht_program.specs.declared.reading.TextsFault.{TextsFault}
 use Rattle.ht_program.specs.declared.reading.TextsFault.TheVariants.{Unread, TooLong, Memory}
 use Rattle.ht_program.specs.Attaching.{Disks}
+use Rattle.ht_program.specs.Folding.{file_told}
 use Rattle.ht_program.specs.Inputs.{IsAnswered, IsStatusOf, budget}
 use Rattle.ht_program.specs.Office.{Outside, Runs, RunsOffice, Worked}
 use Rattle.ht_program.specs.Reading.{AreWrong}
 use Rattle.ht_program.specs.Statuses.{end_status, ending_status, fault_status, missing_status}
-use Rattle.ht_program.specs.Words.{RunOf}
+use Rattle.ht_program.specs.Running.{Streams}
+use Rattle.ht_program.specs.Words.{WordsOf, WorkOf}
+use Rattle.ht_program.specs.Words.WorkOf.{checking, exporting, loading, serving}
+use Rattle.ht_program.specs.Working.{Did}
+use Rattle.ht_program.proofs.Checked.{answered_check, broken_check, of_texts as of_judged}
 use Rattle.ht_program.proofs.InputStatus.{status_of_input}
 
 -- ---- an empty file is at fault in nothing
@@ -52,12 +61,16 @@ empty_file texts why (inr bodies) =
 
 -- ---- texts
 
--- nothing is wrong with texts that an office begins with
+-- nothing is wrong with texts that are read
+pub right_read : (texts : TextsOf) (models : List ModelOf) (people : DirectoryOf) → models_text.Reads texts.models (Ok models) → people_text.Reads texts.people (Ok people) → length texts.models ≤ LONGEST_OFFICE_TEXT → length texts.people ≤ LONGEST_OFFICE_TEXT → AreWrong texts.models texts.people → ⊥
+right_read texts models people m p short few (inl (inl long)) = absurd (omega (arith, short, long))
+right_read texts models people m p short few (inl (inr long)) = absurd (omega (arith, few, long))
+right_read texts models people m p short few (inr (inl holds)) = none_holds (models_wrong.refusals texts.models) holds.0 m.1 holds.1
+right_read texts models people m p short few (inr (inr holds)) = none_holds (people_wrong.refusals texts.people) holds.0 p.1 holds.1
+
+-- and with those that an office begins with
 pub right : (texts : TextsOf) (t : TablesOf) → Begins texts t → length texts.models ≤ LONGEST_OFFICE_TEXT → length texts.people ≤ LONGEST_OFFICE_TEXT → AreWrong texts.models texts.people → ⊥
-right texts t begins short few (inl (inl long)) = absurd (omega (arith, short, long))
-right texts t begins short few (inl (inr long)) = absurd (omega (arith, few, long))
-right texts t begins short few (inr (inl holds)) = none_holds (models_wrong.refusals texts.models) holds.0 (begins.2).1 holds.1
-right texts t begins short few (inr (inr holds)) = none_holds (people_wrong.refusals texts.people) holds.0 (begins.3).1 holds.1
+right texts t begins short few wrong = right_read texts begins.0 begins.1 begins.2 begins.3 short few wrong
 
 -- something is wrong with texts that are refused
 pub bad_models : (texts : TextsOf) (why : _) → IsTextFault texts (fault.Models why) → AreWrong texts.models texts.people
@@ -80,18 +93,31 @@ ending_not ending.Memory n least most is = absurd (omega arith)
 below : (a b n : ℕ) → a ≤ b → Rose b n → Rose a n
 below a b n h r = omega arith
 
-module _ {D : Type 0} (d : Ghosts D) (run : RunOf) (before after : Disks D) (old new : Outside) (status : ℕ) where
+-- a fault of input or output has its cause
+module _ (s t : State) (old new : Streams) where
+  read_rose : (work : WorkOf) → Did work s t old new ending.ReadFault → Rose old.input.faults new.input.faults
+  read_rose (serving from step) did = (did.served).ends.3
+  read_rose checking did = absurd did
+  read_rose exporting did = absurd (did.tells).wrote
+  read_rose (loading seed count) did = absurd (did.tells).wrote
+
+  write_rose : (work : WorkOf) → Did work s t old new ending.WriteFault → Rose old.output.faults new.output.faults
+  write_rose (serving from step) did = ((did.served).ends.1).rose
+  write_rose checking did = absurd did
+  write_rose exporting did = ((did.tells).cause).failed refl
+  write_rose (loading seed count) did = ((did.tells).cause).failed refl
+
+module _ {D : Type 0} (d : Ghosts D) (said : WordsOf) (before after : Disks D) (old new : Outside) (status : ℕ) where
   -- ---- why an office wasn't opened
 
   abbrev pub file : Option (List ℕ) → Option (List ℕ)
-  file None = Some []
-  file (Some name) = d.gives before.first
+  file journal = file_told journal (d.gives before.first)
 
   abbrev pub IsWhy : Option (List ℕ) → TextsOf → OpenFault → Type 0
   IsWhy None texts why = IsOpenFault texts (Some []) 0 0 why
   IsWhy (Some name) texts why = IsOpenFault texts (d.gives before.first) (d.faults before.first) (d.faults after.first) why ⊎ ((why ≡ fault.Store) × Rose (d.faults before.second) (d.faults after.second))
 
-  pub why_of : (journal : Option (List ℕ)) (texts : TextsOf) (why : OpenFault) → Runs d journal run texts before after old.connection new.connection (Err why) → IsWhy journal texts why
+  pub why_of : (journal : Option (List ℕ)) (texts : TextsOf) (why : OpenFault) → Runs d journal said texts before after old.connection new.connection (Err why) → IsWhy journal texts why
   why_of None texts why runs = runs.0
   why_of (Some name) texts why runs = (runs.0).why
 
@@ -130,9 +156,9 @@ module _ {D : Type 0} (d : Ghosts D) (run : RunOf) (before after : Disks D) (old
   pub record HasWorked (journal : Option (List ℕ)) (texts : TextsOf) (e : Ending) : Type 0 where
     pub opened : State
     pub last : State
-    pub worked : Worked run texts (file journal) opened last old.connection new.connection e
+    pub worked : Worked said texts (file journal) opened last old.connection new.connection e
 
-  pub worked_of : (journal : Option (List ℕ)) (texts : TextsOf) (e : Ending) → Runs d journal run texts before after old.connection new.connection (Ok e) → HasWorked journal texts e
+  pub worked_of : (journal : Option (List ℕ)) (texts : TextsOf) (e : Ending) → Runs d journal said texts before after old.connection new.connection (Ok e) → HasWorked journal texts e
   worked_of None texts e runs = record { opened = (runs.0).opened; last = (runs.0).last; worked = (runs.0).worked }
   worked_of (Some name) texts e runs = record { opened = runs.opened; last = runs.last; worked = runs.worked }
 
@@ -156,20 +182,20 @@ module _ {D : Type 0} (d : Ghosts D) (run : RunOf) (before after : Disks D) (old
   end_not_two (Ok e) is = ending_not e 2 (omega arith) (omega arith) is
   end_not_two (Err why) is = fault_not_two why is
 
-  pub not_two : RunsOffice d run before after old new status → status ≢ 2
+  pub not_two : RunsOffice d said before after old new status → status ≢ 2
   not_two (inl ran) two = end_not_two ran.end (sym ran.status_is ∙ two)
   not_two (inr none) two = missing_not_two none.why (sym none.status_is ∙ two)
 
   -- ---- 6
 
-  store_end : (end : Result Ending OpenFault) (texts : TextsOf) → Runs d run.journal run texts before after old.connection new.connection end → end_status end ≡ 6 → (run.journal ≢ None) × (Rose (d.faults before.first) (d.faults after.first) ⊎ Rose (d.faults before.second) (d.faults after.second))
+  store_end : (end : Result Ending OpenFault) (texts : TextsOf) → Runs d said.journal said texts before after old.connection new.connection end → end_status end ≡ 6 → (said.journal ≢ None) × (Rose (d.faults before.first) (d.faults after.first) ⊎ Rose (d.faults before.second) (d.faults after.second))
   store_end (Ok e) texts runs is = absurd (ending_not e 6 (omega arith) (omega arith) is)
   store_end (Err (fault.Models why)) texts runs is = absurd (omega arith)
   store_end (Err (fault.People why)) texts runs is = absurd (omega arith)
   store_end (Err (fault.Damaged at)) texts runs is = absurd (omega arith)
   store_end (Err (fault.RecordRefused n)) texts runs is = absurd (omega arith)
   store_end (Err fault.TextsDiffer) texts runs is = absurd (omega arith)
-  store_end (Err fault.Store) texts runs is = of_store run.journal texts (why_of run.journal texts fault.Store runs)
+  store_end (Err fault.Store) texts runs is = of_store said.journal texts (why_of said.journal texts fault.Store runs)
   store_end (Err fault.Memory) texts runs is = absurd (omega arith)
 
   missing_not_six : (why : TextsFault) → missing_status why ≡ 6 → ⊥
@@ -177,8 +203,8 @@ module _ {D : Type 0} (d : Ghosts D) (run : RunOf) (before after : Disks D) (old
   missing_not_six (TooLong w) e = absurd (omega arith)
   missing_not_six Memory e = absurd (omega arith)
 
-  pub store : RunsOffice d run before after old new status → status ≡ 6 → (run.journal ≢ None) × (Rose (d.faults before.first) (d.faults after.first) ⊎ Rose (d.faults before.second) (d.faults after.second))
-  store (inl ran) six = store_end ran.end ran.texts ran.runs (sym ran.status_is ∙ six)
+  pub store : RunsOffice d said before after old new status → status ≡ 6 → (said.journal ≢ None) × (Rose (d.faults before.first) (d.faults after.first) ⊎ Rose (d.faults before.second) (d.faults after.second))
+  store (inl ran) six = ⊎_elim (λ checked. absurd ((of_judged _ _ ran.end ran.texts checked.1).1 (sym ran.status_is ∙ six))) (λ runs. store_end ran.end ran.texts runs.1 (sym ran.status_is ∙ six)) ran.runs
   store (inr none) six = absurd (missing_not_six none.why (sym none.status_is ∙ six))
 
   -- ---- without a journal
@@ -186,7 +212,7 @@ module _ {D : Type 0} (d : Ghosts D) (run : RunOf) (before after : Disks D) (old
   file_fault : (texts : TextsOf) (why : OpenFault) → IsFileFault texts (Some []) why → ⊥
   file_fault texts why is = empty_file texts why is.1
 
-  in_memory_end : (end : Result Ending OpenFault) (texts : TextsOf) → Runs d None run texts before after old.connection new.connection end → (end_status end ≢ 5) × (after ≡ before)
+  in_memory_end : (end : Result Ending OpenFault) (texts : TextsOf) → Runs d None said texts before after old.connection new.connection end → (end_status end ≢ 5) × (after ≡ before)
   in_memory_end (Ok e) texts runs = ((λ is. ending_not e 5 (omega arith) (omega arith) is), runs.1)
   in_memory_end (Err (fault.Models why)) texts runs = ((λ is. omega arith), runs.2)
   in_memory_end (Err (fault.People why)) texts runs = ((λ is. omega arith), runs.2)
@@ -201,30 +227,30 @@ module _ {D : Type 0} (d : Ghosts D) (run : RunOf) (before after : Disks D) (old
   missing_not_five (TooLong w) e = absurd (omega arith)
   missing_not_five Memory e = absurd (omega arith)
 
-  pub in_memory : RunsOffice d run before after old new status → run.journal ≡ None → (status ≢ 5) × (status ≢ 6) × (after ≡ before)
+  pub in_memory : RunsOffice d said before after old new status → said.journal ≡ None → (status ≢ 5) × (status ≢ 6) × (after ≡ before)
   in_memory (inl ran) none =
-      let P : Option (List ℕ) → Type 0 = λ j. Runs d j run ran.texts before after old.connection new.connection ran.end in
-      let end = in_memory_end ran.end ran.texts (subst P none ran.runs) in
+      let P : Option (List ℕ) → Type 0 = λ j. Runs d j said ran.texts before after old.connection new.connection ran.end in
+      let end : (end_status ran.end ≢ 5) × (after ≡ before) = ⊎_elim (λ checked. ((of_judged _ _ ran.end ran.texts checked.1).0, checked.3)) (λ runs. in_memory_end ran.end ran.texts (subst P none runs.1)) ran.runs in
       ((λ five. end.0 (sym ran.status_is ∙ five)), (λ six. (store (inl ran) six).0 none), end.1)
   in_memory (inr missing) none = ((λ five. missing_not_five missing.why (sym missing.status_is ∙ five)), (λ six. missing_not_six missing.why (sym missing.status_is ∙ six)), missing.untouched.1)
 
   -- ---- without a fault
 
-  answered_end : (end : Result Ending OpenFault) (texts : TextsOf) → Runs d run.journal run texts before after old.connection new.connection end → status ≡ end_status end
+  answered_end : (end : Result Ending OpenFault) (texts : TextsOf) → Runs d said.journal said texts before after old.connection new.connection end → status ≡ end_status end
       → (Rose (d.faults before.first) (d.faults after.first) → ⊥) → (Rose (d.faults before.second) (d.faults after.second) → ⊥)
       → (Rose old.connection.input.faults new.connection.input.faults → ⊥) → (Rose old.connection.output.faults new.connection.output.faults → ⊥) → IsAnswered status
   answered_end (Ok ending.Done) texts runs is first second read write = inl is
   answered_end (Ok (ending.Wire code)) texts runs is first second read write = inr (inl is)
   answered_end (Ok ending.Budget) texts runs is first second read write = inr (inr (inr (inr (inr is))))
-  answered_end (Ok ending.ReadFault) texts runs is first second read write = let w = (worked_of run.journal texts _ runs).worked in absurd (read (w.ran.served).ends.3)
-  answered_end (Ok ending.WriteFault) texts runs is first second read write = let w = (worked_of run.journal texts _ runs).worked in absurd (write ((w.ran.served).ends.1).rose)
+  answered_end (Ok ending.ReadFault) texts runs is first second read write = let has = worked_of said.journal texts _ runs in absurd (read (read_rose has.opened has.last old.connection new.connection said.work (has.worked).did))
+  answered_end (Ok ending.WriteFault) texts runs is first second read write = let has = worked_of said.journal texts _ runs in absurd (write (write_rose has.opened has.last old.connection new.connection said.work (has.worked).did))
   answered_end (Ok ending.Memory) texts runs is first second read write = inr (inr (inr (inr (inl is))))
   answered_end (Err (fault.Models why)) texts runs is first second read write = inr (inr (inl is))
   answered_end (Err (fault.People why)) texts runs is first second read write = inr (inr (inl is))
   answered_end (Err (fault.Damaged at)) texts runs is first second read write = inr (inr (inr (inl is)))
   answered_end (Err (fault.RecordRefused n)) texts runs is first second read write = inr (inr (inr (inl is)))
   answered_end (Err fault.TextsDiffer) texts runs is first second read write = inr (inr (inr (inl is)))
-  answered_end (Err fault.Store) texts runs is first second read write = absurd (⊎_elim first second (of_store run.journal texts (why_of run.journal texts fault.Store runs)).1)
+  answered_end (Err fault.Store) texts runs is first second read write = absurd (⊎_elim first second (of_store said.journal texts (why_of said.journal texts fault.Store runs)).1)
   answered_end (Err fault.Memory) texts runs is first second read write = inr (inr (inr (inr (inl is))))
 
   missing_answered : (why : TextsFault) → status ≡ missing_status why → (status ≡ 3 → ⊥) → IsAnswered status
@@ -232,19 +258,19 @@ module _ {D : Type 0} (d : Ghosts D) (run : RunOf) (before after : Disks D) (old
   missing_answered (TooLong w) is read = inr (inr (inl is))
   missing_answered Memory is read = inr (inr (inr (inr (inl is))))
 
-  pub answered : RunsOffice d run before after old new status → (status ≡ 3 → ⊥) → (Rose (d.faults before.first) (d.faults after.first) → ⊥) → (Rose (d.faults before.second) (d.faults after.second) → ⊥)
+  pub answered : RunsOffice d said before after old new status → (status ≡ 3 → ⊥) → (Rose (d.faults before.first) (d.faults after.first) → ⊥) → (Rose (d.faults before.second) (d.faults after.second) → ⊥)
       → (Rose old.connection.input.faults new.connection.input.faults → ⊥) → (Rose old.connection.output.faults new.connection.output.faults → ⊥) → IsAnswered status
-  answered (inl ran) texts first second read write = answered_end ran.end ran.texts ran.runs ran.status_is first second read write
+  answered (inl ran) texts first second read write = ⊎_elim (λ checked. subst IsAnswered (sym ran.status_is) (answered_check _ _ ran.end ran.texts checked.1 write)) (λ runs. answered_end ran.end ran.texts runs.1 ran.status_is first second read write) ran.runs
   answered (inr missing) texts first second read write = missing_answered missing.why missing.status_is texts
 
   -- ---- 7, and how the input ended
 
-  broke_end : (end : Result Ending OpenFault) (texts : TextsOf) → Runs d run.journal run texts before after old.connection new.connection end → end_status end ≡ 7 → Rose old.connection.input.faults new.connection.input.faults ⊎ Rose old.connection.output.faults new.connection.output.faults
+  broke_end : (end : Result Ending OpenFault) (texts : TextsOf) → Runs d said.journal said texts before after old.connection new.connection end → end_status end ≡ 7 → Rose old.connection.input.faults new.connection.input.faults ⊎ Rose old.connection.output.faults new.connection.output.faults
   broke_end (Ok ending.Done) texts runs is = absurd (omega arith)
   broke_end (Ok (ending.Wire code)) texts runs is = absurd (omega arith)
   broke_end (Ok ending.Budget) texts runs is = absurd (omega arith)
-  broke_end (Ok ending.ReadFault) texts runs is = let w = (worked_of run.journal texts _ runs).worked in inl (w.ran.served).ends.3
-  broke_end (Ok ending.WriteFault) texts runs is = let w = (worked_of run.journal texts _ runs).worked in inr ((w.ran.served).ends.1).rose
+  broke_end (Ok ending.ReadFault) texts runs is = let has = worked_of said.journal texts _ runs in inl (read_rose has.opened has.last old.connection new.connection said.work (has.worked).did)
+  broke_end (Ok ending.WriteFault) texts runs is = let has = worked_of said.journal texts _ runs in inr (write_rose has.opened has.last old.connection new.connection said.work (has.worked).did)
   broke_end (Ok ending.Memory) texts runs is = absurd (omega arith)
   broke_end (Err (fault.Models why)) texts runs is = absurd (omega arith)
   broke_end (Err (fault.People why)) texts runs is = absurd (omega arith)
@@ -259,25 +285,29 @@ module _ {D : Type 0} (d : Ghosts D) (run : RunOf) (before after : Disks D) (old
   missing_not_seven (TooLong w) e = absurd (omega arith)
   missing_not_seven Memory e = absurd (omega arith)
 
-  pub broke : RunsOffice d run before after old new status → status ≡ 7 → Rose old.connection.input.faults new.connection.input.faults ⊎ Rose old.connection.output.faults new.connection.output.faults
-  broke (inl ran) seven = broke_end ran.end ran.texts ran.runs (sym ran.status_is ∙ seven)
+  pub broke : RunsOffice d said before after old new status → status ≡ 7 → Rose old.connection.input.faults new.connection.input.faults ⊎ Rose old.connection.output.faults new.connection.output.faults
+  broke (inl ran) seven = ⊎_elim (λ checked. inr (broken_check _ _ ran.end ran.texts checked.1 (sym ran.status_is ∙ seven))) (λ runs. broke_end ran.end ran.texts runs.1 (sym ran.status_is ∙ seven)) ran.runs
   broke (inr missing) seven = absurd (missing_not_seven missing.why (sym missing.status_is ∙ seven))
 
-  exact_end : (end : Result Ending OpenFault) (texts : TextsOf) → Runs d run.journal run texts before after old.connection new.connection end → status ≡ end_status end → status ≢ 4 → status ≢ 5 → status ≢ 6 → status ≢ 7 → status ≢ 8 → IsStatusOf budget old.connection.input.flow status
-  exact_end (Ok e) texts runs is four five six seven eight = status_of_input _ _ _ _ _ _ e status ((worked_of run.journal texts e runs).worked).ran is seven eight
-  exact_end (Err (fault.Models why)) texts runs is four five six seven eight = absurd (four is)
-  exact_end (Err (fault.People why)) texts runs is four five six seven eight = absurd (four is)
-  exact_end (Err (fault.Damaged at)) texts runs is four five six seven eight = absurd (five is)
-  exact_end (Err (fault.RecordRefused n)) texts runs is four five six seven eight = absurd (five is)
-  exact_end (Err fault.TextsDiffer) texts runs is four five six seven eight = absurd (five is)
-  exact_end (Err fault.Store) texts runs is four five six seven eight = absurd (six is)
-  exact_end (Err fault.Memory) texts runs is four five six seven eight = absurd (eight is)
+  -- the way that the input of a run ended
+  module _ (from step : ℕ) (serves : said.work ≡ serving from step) where
+    exact_end : (end : Result Ending OpenFault) (texts : TextsOf) → Runs d said.journal said texts before after old.connection new.connection end → status ≡ end_status end → status ≢ 4 → status ≢ 5 → status ≢ 6 → status ≢ 7 → status ≢ 8 → IsStatusOf budget old.connection.input.flow status
+    exact_end (Ok e) texts runs is four five six seven eight =
+        let has = worked_of said.journal texts e runs in
+        status_of_input _ _ has.opened has.last old.connection new.connection e status (subst (λ (w : WorkOf). Did w has.opened has.last old.connection new.connection e) serves (has.worked).did) is seven eight
+    exact_end (Err (fault.Models why)) texts runs is four five six seven eight = absurd (four is)
+    exact_end (Err (fault.People why)) texts runs is four five six seven eight = absurd (four is)
+    exact_end (Err (fault.Damaged at)) texts runs is four five six seven eight = absurd (five is)
+    exact_end (Err (fault.RecordRefused n)) texts runs is four five six seven eight = absurd (five is)
+    exact_end (Err fault.TextsDiffer) texts runs is four five six seven eight = absurd (five is)
+    exact_end (Err fault.Store) texts runs is four five six seven eight = absurd (six is)
+    exact_end (Err fault.Memory) texts runs is four five six seven eight = absurd (eight is)
 
-  missing_exact : (why : TextsFault) → status ≡ missing_status why → status ≢ 3 → status ≢ 4 → status ≢ 8 → ⊥
-  missing_exact (Unread w) is three four eight = three is
-  missing_exact (TooLong w) is three four eight = four is
-  missing_exact Memory is three four eight = eight is
+    missing_exact : (why : TextsFault) → status ≡ missing_status why → status ≢ 3 → status ≢ 4 → status ≢ 8 → ⊥
+    missing_exact (Unread w) is three four eight = three is
+    missing_exact (TooLong w) is three four eight = four is
+    missing_exact Memory is three four eight = eight is
 
-  pub exact : RunsOffice d run before after old new status → status ≢ 3 → status ≢ 4 → status ≢ 5 → status ≢ 6 → status ≢ 7 → status ≢ 8 → IsStatusOf budget old.connection.input.flow status
-  exact (inl ran) three four five six seven eight = exact_end ran.end ran.texts ran.runs ran.status_is four five six seven eight
-  exact (inr missing) three four five six seven eight = absurd (missing_exact missing.why missing.status_is three four eight)
+    pub exact : RunsOffice d said before after old new status → status ≢ 3 → status ≢ 4 → status ≢ 5 → status ≢ 6 → status ≢ 7 → status ≢ 8 → IsStatusOf budget old.connection.input.flow status
+    exact (inl ran) three four five six seven eight = ⊎_elim (λ checked. absurd (let e = sym serves ∙ checked.0 in cc)) (λ runs. exact_end ran.end ran.texts runs.1 ran.status_is four five six seven eight) ran.runs
+    exact (inr missing) three four five six seven eight = absurd (missing_exact missing.why missing.status_is three four eight)

@@ -22,13 +22,16 @@ use Rattle.ht_tree.specs.Tables.{TablesOf}
 use Rattle.ht_program.specs.declared.reading.TextsFault.{TextsFault}
 use Rattle.ht_program.specs.declared.reading.TextsFault.TheVariants.{Unread, TooLong, Memory}
 use Rattle.ht_program.specs.Attaching.{Disks}
+use Rattle.ht_program.specs.Checking.{Checks}
 use Rattle.ht_program.specs.Folding.{file_of}
-use Rattle.ht_program.specs.Office.{IsAtFault, Outside, Runs, RunsOffice}
+use Rattle.ht_program.specs.Office.{ChecksOrRuns, IsAtFault, Outside, Runs, RunsOffice}
 use Rattle.ht_program.specs.OfficeTexts.{built_in_texts}
 use Rattle.ht_program.specs.Reading.{AreWrong, Reads}
 use Rattle.ht_program.specs.Statuses.{end_status, missing_status}
-use Rattle.ht_program.specs.Words.{RunOf}
-use Rattle.ht_program.proofs.Statuses.{bad_models, bad_people, ending_not, file, of_damaged, of_models, of_people, of_record, of_texts, right, why_of, worked_of}
+use Rattle.ht_program.specs.Words.{WordsOf}
+use Rattle.ht_program.specs.Words.WorkOf.{checking}
+use Rattle.ht_program.proofs.Checked.{of_texts as of_judged}
+use Rattle.ht_program.proofs.Statuses.{bad_models, bad_people, empty_file, ending_not, file, of_damaged, of_models, of_people, of_record, of_texts, right, right_read, why_of, worked_of}
 
 -- ---- the texts that were read
 
@@ -45,9 +48,9 @@ pub same_texts : (names : Option (List ℕ × List ℕ)) (text : List ℕ → Li
 same_texts None text a b p q = p ∙ sym q
 same_texts (Some names) text a b p q = these text names a p ∙ sym (these text names b q)
 
-module _ {D : Type 0} (d : Ghosts D) (run : RunOf) (before after : Disks D) (old new : Outside) (status : ℕ) where
+module _ {D : Type 0} (d : Ghosts D) (said : WordsOf) (before after : Disks D) (old new : Outside) (status : ℕ) where
   abbrev RunsTo : TextsOf → Result Ending OpenFault → Type 0
-  RunsTo texts end = Runs d run.journal run texts before after old.connection new.connection end
+  RunsTo texts end = Runs d said.journal said texts before after old.connection new.connection end
 
   -- ---- 4
 
@@ -57,21 +60,36 @@ module _ {D : Type 0} (d : Ghosts D) (run : RunOf) (before after : Disks D) (old
 
     wrong_end : (end : Result Ending OpenFault) → RunsTo texts end → status ≡ end_status end → status ≢ 6 → status ≢ 8 → (status ≡ 4) ↔ AreWrong texts.models texts.people
     wrong_end (Ok e) runs is six eight =
-        let w = (worked_of d run before after old new status run.journal texts e runs).worked in
+        let w = (worked_of d said before after old new status said.journal texts e runs).worked in
         ((λ four. absurd (ending_not e 4 (omega arith) (omega arith) (sym is ∙ four))), (λ wrong. absurd (right texts _ (w.journal).begins few.0 few.1 wrong)))
-    wrong_end (Err (fault.Models why)) runs is six eight = ((λ four. bad_models texts why (of_models d run before after old new status run.journal texts why (why_of d run before after old new status run.journal texts _ runs))), (λ wrong. is))
-    wrong_end (Err (fault.People why)) runs is six eight = ((λ four. bad_people texts why (of_people d run before after old new status run.journal texts why (why_of d run before after old new status run.journal texts _ runs))), (λ wrong. is))
+    wrong_end (Err (fault.Models why)) runs is six eight = ((λ four. bad_models texts why (of_models d said before after old new status said.journal texts why (why_of d said before after old new status said.journal texts _ runs))), (λ wrong. is))
+    wrong_end (Err (fault.People why)) runs is six eight = ((λ four. bad_people texts why (of_people d said before after old new status said.journal texts why (why_of d said before after old new status said.journal texts _ runs))), (λ wrong. is))
     wrong_end (Err (fault.Damaged at)) runs is six eight =
-        let f = of_damaged d run before after old new status run.journal texts at (why_of d run before after old new status run.journal texts _ runs) in
+        let f = of_damaged d said before after old new status said.journal texts at (why_of d said before after old new status said.journal texts _ runs) in
         ((λ four. absurd (omega (arith, is, four))), (λ wrong. absurd (file_wrong _ _ f wrong)))
     wrong_end (Err (fault.RecordRefused n)) runs is six eight =
-        let f = of_record d run before after old new status run.journal texts n (why_of d run before after old new status run.journal texts _ runs) in
+        let f = of_record d said before after old new status said.journal texts n (why_of d said before after old new status said.journal texts _ runs) in
         ((λ four. absurd (omega (arith, is, four))), (λ wrong. absurd (file_wrong _ _ f wrong)))
     wrong_end (Err fault.TextsDiffer) runs is six eight =
-        let f = of_texts d run before after old new status run.journal texts (why_of d run before after old new status run.journal texts _ runs) in
+        let f = of_texts d said before after old new status said.journal texts (why_of d said before after old new status said.journal texts _ runs) in
         ((λ four. absurd (omega (arith, is, four))), (λ wrong. absurd (file_wrong _ _ f wrong)))
     wrong_end (Err fault.Store) runs is six eight = absurd (six is)
     wrong_end (Err fault.Memory) runs is six eight = absurd (eight is)
+
+    wrong_checked : (end : Result Ending OpenFault) → Checks texts old.connection.output new.connection.output end → status ≡ end_status end → status ≢ 8 → (status ≡ 4) ↔ AreWrong texts.models texts.people
+    wrong_checked (Ok e) checks is eight =
+        let are = checks.1 in
+        ((λ four. absurd (ending_not e 4 (omega arith) (omega arith) (sym is ∙ four))), (λ wrong. absurd (right_read texts _ _ are.models_read are.people_read few.0 few.1 wrong)))
+    wrong_checked (Err (fault.Models why)) checks is eight = ((λ four. bad_models texts why checks.0), (λ wrong. is))
+    wrong_checked (Err (fault.People why)) checks is eight = ((λ four. bad_people texts why checks.0), (λ wrong. is))
+    wrong_checked (Err (fault.Damaged at)) checks is eight = absurd checks.0
+    wrong_checked (Err (fault.RecordRefused n)) checks is eight = absurd checks.0
+    wrong_checked (Err fault.TextsDiffer) checks is eight = absurd checks.0
+    wrong_checked (Err fault.Store) checks is eight = absurd checks.0
+    wrong_checked (Err fault.Memory) checks is eight = absurd (eight is)
+
+    wrong_either : (end : Result Ending OpenFault) → ChecksOrRuns d said texts before after old.connection new.connection end → status ≡ end_status end → status ≢ 6 → status ≢ 8 → (status ≡ 4) ↔ AreWrong texts.models texts.people
+    wrong_either end did is six eight = ⊎_elim (λ checked. wrong_checked end checked.1 is eight) (λ runs. wrong_end end runs.1 is six eight) did
 
   wrong_missing : (text : List ℕ → List ℕ) (names : List ℕ × List ℕ) (why : TextsFault) → Reads (Some names) (Some text) (Err why) → status ≡ missing_status why → status ≢ 3 → status ≢ 8 → (status ≡ 4) ↔ AreWrong (text names.0) (text names.1)
   wrong_missing text names (Unread w) reads is three eight = absurd (three is)
@@ -80,68 +98,77 @@ module _ {D : Type 0} (d : Ghosts D) (run : RunOf) (before after : Disks D) (old
       let P : List ℕ → Type 0 = λ m. LONGEST_OFFICE_TEXT < length m in
       ((λ four. inl (⊎_elim (λ one. inl (subst P reads.2 one.1)) (λ two. inr (subst P reads.3 (two.1).1)) reads.4)), (λ wrong. is))
 
-  wrong_told : (told : Option (List ℕ → List ℕ)) (names : List ℕ × List ℕ) → run.texts ≡ Some names → old.texts.texts ≡ told → RunsOffice d run before after old new status
+  wrong_told : (told : Option (List ℕ → List ℕ)) (names : List ℕ × List ℕ) → said.texts ≡ Some names → old.texts.texts ≡ told → RunsOffice d said before after old new status
       → IfSome told (λ text. status ≢ 3 → status ≢ 6 → status ≢ 8 → (status ≡ 4) ↔ AreWrong (text names.0) (text names.1))
   wrong_told None names named same office = tt
   wrong_told (Some text) names named same (inl ran) = λ three six eight.
-      let reads = subst (λ (n : Option (List ℕ × List ℕ)). Reads n (Some text) (Ok ran.texts)) named (subst (λ (t : Option (List ℕ → List ℕ)). Reads run.texts t (Ok ran.texts)) same ran.reads) in
+      let reads = subst (λ (n : Option (List ℕ × List ℕ)). Reads n (Some text) (Ok ran.texts)) named (subst (λ (t : Option (List ℕ → List ℕ)). Reads said.texts t (Ok ran.texts)) same ran.reads) in
       let P : TextsOf → Type 0 = λ t. (status ≡ 4) ↔ AreWrong t.models t.people in
-      subst P (these text names ran.texts reads) (wrong_end ran.texts (short (Some text) names ran.texts reads) ran.end ran.runs ran.status_is six eight)
+      subst P (these text names ran.texts reads) (wrong_either ran.texts (short (Some text) names ran.texts reads) ran.end ran.runs ran.status_is six eight)
   wrong_told (Some text) names named same (inr missing) = λ three six eight.
-      let reads = subst (λ (n : Option (List ℕ × List ℕ)). Reads n (Some text) (Err missing.why)) named (subst (λ (t : Option (List ℕ → List ℕ)). Reads run.texts t (Err missing.why)) same missing.reads) in
+      let reads = subst (λ (n : Option (List ℕ × List ℕ)). Reads n (Some text) (Err missing.why)) named (subst (λ (t : Option (List ℕ → List ℕ)). Reads said.texts t (Err missing.why)) same missing.reads) in
       wrong_missing text names missing.why reads missing.status_is three eight
 
-  pub wrong : (names : List ℕ × List ℕ) → run.texts ≡ Some names → RunsOffice d run before after old new status
+  pub wrong : (names : List ℕ × List ℕ) → said.texts ≡ Some names → RunsOffice d said before after old new status
       → IfSome old.texts.texts (λ text. status ≢ 3 → status ≢ 6 → status ≢ 8 → (status ≡ 4) ↔ AreWrong (text names.0) (text names.1))
   wrong names named office = wrong_told old.texts.texts names named refl office
 
   -- ---- 5
 
   module _ (whole : (texts : TextsOf) (records : List RecordOf) (t : TablesOf) (f : List ℕ) (why : OpenFault) → AreSpelled records → IsJournalOf texts records t → AreOfFile texts records f → Fails texts f why → ⊥)
-      (text : List ℕ → List ℕ) (f : List ℕ) (holds : d.gives before.first ≡ Some f) where
-    told_file : (journal : Option (List ℕ)) → file d run before after old new status journal ≡ Some (file_of journal f)
+      (text : List ℕ → List ℕ) (f : List ℕ) (holds : d.gives before.first ≡ Some f) (none : said.work ≡ checking → said.journal ≡ None) where
+    told_file : (journal : Option (List ℕ)) → file d said before after old new status journal ≡ Some (file_of journal f)
     told_file None = refl
     told_file (Some name) = holds
 
-    at_fault : (texts : TextsOf) (why : OpenFault) → Reads run.texts (Some text) (Ok texts) → IsFileFault texts (file d run before after old new status run.journal) why → IsAtFault run text f
-    at_fault texts why reads is = (texts, reads, (why, subst (λ (g : Option (List ℕ)). IfSome g (λ x. Fails texts x why)) (told_file run.journal) is.1))
+    at_fault : (texts : TextsOf) (why : OpenFault) → Reads said.texts (Some text) (Ok texts) → IsFileFault texts (file d said before after old new status said.journal) why → IsAtFault said text f
+    at_fault texts why reads is = (texts, reads, (why, subst (λ (g : Option (List ℕ)). IfSome g (λ x. Fails texts x why)) (told_file said.journal) is.1))
 
-    journal_end : (end : Result Ending OpenFault) (texts : TextsOf) → Reads run.texts (Some text) (Ok texts) → RunsTo texts end → status ≡ end_status end → status ≢ 4 → status ≢ 6 → status ≢ 8 → (status ≡ 5) ↔ IsAtFault run text f
+    journal_end : (end : Result Ending OpenFault) (texts : TextsOf) → Reads said.texts (Some text) (Ok texts) → RunsTo texts end → status ≡ end_status end → status ≢ 4 → status ≢ 6 → status ≢ 8 → (status ≡ 5) ↔ IsAtFault said text f
     journal_end (Ok e) texts reads runs is four six eight =
-        let has = worked_of d run before after old new status run.journal texts e runs in
+        let has = worked_of d said before after old new status said.journal texts e runs in
         let w = has.worked in
-        let found = subst (λ (g : Option (List ℕ)). IfSome g (AreOfFile texts (has.opened).records)) (told_file run.journal) w.found in (
+        let found = subst (λ (g : Option (List ℕ)). IfSome g (AreOfFile texts (has.opened).records)) (told_file said.journal) w.found in (
           (λ five. absurd (ending_not e 5 (omega arith) (omega arith) (sym is ∙ five))),
-          (λ bad. absurd (whole texts _ _ (file_of run.journal f) (bad.2).0 w.spelled w.journal found (subst (λ (t : TextsOf). Fails t (file_of run.journal f) (bad.2).0) (same_texts run.texts text bad.0 texts bad.1 reads) (bad.2).1))),
+          (λ bad. absurd (whole texts _ _ (file_of said.journal f) (bad.2).0 w.spelled w.journal found (subst (λ (t : TextsOf). Fails t (file_of said.journal f) (bad.2).0) (same_texts said.texts text bad.0 texts bad.1 reads) (bad.2).1))),
         )
     journal_end (Err (fault.Models why)) texts reads runs is four six eight = absurd (four is)
     journal_end (Err (fault.People why)) texts reads runs is four six eight = absurd (four is)
-    journal_end (Err (fault.Damaged at)) texts reads runs is four six eight = ((λ five. at_fault texts _ reads (of_damaged d run before after old new status run.journal texts at (why_of d run before after old new status run.journal texts _ runs))), (λ bad. is))
-    journal_end (Err (fault.RecordRefused n)) texts reads runs is four six eight = ((λ five. at_fault texts _ reads (of_record d run before after old new status run.journal texts n (why_of d run before after old new status run.journal texts _ runs))), (λ bad. is))
-    journal_end (Err fault.TextsDiffer) texts reads runs is four six eight = ((λ five. at_fault texts _ reads (of_texts d run before after old new status run.journal texts (why_of d run before after old new status run.journal texts _ runs))), (λ bad. is))
+    journal_end (Err (fault.Damaged at)) texts reads runs is four six eight = ((λ five. at_fault texts _ reads (of_damaged d said before after old new status said.journal texts at (why_of d said before after old new status said.journal texts _ runs))), (λ bad. is))
+    journal_end (Err (fault.RecordRefused n)) texts reads runs is four six eight = ((λ five. at_fault texts _ reads (of_record d said before after old new status said.journal texts n (why_of d said before after old new status said.journal texts _ runs))), (λ bad. is))
+    journal_end (Err fault.TextsDiffer) texts reads runs is four six eight = ((λ five. at_fault texts _ reads (of_texts d said before after old new status said.journal texts (why_of d said before after old new status said.journal texts _ runs))), (λ bad. is))
     journal_end (Err fault.Store) texts reads runs is four six eight = absurd (six is)
     journal_end (Err fault.Memory) texts reads runs is four six eight = absurd (eight is)
+
+    -- an office that isn't opened has no journal
+    journal_checked : (end : Result Ending OpenFault) (texts : TextsOf) → said.work ≡ checking → Checks texts old.connection.output new.connection.output end → status ≡ end_status end → (status ≡ 5) ↔ IsAtFault said text f
+    journal_checked end texts work checks is = (
+      (λ five. absurd ((of_judged _ _ end texts checks).0 (sym is ∙ five))),
+      (λ bad. absurd (empty_file bad.0 (bad.2).0 (subst (λ (j : Option (List ℕ)). Fails bad.0 (file_of j f) (bad.2).0) (none work) (bad.2).1))),
+    )
 
     journal_missing : (why : TextsFault) → status ≡ missing_status why → status ≢ 3 → status ≢ 4 → status ≢ 8 → ⊥
     journal_missing (Unread w) is three four eight = three is
     journal_missing (TooLong w) is three four eight = four is
     journal_missing Memory is three four eight = eight is
 
-    of_office : old.texts.texts ≡ Some text → RunsOffice d run before after old new status → status ≢ 3 → status ≢ 4 → status ≢ 6 → status ≢ 8 → (status ≡ 5) ↔ IsAtFault run text f
-    of_office same (inl ran) three four six eight = journal_end ran.end ran.texts (subst (λ (t : Option (List ℕ → List ℕ)). Reads run.texts t (Ok ran.texts)) same ran.reads) ran.runs ran.status_is four six eight
+    of_office : old.texts.texts ≡ Some text → RunsOffice d said before after old new status → status ≢ 3 → status ≢ 4 → status ≢ 6 → status ≢ 8 → (status ≡ 5) ↔ IsAtFault said text f
+    of_office same (inl ran) three four six eight =
+        ⊎_elim (λ checked. journal_checked ran.end ran.texts checked.0 checked.1 ran.status_is)
+        (λ runs. journal_end ran.end ran.texts (subst (λ (t : Option (List ℕ → List ℕ)). Reads said.texts t (Ok ran.texts)) same ran.reads) runs.1 ran.status_is four six eight) ran.runs
     of_office same (inr missing) three four six eight = absurd (journal_missing missing.why missing.status_is three four eight)
 
   journal_told : ((texts : TextsOf) (records : List RecordOf) (t : TablesOf) (f : List ℕ) (why : OpenFault) → AreSpelled records → IsJournalOf texts records t → AreOfFile texts records f → Fails texts f why → ⊥)
-      → (told : Option (List ℕ → List ℕ)) (holds : Option (List ℕ)) → old.texts.texts ≡ told → d.gives before.first ≡ holds → RunsOffice d run before after old new status
-      → IfSome told (λ text. IfSome holds (λ f. status ≢ 3 → status ≢ 4 → status ≢ 6 → status ≢ 8 → (status ≡ 5) ↔ IsAtFault run text f))
-  journal_told whole None holds same holds_is office = tt
-  journal_told whole (Some text) None same holds_is office = tt
-  journal_told whole (Some text) (Some f) same holds_is office = of_office whole text f holds_is same office
+      → (said.work ≡ checking → said.journal ≡ None) → (told : Option (List ℕ → List ℕ)) (holds : Option (List ℕ)) → old.texts.texts ≡ told → d.gives before.first ≡ holds → RunsOffice d said before after old new status
+      → IfSome told (λ text. IfSome holds (λ f. status ≢ 3 → status ≢ 4 → status ≢ 6 → status ≢ 8 → (status ≡ 5) ↔ IsAtFault said text f))
+  journal_told whole none None holds same holds_is office = tt
+  journal_told whole none (Some text) None same holds_is office = tt
+  journal_told whole none (Some text) (Some f) same holds_is office = of_office whole text f holds_is none same office
 
   pub journal : ((texts : TextsOf) (records : List RecordOf) (t : TablesOf) (f : List ℕ) (why : OpenFault) → AreSpelled records → IsJournalOf texts records t → AreOfFile texts records f → Fails texts f why → ⊥)
-      → RunsOffice d run before after old new status
-      → IfSome old.texts.texts (λ text. IfSome (d.gives before.first) (λ f. status ≢ 3 → status ≢ 4 → status ≢ 6 → status ≢ 8 → (status ≡ 5) ↔ IsAtFault run text f))
-  journal whole office = journal_told whole old.texts.texts (d.gives before.first) refl refl office
+      → (said.work ≡ checking → said.journal ≡ None) → RunsOffice d said before after old new status
+      → IfSome old.texts.texts (λ text. IfSome (d.gives before.first) (λ f. status ≢ 3 → status ≢ 4 → status ≢ 6 → status ≢ 8 → (status ≡ 5) ↔ IsAtFault said text f))
+  journal whole none office = journal_told whole none old.texts.texts (d.gives before.first) refl refl office
 
   -- ---- the built-in texts
 
@@ -155,21 +182,31 @@ module _ {D : Type 0} (d : Ghosts D) (run : RunOf) (before after : Disks D) (old
 
     built_end : (end : Result Ending OpenFault) (texts : TextsOf) → texts ≡ built_in_texts → RunsTo texts end → (end_status end ≢ 3) × (end_status end ≢ 4)
     built_end (Ok e) texts same runs = ((λ is. ending_not e 3 (omega arith) (omega arith) is), (λ is. ending_not e 4 (omega arith) (omega arith) is))
-    built_end (Err (fault.Models why)) texts same runs = absurd (no_models why (subst (λ (t : TextsOf). IsTextFault t (fault.Models why)) same (of_models d run before after old new status run.journal texts why (why_of d run before after old new status run.journal texts _ runs))))
-    built_end (Err (fault.People why)) texts same runs = absurd (no_people why (subst (λ (t : TextsOf). IsTextFault t (fault.People why)) same (of_people d run before after old new status run.journal texts why (why_of d run before after old new status run.journal texts _ runs))))
+    built_end (Err (fault.Models why)) texts same runs = absurd (no_models why (subst (λ (t : TextsOf). IsTextFault t (fault.Models why)) same (of_models d said before after old new status said.journal texts why (why_of d said before after old new status said.journal texts _ runs))))
+    built_end (Err (fault.People why)) texts same runs = absurd (no_people why (subst (λ (t : TextsOf). IsTextFault t (fault.People why)) same (of_people d said before after old new status said.journal texts why (why_of d said before after old new status said.journal texts _ runs))))
     built_end (Err (fault.Damaged at)) texts same runs = ((λ is. omega arith), (λ is. omega arith))
     built_end (Err (fault.RecordRefused n)) texts same runs = ((λ is. omega arith), (λ is. omega arith))
     built_end (Err fault.TextsDiffer) texts same runs = ((λ is. omega arith), (λ is. omega arith))
     built_end (Err fault.Store) texts same runs = ((λ is. omega arith), (λ is. omega arith))
     built_end (Err fault.Memory) texts same runs = ((λ is. omega arith), (λ is. omega arith))
 
-    pub built_in : run.texts ≡ None → RunsOffice d run before after old new status → (status ≢ 3) × (status ≢ 4)
+    built_checked : (end : Result Ending OpenFault) (texts : TextsOf) → texts ≡ built_in_texts → Checks texts old.connection.output new.connection.output end → (end_status end ≢ 3) × (end_status end ≢ 4)
+    built_checked (Ok e) texts same checks = ((λ is. ending_not e 3 (omega arith) (omega arith) is), (λ is. ending_not e 4 (omega arith) (omega arith) is))
+    built_checked (Err (fault.Models why)) texts same checks = absurd (no_models why (subst (λ (t : TextsOf). IsTextFault t (fault.Models why)) same checks.0))
+    built_checked (Err (fault.People why)) texts same checks = absurd (no_people why (subst (λ (t : TextsOf). IsTextFault t (fault.People why)) same checks.0))
+    built_checked (Err (fault.Damaged at)) texts same checks = absurd checks.0
+    built_checked (Err (fault.RecordRefused n)) texts same checks = absurd checks.0
+    built_checked (Err fault.TextsDiffer) texts same checks = absurd checks.0
+    built_checked (Err fault.Store) texts same checks = absurd checks.0
+    built_checked (Err fault.Memory) texts same checks = ((λ is. omega arith), (λ is. omega arith))
+
+    pub built_in : said.texts ≡ None → RunsOffice d said before after old new status → (status ≢ 3) × (status ≢ 4)
     built_in none (inl ran) =
         let reads = subst (λ (n : Option (List ℕ × List ℕ)). Reads n old.texts.texts (Ok ran.texts)) none ran.reads in
-        let end = built_end ran.end ran.texts reads ran.runs in
+        let end : (end_status ran.end ≢ 3) × (end_status ran.end ≢ 4) = ⊎_elim (λ checked. built_checked ran.end ran.texts reads checked.1) (λ runs. built_end ran.end ran.texts reads runs.1) ran.runs in
         ((λ three. end.0 (sym ran.status_is ∙ three)), (λ four. end.1 (sym ran.status_is ∙ four)))
     built_in none (inr missing) = absurd (subst (λ (n : Option (List ℕ × List ℕ)). Reads n old.texts.texts (Err missing.why)) none missing.reads)
 
 -- of the same run
-pub as_said : {D : Type 0} (d : Ghosts D) (run other : RunOf) (before after : Disks D) (old new : Outside) (status : ℕ) → run ≡ other → RunsOffice d run before after old new status → RunsOffice d other before after old new status
-as_said d run other before after old new status same office = subst (λ (r : RunOf). RunsOffice d r before after old new status) same office
+pub as_said : {D : Type 0} (d : Ghosts D) (said other : WordsOf) (before after : Disks D) (old new : Outside) (status : ℕ) → said ≡ other → RunsOffice d said before after old new status → RunsOffice d other before after old new status
+as_said d said other before after old new status same office = subst (λ (r : WordsOf). RunsOffice d r before after old new status) same office

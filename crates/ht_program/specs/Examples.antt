@@ -1,38 +1,112 @@
 -- Worked examples of the definitions. A wrong reading of one fails the check.
-use Rattle.std.specs.Prelude.{◌≡◌, refl, [], ◌∷◌, None, Some, codes, false, true}
+use Rattle.std.specs.Prelude.{◌≡◌, refl, ℕ, List, [], ◌∷◌, ◌-◌, ◌^◌, None, Some, Ok, codes, false, true}
 use Rattle.std.specs.Fmt.{digits}
+use Rattle.std.proofs.Common.{lit≤}
+use Rattle.std.proofs.lemmas.Bool.{false≢true}
 use Rattle.ht_desk.specs.declared.fault.OpenFault.TheVariants.{Damaged, People, RecordRefused, Store, TextsDiffer}
 use Rattle.ht_people.specs.declared.refusal.PeopleRefusal.TheVariants.{Cycle, Limit}
+use Rattle.ht_serve.specs.declared.ending.Ending.TheVariants as ending
 use Rattle.ht_program.specs.declared.reading.TextsFault.TheVariants.{TooLong, Unread}
 use Rattle.ht_program.specs.declared.reading.Which.TheVariants as which
-use Rattle.ht_program.specs.Statuses.{fault_line, fault_status, missing_line}
-use Rattle.ht_program.specs.Words.{are_options, default_limit, value_of}
+use Rattle.ht_program.specs.Checking.{counted_line}
+use Rattle.ht_program.specs.Statuses.{end_status, fault_line, fault_status, missing_line}
+use Rattle.ht_program.specs.Words.{AreWords, IsSaidBy, are_options, default_limit, most_loaded, options_of, value_of}
+use Rattle.ht_program.specs.Words.WorkOf.{checking, exporting, loading, serving}
+use Rattle.ht_program.specs.Working.{Writes}
 
 -- ---- words
 
-options_in_any_order : are_options (codes "--people" ∷ codes "p" ∷ codes "--from" ∷ codes "0" ∷ codes "--models" ∷ codes "" ∷ codes "--step" ∷ codes "1" ∷ []) ≡ true
+options_in_any_order : are_options (options_of (serving 0 1)) (codes "--people" ∷ codes "p" ∷ codes "--from" ∷ codes "0" ∷ codes "--models" ∷ codes "" ∷ codes "--step" ∷ codes "1" ∷ []) ≡ true
 options_in_any_order = refl
 
-an_option_twice : are_options (codes "--from" ∷ codes "0" ∷ codes "--from" ∷ codes "0" ∷ []) ≡ false
+an_option_twice : are_options (options_of (serving 0 0)) (codes "--from" ∷ codes "0" ∷ codes "--from" ∷ codes "0" ∷ []) ≡ false
 an_option_twice = refl
 
-a_value_with_a_dash : are_options (codes "--models" ∷ codes "-m" ∷ []) ≡ false
+a_value_with_a_dash : are_options (options_of (serving 0 0)) (codes "--models" ∷ codes "-m" ∷ []) ≡ false
 a_value_with_a_dash = refl
 
-an_option_without_a_value : are_options (codes "--from" ∷ codes "0" ∷ codes "--step" ∷ []) ≡ false
+an_option_without_a_value : are_options (options_of (serving 0 0)) (codes "--from" ∷ codes "0" ∷ codes "--step" ∷ []) ≡ false
 an_option_without_a_value = refl
 
 the_value_of_an_option : value_of (codes "--step") (codes "--from" ∷ codes "0" ∷ codes "--step" ∷ codes "1" ∷ []) ≡ Some (codes "1")
 the_value_of_an_option = refl
 
-a_journal_and_its_limit : are_options (codes "--limit" ∷ codes "1048576" ∷ codes "--journal" ∷ codes "j" ∷ []) ≡ true
+a_journal_and_its_limit : are_options (options_of (serving 0 0)) (codes "--limit" ∷ codes "1048576" ∷ codes "--journal" ∷ codes "j" ∷ []) ≡ true
 a_journal_and_its_limit = refl
 
-two_journals : are_options (codes "--journal" ∷ codes "a" ∷ codes "--journal" ∷ codes "b" ∷ []) ≡ false
+two_journals : are_options (options_of (serving 0 0)) (codes "--journal" ∷ codes "a" ∷ codes "--journal" ∷ codes "b" ∷ []) ≡ false
 two_journals = refl
 
-a_journal_without_a_name : are_options (codes "--from" ∷ codes "0" ∷ codes "--journal" ∷ []) ≡ false
+a_journal_without_a_name : are_options (options_of (serving 0 0)) (codes "--from" ∷ codes "0" ∷ codes "--journal" ∷ []) ≡ false
 a_journal_without_a_name = refl
+
+a_seed_of_a_run : are_options (options_of (serving 0 0)) (codes "--seed" ∷ codes "0" ∷ []) ≡ false
+a_seed_of_a_run = refl
+
+the_people_before_the_models : are_options (options_of checking) (codes "--people" ∷ codes "p" ∷ codes "--models" ∷ codes "m" ∷ []) ≡ true
+the_people_before_the_models = refl
+
+a_step_of_a_check : are_options (options_of checking) (codes "--models" ∷ codes "m" ∷ codes "--people" ∷ codes "p" ∷ codes "--step" ∷ codes "0" ∷ []) ≡ false
+a_step_of_a_check = refl
+
+a_journal_of_a_check : are_options (options_of checking) (codes "--journal" ∷ codes "j" ∷ codes "--models" ∷ codes "m" ∷ codes "--people" ∷ codes "p" ∷ []) ≡ false
+a_journal_of_a_check = refl
+
+a_check_without_texts : IsSaidBy [] checking → ⊥
+a_check_without_texts said = false≢true said.0
+
+a_check_of_one_text : IsSaidBy (codes "--models" ∷ codes "m" ∷ []) checking → ⊥
+a_check_of_one_text said = false≢true said.1
+
+an_export_in_any_order : are_options (options_of exporting) (codes "--people" ∷ codes "p" ∷ codes "--journal" ∷ codes "j" ∷ codes "--models" ∷ codes "m" ∷ []) ≡ true
+an_export_in_any_order = refl
+
+a_limit_of_an_export : are_options (options_of exporting) (codes "--journal" ∷ codes "j" ∷ codes "--limit" ∷ codes "1048576" ∷ []) ≡ false
+a_limit_of_an_export = refl
+
+an_export_without_a_journal : IsSaidBy (codes "--models" ∷ codes "m" ∷ codes "--people" ∷ codes "p" ∷ []) exporting → ⊥
+an_export_without_a_journal said = false≢true said
+
+a_load_in_any_order : are_options (options_of (loading 7 1)) (codes "--limit" ∷ codes "1048576" ∷ codes "--count" ∷ codes "1" ∷ codes "--journal" ∷ codes "j" ∷ codes "--seed" ∷ codes "7" ∷ []) ≡ true
+a_load_in_any_order = refl
+
+models_of_a_load : are_options (options_of (loading 7 1)) (codes "--seed" ∷ codes "7" ∷ codes "--count" ∷ codes "1" ∷ codes "--models" ∷ codes "m" ∷ []) ≡ false
+models_of_a_load = refl
+
+a_load_without_a_count : IsSaidBy (codes "--seed" ∷ codes "7" ∷ []) (loading 7 0) → ⊥
+a_load_without_a_count said = let given = (said.1).given in absurd (cc)
+
+-- the greatest seed and the greatest count, in memory
+the_words_of_a_load : AreWords (codes "load" ∷ codes "--count" ∷ codes "1048576" ∷ codes "--seed" ∷ codes "18446744073709551615" ∷ []) (record { work = loading (2 ^ 64 - 1) most_loaded; texts = None; journal = None; limit = 67108864 })
+unfolding digits
+the_words_of_a_load = record {
+  command = codes "load";
+  options = codes "--count" ∷ codes "1048576" ∷ codes "--seed" ∷ codes "18446744073709551615" ∷ [];
+  words_are = refl;
+  work_is = record {
+    named = refl;
+    allowed = refl;
+    said = (
+      record { word = codes "18446744073709551615"; given = refl; number = record { spelled = refl; great = lit≤ tt; small = lit≤ tt } },
+      record { word = codes "1048576"; given = refl; number = record { spelled = refl; great = lit≤ tt; small = lit≤ tt } },
+    );
+  };
+  texts_are = tt;
+  journal_is = refl;
+  limit_is = refl;
+}
+
+-- an export of the built-in office opens its journal with the greatest limit
+the_words_of_an_export : AreWords (codes "export" ∷ codes "--journal" ∷ codes "j" ∷ []) (record { work = exporting; texts = None; journal = Some (codes "j"); limit = 4294967296 })
+the_words_of_an_export = record {
+  command = codes "export";
+  options = codes "--journal" ∷ codes "j" ∷ [];
+  words_are = refl;
+  work_is = record { named = refl; allowed = refl; said = refl };
+  texts_are = tt;
+  journal_is = refl;
+  limit_is = refl;
+}
 
 a_limit_in_memory : default_limit None ≡ 67108864
 a_limit_in_memory = refl
@@ -69,6 +143,25 @@ a_journal_of_other_texts = refl
 a_disk_that_fails : fault_line Store ≡ codes "journal: store\n"
 a_disk_that_fails = refl
 
+what_a_check_tells : counted_line (record { models = 10; persons = 5; groups = 1 }) ≡ codes "models 10 persons 5 groups 1\n"
+unfolding digits
+what_a_check_tells = refl
+
+an_office_without_people : counted_line (record { models = 1; persons = 0; groups = 0 }) ≡ codes "models 1 persons 0 groups 0\n"
+unfolding digits
+an_office_without_people = refl
+
+-- ---- texts that are written
+
+all_of_a_text : Writes (codes "ab") (Some (codes "x")) (Some (codes "xab")) ending.Done
+all_of_a_text = refl
+
+less_than_a_text : Writes (codes "ab") (Some []) (Some (codes "a")) ending.Done → ⊥
+less_than_a_text all = absurd (let wrong : ◌≡◌ {A = List ℕ} (codes "a") (codes "ab") = all in cc)
+
+a_text_that_breaks_off : Writes (codes "ab") (Some []) (Some (codes "a")) ending.WriteFault
+a_text_that_breaks_off = (codes "a", codes "b", refl, refl)
+
 -- ---- statuses
 
 the_status_of_a_damaged_journal : fault_status (Damaged 450) ≡ 5
@@ -76,3 +169,6 @@ the_status_of_a_damaged_journal = refl
 
 the_status_of_a_disk_that_fails : fault_status Store ≡ 6
 the_status_of_a_disk_that_fails = refl
+
+the_status_of_a_text_that_breaks_off : end_status (Ok ending.WriteFault) ≡ 7
+the_status_of_a_text_that_breaks_off = refl

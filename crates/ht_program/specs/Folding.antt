@@ -1,6 +1,6 @@
 -- What a run writes that has no fault, and memory for each reply: the task machine goes over the
 -- requests of the bytes read, one by one.
-use Rattle.std.specs.Prelude.{◌≡◌, ◌⊎◌, ℕ, ◌+◌, ◌<◌, ◌≤◌, List, [], ◌∷◌, ◌++◌, length, Option, Some, None, Ok, Err, Result}
+use Rattle.std.specs.Prelude.{◌≡◌, ◌⊎◌, ℕ, ◌+◌, ◌<◌, ◌≤◌, List, [], ◌∷◌, ◌++◌, length, Option, Some, None, IfSome, Ok, Err, Result}
 use Rattle.ht_base.specs.declared.event.Event.{Event}
 use Rattle.ht_base.specs.declared.record.Record.{Record}
 use Rattle.ht_base.specs.declared.reply.Answer.TheVariants.{Refused}
@@ -27,7 +27,8 @@ use Rattle.ht_serve.specs.Inputs.{AreOver}
 use Rattle.ht_serve.specs.Texts.{refusal_bytes, reply_status}
 use Rattle.ht_program.specs.Inputs.{budget, lasts}
 use Rattle.ht_program.specs.Reading.{Reads}
-use Rattle.ht_program.specs.Words.{IsRun, RunOf}
+use Rattle.ht_program.specs.Words.{AreWords, WordsOf}
+use Rattle.ht_program.specs.Words.WorkOf.{serving}
 
 -- ---- the office
 
@@ -111,18 +112,26 @@ abbrev pub file_of : Option (List ℕ) → List ℕ → List ℕ
 file_of None file = []
 file_of (Some name) file = file
 
--- the office of these texts whose records a file holds, or one that begins where it holds none
-pub record IsIn (texts : TextsOf) (file : List ℕ) (office : OfficeOf) : Type 0 where
+-- the same as far as a disk tells it
+abbrev pub file_told : Option (List ℕ) → Option (List ℕ) → Option (List ℕ)
+file_told None told = Some []
+file_told (Some name) told = told
+
+-- the office of these texts whose records a file holds, where it is told, or one that begins where it holds none
+pub record IsIn (texts : TextsOf) (file : Option (List ℕ)) (office : OfficeOf) : Type 0 where
   pub spelled : AreSpelled office.records
   pub journal : IsJournalOf texts office.records office.tables
-  pub found : AreOfFile texts office.records file
+  pub found : IfSome file (AreOfFile texts office.records)
 
--- what `office` writes that is given these words, texts and file, and reads these bytes
+-- what `office` writes that is given these words, of `run`, these texts and this file, and reads these bytes
 pub record IsOutputOf (words : List (List ℕ)) (told : List ℕ → List ℕ) (file bytes out : List ℕ) : Type 0 where
-  pub run : RunOf
-  pub said : IsRun words run
+  pub said : WordsOf
+  pub said_is : AreWords words said
+  pub from : ℕ
+  pub step : ℕ
+  pub serves : said.work ≡ serving from step
   pub texts : TextsOf
-  pub reads : Reads run.texts (Some told) (Ok texts)
+  pub reads : Reads said.texts (Some told) (Ok texts)
   pub office : OfficeOf
-  pub opens : IsIn texts (file_of run.journal file) office
-  pub output : IsOutput (Decided run.limit) (moment_of run.from run.step) budget office bytes out
+  pub opens : IsIn texts (Some (file_of said.journal file)) office
+  pub output : IsOutput (Decided said.limit) (moment_of from step) budget office bytes out

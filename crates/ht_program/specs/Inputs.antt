@@ -21,6 +21,6 @@ IsStatusOf most (Some flow) status =
     × ((status ≡ 1) ↔ IsBroken false most flow.left)
     × ((status ≡ 9) ↔ IsTooMuch false most flow.left)
 
--- the statuses of a run without a fault
+-- the statuses of a program in which no count of faults rose
 abbrev pub IsAnswered : ℕ → Type 0
 IsAnswered status = (status ≡ 0) ⊎ ((status ≡ 1) ⊎ ((status ≡ 4) ⊎ ((status ≡ 5) ⊎ ((status ≡ 8) ⊎ (status ≡ 9)))))

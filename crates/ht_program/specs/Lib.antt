@@ -1,4 +1,5 @@
 pub mod Attaching
+pub mod Checking
 pub mod Examples
 pub mod ExampleRun
 pub mod Folding
@@ -7,6 +8,8 @@ pub mod Named
 pub mod Office
 pub mod OfficeTexts
 pub mod Reading
+pub mod Reports
 pub mod Running
 pub mod Statuses
 pub mod Words
+pub mod Working

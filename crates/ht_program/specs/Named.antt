@@ -1,17 +1,25 @@
--- What the words of a run say, as bytes and numbers.
+-- What the words say, as bytes and numbers.
 use Rattle.std.specs.Prelude.{ℕ, List, option_map}
 use Rattle.ht_program.specs.declared.command.Named.{Named}
 use Rattle.ht_program.specs.declared.command.Words.{Words}
-use Rattle.ht_program.specs.Words.{RunOf}
+use Rattle.ht_program.specs.declared.command.Work.{Work}
+use Rattle.ht_program.specs.declared.command.Work.TheVariants as work
+use Rattle.ht_program.specs.Words.{WordsOf, WorkOf}
+use Rattle.ht_program.specs.Words.WorkOf.{checking, exporting, loading, serving}
 
 -- the names of two texts
 abbrev pub pair_of : Named → List ℕ × List ℕ
 pair_of n = (n.models.now, n.people.now)
 
-abbrev pub run_told : Words → RunOf
-run_told w = record {
-  from = (w.run).from;
-  step = (w.run).step;
+abbrev pub work_told : Work → WorkOf
+work_told (work.Run run) = serving run.from run.step
+work_told work.Check = checking
+work_told work.Export = exporting
+work_told (work.Load seed count) = loading seed count
+
+abbrev pub words_told : Words → WordsOf
+words_told w = record {
+  work = work_told w.work;
   texts = option_map pair_of w.texts;
   journal = option_map (λ s. s.now) w.journal;
   limit = w.limit;

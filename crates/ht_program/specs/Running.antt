@@ -3,17 +3,12 @@ use Rattle.std.specs.Prelude.{◌≡◌, ◌≢◌, ◌⊎◌, ℕ, false, List,
 use Rattle.std.specs.List.{AllByRecursion}
 use Rattle.ht_outside.specs.Causes.{Rose}
 use Rattle.ht_outside.specs.Tells.{SourceState, SinkState, Grows}
-use Rattle.ht_outside.specs.declared.disk.Disk.{Ghosts}
-use Rattle.ht_desk.specs.declared.desk_state.DeskState.{DeskState}
-use Rattle.ht_desk.specs.Keeping.{IsAt}
-use Rattle.ht_desk.specs.Replaying.{TextsOf}
 use Rattle.ht_desk.specs.States.{State}
 use Rattle.ht_desk.specs.Steps.{Steps, store_reply}
-use Rattle.ht_journal.specs.Rooms.{IsRoomy}
 use Rattle.ht_serve.specs.declared.ending.Ending.{Ending}
 use Rattle.ht_serve.specs.declared.ending.Ending.TheVariants.{Done, Wire, Budget, ReadFault, WriteFault, Memory}
 use Rattle.ht_serve.specs.Calls.{Call, StepsMade}
-use Rattle.ht_serve.specs.Exchanges.{Exchange, calls, status_of}
+use Rattle.ht_serve.specs.Exchanges.{Exchange, status_of}
 use Rattle.ht_serve.specs.Serving.{Served, sides}
 use Rattle.ht_program.specs.Folding.{Decided, IsOutput, office_of}
 
@@ -51,14 +46,6 @@ pub record Ran (moment : ℕ → ℕ) (most : ℕ) (s t : State) (old new : Stre
 -- no reply of these calls tells that a disk failed
 abbrev pub NoneFailed : List Call → Type 0
 NoneFailed made = AllByRecursion (λ c. (c.reply).answer ≢ store_reply.answer) made
-
--- The same of a desk and its disk, in whichever state of an office it was. Over a disk with room for the whole journal no
--- disk failed.
-abbrev pub RanOver : {D : Type 0} → Ghosts D → (ℕ → ℕ) → ℕ → DeskState → D → D → Streams → Streams → Ending → Type 0
-RanOver d moment most desk disk_before disk_after old new ending =
-    (beside : ℕ) (texts : TextsOf) (s : State) → IsAt d beside texts s desk disk_before
-    → (t : State) × (last : DeskState) × (ran : Ran moment most s t old new ending) × IsAt d beside texts t last disk_after
-    × (IsRoomy (d.room disk_before) s.limit → (t.faults ≡ s.faults) × NoneFailed (calls (ran.served).exchanges))
 
 -- the line was written, wholly unless the count of faults rose
 pub record Complains (old new : SinkState) (line : List ℕ) : Type 0 where

@@ -1,4 +1,4 @@
--- How a run is told: its status, and its line on complaints.
+-- How it is told what the program did: its status, and its line on complaints.
 use Rattle.std.specs.Prelude.{ℕ, List, [], ◌++◌, Result, Ok, Err, codes, decimal}
 use Rattle.ht_desk.specs.declared.fault.OpenFault.{OpenFault}
 use Rattle.ht_desk.specs.declared.fault.OpenFault.TheVariants as fault
@@ -15,7 +15,7 @@ use Rattle.ht_program.specs.declared.reading.Which.{Which}
 use Rattle.ht_program.specs.declared.reading.Which.TheVariants as which
 use Rattle.ht_program.specs.Reading.{name_in}
 
--- ---- a connection that was served
+-- ---- what was done to its ending
 
 abbrev pub ending_status : Ending → ℕ
 ending_status Done = 0

@@ -1,5 +1,5 @@
--- The words of the command line: the command run, and then its options.
-use Rattle.std.specs.Prelude.{◌≡◌, ℕ, ◌≤◌, ◌==◌, Bool, true, false, not, ◌&&◌, List, [], ◌∷◌, Option, Some, None, is_none, bytes_eq, codes, decimal, if◌then◌else◌, ⊤}
+-- The words of the command line: a command, and then its options.
+use Rattle.std.specs.Prelude.{◌≡◌, ℕ, ◌-◌, ◌^◌, ◌≤◌, ◌==◌, Bool, true, false, not, ◌&&◌, List, [], ◌∷◌, Option, Some, None, IsSome, is_none, bytes_eq, codes, decimal, if◌then◌else◌, ⊤}
 use Rattle.std.specs.List.{list_any}
 use Rattle.ht_base.specs.Moment.{last_moment}
 use Rattle.ht_desk.specs.declared.limits.TheConstants.{GREATEST_LIMIT, LEAST_LIMIT}
@@ -12,9 +12,6 @@ pub record IsNumber (least most : ℕ) (word : List ℕ) (n : ℕ) : Type 0 wher
 
 -- ---- options
 
-abbrev pub is_option : List ℕ → Bool
-is_option word = list_any (λ name. bytes_eq name word) (codes "--from" ∷ codes "--step" ∷ codes "--models" ∷ codes "--people" ∷ codes "--journal" ∷ codes "--limit" ∷ [])
-
 -- a value doesn't begin with a dash
 abbrev pub is_value : List ℕ → Bool
 is_value [] = true
@@ -26,15 +23,24 @@ value_of name [] = None
 value_of name (word ∷ []) = None
 value_of name (word ∷ value ∷ words) = if bytes_eq word name then Some value else value_of name words
 
--- an option is a name and its value, and the name doesn't stand again
-abbrev pub begin_options : List ℕ → List ℕ → List (List ℕ) → Bool
-begin_options name value words = is_option name && (is_value value && is_none (value_of name words))
+abbrev pub is_one_of : List (List ℕ) → List ℕ → Bool
+is_one_of names word = list_any (λ name. bytes_eq name word) names
 
--- the words are options one behind another
-abbrev pub are_options : List (List ℕ) → Bool
-are_options [] = true
-are_options (word ∷ []) = false
-are_options (name ∷ value ∷ words) = begin_options name value words && are_options words
+-- an option is one of these names and its value, and the name doesn't stand again
+abbrev pub begin_options : List (List ℕ) → List ℕ → List ℕ → List (List ℕ) → Bool
+begin_options names name value words = is_one_of names name && (is_value value && is_none (value_of name words))
+
+-- the words are options of these names, one behind another
+abbrev pub are_options : List (List ℕ) → List (List ℕ) → Bool
+are_options names [] = true
+are_options names (word ∷ []) = false
+are_options names (name ∷ value ∷ words) = begin_options names name value words && are_options names words
+
+-- the option with this name gives this number, which has these bounds
+pub record Gives (name : List ℕ) (least most : ℕ) (options : List (List ℕ)) (n : ℕ) : Type 0 where
+  pub word : List ℕ
+  pub given : value_of name options ≡ Some word
+  pub number : IsNumber least most word n
 
 -- the names of a models text and of a people text, which stand together
 abbrev pub AreTexts : Option (List ℕ) → Option (List ℕ) → Option (List ℕ × List ℕ) → Type 0
@@ -55,29 +61,60 @@ abbrev pub IsLimitOf : Option (List ℕ) → Option (List ℕ) → ℕ → Type 
 IsLimitOf journal None limit = limit ≡ default_limit journal
 IsLimitOf journal (Some word) limit = IsNumber LEAST_LIMIT GREATEST_LIMIT word limit
 
--- ---- the command
+-- ---- the commands
 
--- What a run is asked for: the moment of its first request and the pace of the others, the names of the two
--- texts of its office, the name of its journal and the length in bytes that this may have. Without names it
--- is the built-in office, and without a journal it is kept in memory.
-pub record RunOf : Type 0 where
-  pub from : ℕ
-  pub step : ℕ
+-- What the program is asked to do: to serve one connection, of whose requests the first is at a moment and the others follow
+-- at a pace; to judge two texts; to write all tasks; or to make so many requests from a seed.
+pub data WorkOf : Type 0 where
+  serving : ℕ → ℕ → WorkOf
+  checking : WorkOf
+  exporting : WorkOf
+  loading : ℕ → ℕ → WorkOf
+
+abbrev pub command_of : WorkOf → List ℕ
+command_of (serving from step) = codes "run"
+command_of checking = codes "check"
+command_of exporting = codes "export"
+command_of (loading seed count) = codes "load"
+
+-- the options that a command may have
+abbrev pub options_of : WorkOf → List (List ℕ)
+options_of (serving from step) = codes "--from" ∷ codes "--step" ∷ codes "--models" ∷ codes "--people" ∷ codes "--journal" ∷ codes "--limit" ∷ []
+options_of checking = codes "--models" ∷ codes "--people" ∷ []
+options_of exporting = codes "--journal" ∷ codes "--models" ∷ codes "--people" ∷ []
+options_of (loading seed count) = codes "--seed" ∷ codes "--count" ∷ codes "--journal" ∷ codes "--limit" ∷ []
+
+-- the most requests of one load
+abbrev pub most_loaded : ℕ
+most_loaded = 1048576
+
+-- the options that a command must have, and what they say of its work
+abbrev pub IsSaidBy : List (List ℕ) → WorkOf → Type 0
+IsSaidBy options (serving from step) = Gives (codes "--from") 0 last_moment options from × Gives (codes "--step") 0 last_moment options step
+IsSaidBy options checking = IsSome (value_of (codes "--models") options) × IsSome (value_of (codes "--people") options)
+IsSaidBy options exporting = IsSome (value_of (codes "--journal") options)
+IsSaidBy options (loading seed count) = Gives (codes "--seed") 0 (2 ^ 64 - 1) options seed × Gives (codes "--count") 0 most_loaded options count
+
+-- a command with options of its own, in any order
+pub record IsAsked (command : List ℕ) (options : List (List ℕ)) (work : WorkOf) : Type 0 where
+  pub named : command ≡ command_of work
+  pub allowed : are_options (options_of work) options ≡ true
+  pub said : IsSaidBy options work
+
+-- What all words say: the work, the names of the two texts of the office, the name of its journal and the length in bytes
+-- that this may have. Without names it is the built-in office, and without a journal it is kept in memory.
+pub record WordsOf : Type 0 where
+  pub work : WorkOf
   pub texts : Option (List ℕ × List ℕ)
   pub journal : Option (List ℕ)
   pub limit : ℕ
 
--- the command run with its options, in any order
-pub record IsRun (words : List (List ℕ)) (run : RunOf) : Type 0 where
+-- a command and its options
+pub record AreWords (words : List (List ℕ)) (said : WordsOf) : Type 0 where
+  pub command : List ℕ
   pub options : List (List ℕ)
-  pub words_are : words ≡ codes "run" ∷ options
-  pub allowed : are_options options ≡ true
-  pub from_word : List ℕ
-  pub from_given : value_of (codes "--from") options ≡ Some from_word
-  pub from_is : IsNumber 0 last_moment from_word run.from
-  pub step_word : List ℕ
-  pub step_given : value_of (codes "--step") options ≡ Some step_word
-  pub step_is : IsNumber 0 last_moment step_word run.step
-  pub texts_are : AreTexts (value_of (codes "--models") options) (value_of (codes "--people") options) run.texts
-  pub journal_is : value_of (codes "--journal") options ≡ run.journal
-  pub limit_is : IsLimitOf run.journal (value_of (codes "--limit") options) run.limit
+  pub words_are : words ≡ command ∷ options
+  pub work_is : IsAsked command options said.work
+  pub texts_are : AreTexts (value_of (codes "--models") options) (value_of (codes "--people") options) said.texts
+  pub journal_is : value_of (codes "--journal") options ≡ said.journal
+  pub limit_is : IsLimitOf said.journal (value_of (codes "--limit") options) said.limit

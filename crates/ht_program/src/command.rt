@@ -34,11 +34,24 @@ pub struct Named<'a> {
     pub people: &'a str,
 }
 
-/// What the words of the command `run` say. Without names the office is the built-in one. Without a
-/// journal it is kept in memory. `limit` is the length in bytes that its journal may have.
+/// What the program is asked to do.
+#[derive(Clone, Copy)]
+pub enum Work {
+    /// To serve one connection.
+    Run(Run),
+    /// To judge two texts.
+    Check,
+    /// To write all tasks.
+    Export,
+    /// To make so many requests from a seed, at most 1,048,576.
+    Load { seed: u64, count: u32 },
+}
+
+/// What the words say. Without names the office is the built-in one. Without a journal it is kept in
+/// memory. `limit` is the length in bytes that its journal may have.
 #[derive(Clone, Copy)]
 pub(crate) struct Words<'a> {
-    pub(crate) run: Run,
+    pub(crate) work: Work,
     pub(crate) texts: Option<Named<'a>>,
     pub(crate) journal: Option<&'a str>,
     pub(crate) limit: u64,

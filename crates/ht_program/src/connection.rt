@@ -7,7 +7,9 @@ ghost use Rattle.ht_outside.specs.Clocks.{moment_of};
 ghost use Rattle.ht_serve.specs.Calls.{StepsMade};
 ghost use Rattle.ht_serve.specs.Serving.{Served, sides, sides_of};
 ghost use Rattle.ht_program.specs.Inputs.{budget};
-ghost use Rattle.ht_program.specs.Running.{RanOver, streams};
+ghost use Rattle.ht_program.specs.Running.{streams};
+ghost use Rattle.ht_program.specs.Words.WorkOf.{serving};
+ghost use Rattle.ht_program.specs.Working.{DidOver};
 
 use crate::command::Run;
 use crate::machine::Machine;
@@ -29,7 +31,7 @@ pub(crate) fn serve<D: Disk, S: Source, K: Sink>(
     output: &mut K,
 ) -> Ending
     requires { Stands D.Disk desk disk.old }
-    ensures { RanOver D.Disk (moment_of run.now.from run.now.step) budget desk disk.old disk.new
+    ensures { DidOver D.Disk (serving run.now.from run.now.step) desk disk.old disk.new
         (streams (S.source_state input.old) (K.sink_state output.old))
         (streams (S.source_state input.new) (K.sink_state output.new)) result }
 {

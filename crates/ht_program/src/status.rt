@@ -34,7 +34,7 @@ pub(crate) type Line = ArrayVec<u8, 64>;
 /// The line for wrong words.
 pub(crate) const USAGE_LINE: &[u8] = b"usage: office run, serve, check, load or export\n";
 
-/// The status of a run: that of the ending of its connection, or of why its office was not opened.
+/// The status of what was done: that of its ending, or of why the office was not opened.
 pub(crate) fn status_of(end: Result<Ending, OpenFault>) -> Status
     ensures { result.0 ≡ end_status end }
 {
@@ -57,7 +57,7 @@ fn status_of_ending(ending: Ending) -> Status
     })
 }
 
-/// The line on complaints about a run, empty where there is none.
+/// The line on complaints about it, empty where there is none.
 pub(crate) fn line_of(end: Result<Ending, OpenFault>) -> Line
     ensures { result.items ≡ end_line end }
 {

@@ -2,33 +2,49 @@ ghost use Rattle.std.specs.Prelude.{◌≡◌, ◌≢◌, ◌⊎◌, ◌↔◌, 
 ghost use Rattle.ht_outside.specs.Causes.{Rose};
 ghost use Rattle.ht_program.specs.Attaching.{disks};
 ghost use Rattle.ht_program.specs.Inputs.{IsAnswered, IsStatusOf, budget};
-ghost use Rattle.ht_program.specs.Named.{pair_of, run_told};
-ghost use Rattle.ht_program.specs.Office.{IsAtFault, RunsOffice, outside_of};
+ghost use Rattle.ht_program.specs.Named.{pair_of, words_told};
+ghost use Rattle.ht_program.specs.Office.{ChecksOrRuns, IsAtFault, RunsOffice, outside_of};
+ghost use Rattle.ht_program.specs.OfficeTexts.{AreShort, texts_seen};
 ghost use Rattle.ht_program.specs.Reading as reading;
 ghost use Rattle.ht_program.specs.Reading.{AreWrong};
-ghost use Rattle.ht_program.specs.Running.{Complains};
+ghost use Rattle.ht_program.specs.Reports.{IsReport, IsReporting, Reports};
+ghost use Rattle.ht_program.specs.Running.{Complains, streams};
 ghost use Rattle.ht_program.specs.Statuses as spec;
 ghost use Rattle.ht_program.specs.Statuses.{usage_line};
-ghost use Rattle.ht_program.specs.Words.{IsRun, RunOf};
+ghost use Rattle.ht_program.specs.Words.{AreWords, WordsOf};
+ghost use Rattle.ht_program.specs.Words.WorkOf.{serving};
 
-use crate::command::{Named, Words};
+use crate::checking::check;
+use crate::command::{Named, Words, Work};
 use crate::fault_lines::{line_of_missing, status_of_missing};
+use crate::office_texts::OfficeTexts;
 use crate::reading::{TextsFault, Which, read_texts};
-use crate::running::run;
 use crate::status::{Status, USAGE_LINE, line_of, status_of};
-use crate::words::run_of;
+use crate::words::words_of;
+use crate::working::work;
 use ht_desk::{OpenFault, the_journal_of_an_office_has_no_fault};
 use ht_outside::{Disk, Failed, Sink, Source, Texts};
+use ht_serve::Ending;
 use std::alloc::Global;
 
 /// The whole program over its words, its texts, its disks, its input, its output and its complaints.
 ///
-/// `run --from F --step S` serves one connection over input and output. Request k, counted from 0,
-/// is at the moment F + k * S, in milliseconds since 1970-01-01T00:00:00Z and at most the last
-/// moment there is. With `--models NAME --people NAME` the office is that of the texts with these
-/// names, of at most 262,144 bytes each, and else the built-in one. With `--journal NAME` it is kept in
-/// the files NAME.0 and NAME.1, as which the two disks are attached, and else in memory. `--limit N` is
-/// the length in bytes that its journal may have. See [`Status`] for how it ends.
+/// The words are a command and its options, each a name and a value, in any order:
+///
+/// - `run --from F --step S` serves one connection over input and output. Request k, counted from 0,
+///   is at the moment F + k * S, in milliseconds since 1970-01-01T00:00:00Z and at most the last
+///   moment there is.
+/// - `check --models NAME --people NAME` judges two texts, and writes `models M persons P groups G`. It
+///   opens no office.
+/// - `export --journal NAME` writes all tasks as comma-separated values, as `ht_export::export` does.
+/// - `load --seed S --count C` makes C requests from the number S, as `ht_load::load` does, and writes
+///   `requests C accepted A refused R tasks T`.
+///
+/// With `--models NAME --people NAME`, which `load` has not, the office is that of the texts with these
+/// names, of at most 262,144 bytes each, and else the built-in one. With `--journal NAME`, which `check`
+/// has not, it is kept in the files NAME.0 and NAME.1, as which the two disks are attached, and else in
+/// memory. `--limit N`, of `run` and `load`, is the length in bytes that its journal may have. See
+/// [`Status`] for how it ends.
 pub fn office<X: Texts, D: Disk, S: Source, K: Sink, Q: Sink>(
     alloc: Global,
     words: &Vec<String>,
@@ -40,42 +56,49 @@ pub fn office<X: Texts, D: Disk, S: Source, K: Sink, Q: Sink>(
     complaints: &mut Q,
 ) -> Status
     ensures usage { (result.0 ≡ 2)
-        ↔ ((run : RunOf) → IsRun (map string_bytes words.now.items) run → ⊥) }
+        ↔ ((said : WordsOf) → AreWords (map string_bytes words.now.items) said → ⊥) }
     ensures refused { result.0 ≡ 2
         → (texts.new ≡ texts.old) × (first.new ≡ first.old) × (second.new ≡ second.old)
         × (input.new ≡ input.old) × (output.new ≡ output.old)
         × Complains (Q.sink_state complaints.old) (Q.sink_state complaints.new) usage_line }
-    ensures run { result.0 ≢ 2
-        → (run : RunOf) × IsRun (map string_bytes words.now.items) run
-        × RunsOffice D.Disk run (disks first.old second.old) (disks first.new second.new)
+    ensures work { result.0 ≢ 2
+        → (said : WordsOf) × AreWords (map string_bytes words.now.items) said
+        × RunsOffice D.Disk said (disks first.old second.old) (disks first.new second.new)
         (outside_of X.Texts S.Source K.Sink Q.Sink texts.old input.old output.old complaints.old)
         (outside_of X.Texts S.Source K.Sink Q.Sink texts.new input.new output.new complaints.new)
         result.0 }
+    ensures report { (said : WordsOf) → AreWords (map string_bytes words.now.items) said
+        → IsReporting said.work
+        → Reports (IsReport said (X.texts_state texts.old).texts (D.gives first.old))
+        (K.sink_state output.old) (K.sink_state output.new) result.0 }
+    ensures unread_input { (said : WordsOf) → AreWords (map string_bytes words.now.items) said
+        → IsReporting said.work → S.source_state input.new ≡ S.source_state input.old }
     ensures unread { result.0 ≡ 3
         → Rose (X.texts_state texts.old).faults (X.texts_state texts.new).faults }
-    ensures wrong { (run : RunOf) (names : List ℕ × List ℕ)
-        → IsRun (map string_bytes words.now.items) run → run.texts ≡ Some names
+    ensures wrong { (said : WordsOf) (names : List ℕ × List ℕ)
+        → AreWords (map string_bytes words.now.items) said → said.texts ≡ Some names
         → IfSome (X.texts_state texts.old).texts (λ text.
         result.0 ≢ 3 → result.0 ≢ 6 → result.0 ≢ 8
         → (result.0 ≡ 4) ↔ AreWrong (text names.0) (text names.1)) }
-    ensures built_in { (run : RunOf) → IsRun (map string_bytes words.now.items) run
-        → run.texts ≡ None
+    ensures built_in { (said : WordsOf) → AreWords (map string_bytes words.now.items) said
+        → said.texts ≡ None
         → (result.0 ≢ 3) × (result.0 ≢ 4) × (texts.new ≡ texts.old) }
-    ensures journal { (run : RunOf) → IsRun (map string_bytes words.now.items) run
+    ensures journal { (said : WordsOf) → AreWords (map string_bytes words.now.items) said
         → IfSome (X.texts_state texts.old).texts (λ text. IfSome (D.gives first.old) (λ file.
         result.0 ≢ 3 → result.0 ≢ 4 → result.0 ≢ 6 → result.0 ≢ 8
-        → (result.0 ≡ 5) ↔ IsAtFault run text file)) }
+        → (result.0 ≡ 5) ↔ IsAtFault said text file)) }
     ensures store { result.0 ≡ 6
         → Rose (D.faults first.old) (D.faults first.new)
         ⊎ Rose (D.faults second.old) (D.faults second.new) }
-    ensures in_memory { (run : RunOf) → IsRun (map string_bytes words.now.items) run
-        → run.journal ≡ None
+    ensures in_memory { (said : WordsOf) → AreWords (map string_bytes words.now.items) said
+        → said.journal ≡ None
         → (result.0 ≢ 5) × (result.0 ≢ 6)
         × (first.new ≡ first.old) × (second.new ≡ second.old) }
-    ensures exact { result.0 ≢ 2 → result.0 ≢ 3 → result.0 ≢ 4 → result.0 ≢ 5 → result.0 ≢ 6
-        → result.0 ≢ 7 → result.0 ≢ 8
+    ensures exact { (said : WordsOf) (from step : ℕ)
+        → AreWords (map string_bytes words.now.items) said → said.work ≡ serving from step
+        → result.0 ≢ 3 → result.0 ≢ 4 → result.0 ≢ 5 → result.0 ≢ 6 → result.0 ≢ 7 → result.0 ≢ 8
         → IsStatusOf budget (S.source_state input.old).flow result.0 }
-    ensures complete { (run : RunOf) → IsRun (map string_bytes words.now.items) run
+    ensures complete { (said : WordsOf) → AreWords (map string_bytes words.now.items) said
         → (Rose (X.texts_state texts.old).faults (X.texts_state texts.new).faults → ⊥)
         → (Rose (D.faults first.old) (D.faults first.new) → ⊥)
         → (Rose (D.faults second.old) (D.faults second.new) → ⊥)
@@ -89,7 +112,7 @@ pub fn office<X: Texts, D: Disk, S: Source, K: Sink, Q: Sink>(
     ht_models::built_in_text_reads();
     ht_people::built_in_text_reads();
     the_journal_of_an_office_has_no_fault();
-    match run_of(words) {
+    match words_of(words) {
         Some(words) => run_office(
             alloc, &words, texts, first, second, input, output, complaints,
         ),
@@ -100,7 +123,7 @@ pub fn office<X: Texts, D: Disk, S: Source, K: Sink, Q: Sink>(
     }
 }
 
-// What the words say: reads the texts, and runs their office.
+// What the words say, once the texts are read.
 fn run_office<X: Texts, D: Disk, S: Source, K: Sink, Q: Sink>(
     alloc: Global,
     words: &Words<'_>,
@@ -111,7 +134,7 @@ fn run_office<X: Texts, D: Disk, S: Source, K: Sink, Q: Sink>(
     output: &mut K,
     complaints: &mut Q,
 ) -> Status
-    ensures office { RunsOffice D.Disk (run_told words.now) (disks first.old second.old)
+    ensures office { RunsOffice D.Disk (words_told words.now) (disks first.old second.old)
         (disks first.new second.new)
         (outside_of X.Texts S.Source K.Sink Q.Sink texts.old input.old output.old complaints.old)
         (outside_of X.Texts S.Source K.Sink Q.Sink texts.new input.new output.new complaints.new)
@@ -122,7 +145,7 @@ fn run_office<X: Texts, D: Disk, S: Source, K: Sink, Q: Sink>(
 {
     match read_texts(alloc, words.texts, texts) {
         Ok(read) => {
-            let end = run(alloc, words, &read, first, second, input, output);
+            let end = check_or_work(alloc, words, &read, first, second, input, output);
             complain(complaints, &line_of(end));
             status_of(end)
         }
@@ -130,6 +153,28 @@ fn run_office<X: Texts, D: Disk, S: Source, K: Sink, Q: Sink>(
             complain_of(complaints, words.texts, fault);
             status_of_missing(fault)
         }
+    }
+}
+
+// Judges the texts, or does what the command asks of their office.
+fn check_or_work<D: Disk, S: Source, K: Sink>(
+    alloc: Global,
+    words: &Words<'_>,
+    read: &OfficeTexts,
+    first: &mut D,
+    second: &mut D,
+    input: &mut S,
+    output: &mut K,
+) -> Result<Ending, OpenFault>
+    requires { AreShort (texts_seen read.now) }
+    ensures { ChecksOrRuns D.Disk (words_told words.now) (texts_seen read.now)
+        (disks first.old second.old) (disks first.new second.new)
+        (streams (S.source_state input.old) (K.sink_state output.old))
+        (streams (S.source_state input.new) (K.sink_state output.new)) result }
+{
+    match words.work {
+        Work::Check => check(alloc, read, output),
+        _ => work(alloc, words, read, first, second, input, output),
     }
 }
 

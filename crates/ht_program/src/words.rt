@@ -1,44 +1,47 @@
 ghost use Rattle.std.specs.Prelude.{◌≡◌, ◌≤◌, ℕ, List, Option, Some, bytes_eq, codes, map, option_map, string_bytes, IfSome, IfNone};
-ghost use Rattle.std.specs.List.{list_any};
 ghost use Rattle.ht_base.specs.Moment.{last_moment};
 ghost use Rattle.ht_desk.specs.declared.limits.TheConstants.{GREATEST_LIMIT, LEAST_LIMIT};
-ghost use Rattle.ht_program.specs.Named.{pair_of, run_told};
+ghost use Rattle.ht_program.specs.Named.{pair_of, words_told, work_told};
 ghost use Rattle.ht_program.specs.Words as spec;
-ghost use Rattle.ht_program.specs.Words.{AreTexts, IsLimitOf, IsNumber, IsRun, RunOf};
+ghost use Rattle.ht_program.specs.Words.{AreTexts, AreWords, Gives, IsAsked, IsLimitOf, IsNumber, WordsOf, WorkOf};
 
-use crate::command::{Named, Run, Words};
+use crate::command::{Named, Run, Words, Work};
 use crate::numbers::decimal_of;
 use ht_base::LAST;
 use ht_desk::{GREATEST_LIMIT, LEAST_LIMIT};
 
-const OPTIONS: [&[u8]; 6] = [
-    b"--from",
-    b"--step",
-    b"--models",
-    b"--people",
-    b"--journal",
-    b"--limit",
+/// The names of the options that a run may have, and behind it those of the other commands.
+const OF_RUN: [&str; 6] = [
+    "--from",
+    "--step",
+    "--models",
+    "--people",
+    "--journal",
+    "--limit",
 ];
+
+const OF_CHECK: [&str; 2] = ["--models", "--people"];
+
+const OF_EXPORT: [&str; 3] = ["--journal", "--models", "--people"];
+
+const OF_LOAD: [&str; 4] = ["--seed", "--count", "--journal", "--limit"];
+
+/// The most requests that one load makes.
+const MOST_LOADED: u64 = 1_048_576;
 
 /// The length that a journal in memory may have, in bytes, where no other is given.
 const LIMIT_IN_MEMORY: u64 = 67_108_864;
 
 /// Reads the words of the command line.
-pub(crate) fn run_of(words: &[String]) -> Option<Words<'_>>
-    ensures some { IfSome result (λ w. IsRun (map string_bytes words.now) (run_told w)) }
+pub(crate) fn words_of(words: &[String]) -> Option<Words<'_>>
+    ensures some { IfSome result (λ w. AreWords (map string_bytes words.now) (words_told w)) }
     ensures none { IfNone result
-        ((run : RunOf) → IsRun (map string_bytes words.now) run → ⊥) }
+        ((said : WordsOf) → AreWords (map string_bytes words.now) said → ⊥) }
 {
     let Some((command, options)) = words.split_first() else {
         return None;
     };
-    if !is_word(command, "run") || !are_options(options) {
-        return None;
-    }
-    let Some(from) = number_of(options, "--from") else {
-        return None;
-    };
-    let Some(step) = number_of(options, "--step") else {
+    let Some(work) = work_of(command, options) else {
         return None;
     };
     let Some(texts) = texts_of(options) else {
@@ -48,21 +51,112 @@ pub(crate) fn run_of(words: &[String]) -> Option<Words<'_>>
     let Some(limit) = limit_of(options, journal) else {
         return None;
     };
-    let run = Run { from, step };
     Some(Words {
-        run,
+        work,
         texts,
         journal,
         limit,
     })
 }
 
-fn are_options(words: &[String]) -> bool
-    ensures { result ≡ spec.are_options (map string_bytes words.now) }
+// What the command and its own options say.
+fn work_of(command: &String, options: &[String]) -> Option<Work>
+    ensures some { IfSome result (λ w.
+        IsAsked (string_bytes command.now) (map string_bytes options.now) (work_told w)) }
+    ensures none { IfNone result ((w : WorkOf)
+        → IsAsked (string_bytes command.now) (map string_bytes options.now) w → ⊥) }
+{
+    if is_word(command, "run") {
+        run_of(options)
+    } else if is_word(command, "check") {
+        check_of(options)
+    } else if is_word(command, "export") {
+        export_of(options)
+    } else if is_word(command, "load") {
+        load_of(options)
+    } else {
+        None
+    }
+}
+
+// The moments of a run: the first, and the pace of the others.
+fn run_of(options: &[String]) -> Option<Work>
+    ensures some { IfSome result (λ w.
+        IsAsked (codes "run") (map string_bytes options.now) (work_told w)) }
+    ensures none { IfNone result ((w : WorkOf)
+        → IsAsked (codes "run") (map string_bytes options.now) w → ⊥) }
+{
+    if !are_options(options, &OF_RUN) {
+        return None;
+    }
+    let Some(from) = number_of(options, "--from", LAST) else {
+        return None;
+    };
+    let Some(step) = number_of(options, "--step", LAST) else {
+        return None;
+    };
+    Some(Work::Run(Run { from, step }))
+}
+
+fn check_of(options: &[String]) -> Option<Work>
+    ensures some { IfSome result (λ w.
+        IsAsked (codes "check") (map string_bytes options.now) (work_told w)) }
+    ensures none { IfNone result ((w : WorkOf)
+        → IsAsked (codes "check") (map string_bytes options.now) w → ⊥) }
+{
+    if !are_options(options, &OF_CHECK) {
+        return None;
+    }
+    match (value_of(options, "--models"), value_of(options, "--people")) {
+        (Some(_), Some(_)) => Some(Work::Check),
+        _ => None,
+    }
+}
+
+fn export_of(options: &[String]) -> Option<Work>
+    ensures some { IfSome result (λ w.
+        IsAsked (codes "export") (map string_bytes options.now) (work_told w)) }
+    ensures none { IfNone result ((w : WorkOf)
+        → IsAsked (codes "export") (map string_bytes options.now) w → ⊥) }
+{
+    if !are_options(options, &OF_EXPORT) {
+        return None;
+    }
+    match value_of(options, "--journal") {
+        Some(_) => Some(Work::Export),
+        None => None,
+    }
+}
+
+// The seed of a load, and how many requests it makes.
+fn load_of(options: &[String]) -> Option<Work>
+    ensures some { IfSome result (λ w.
+        IsAsked (codes "load") (map string_bytes options.now) (work_told w)) }
+    ensures none { IfNone result ((w : WorkOf)
+        → IsAsked (codes "load") (map string_bytes options.now) w → ⊥) }
+{
+    if !are_options(options, &OF_LOAD) {
+        return None;
+    }
+    let Some(seed) = number_of(options, "--seed", u64::MAX) else {
+        return None;
+    };
+    let Some(count) = number_of(options, "--count", MOST_LOADED) else {
+        return None;
+    };
+    Some(Work::Load {
+        seed,
+        count: count as u32,
+    })
+}
+
+// Whether the words are options of these names, one behind another.
+fn are_options(words: &[String], names: &[&str]) -> bool
+    ensures { result ≡ spec.are_options (map (λ s. s.now) names.now) (map string_bytes words.now) }
 {
     let mut rest = words;
     while let [name, value, later @ ..] = rest {
-        if !begin_options(name, value, later) {
+        if !begin_options(names, name, value, later) {
             return false;
         }
         rest = later;
@@ -70,18 +164,18 @@ fn are_options(words: &[String]) -> bool
     rest.is_empty()
 }
 
-// Whether these two words are an option, whose name does not stand again.
-fn begin_options(name: &String, value: &String, later: &[String]) -> bool
-    ensures { result ≡ spec.begin_options (string_bytes name.now) (string_bytes value.now)
-        (map string_bytes later.now) }
+// Whether these two words are an option of these names, and its name does not stand again.
+fn begin_options(names: &[&str], name: &String, value: &String, later: &[String]) -> bool
+    ensures { result ≡ spec.begin_options (map (λ s. s.now) names.now) (string_bytes name.now)
+        (string_bytes value.now) (map string_bytes later.now) }
 {
-    is_option(name) && is_value(value) && value_of(later, name.as_str()).is_none()
+    is_one_of(name, names) && is_value(value) && value_of(later, name.as_str()).is_none()
 }
 
-fn is_option(word: &String) -> bool
-    ensures { result ≡ spec.is_option (string_bytes word.now) }
+fn is_one_of(word: &String, names: &[&str]) -> bool
+    ensures { result ≡ spec.is_one_of (map (λ s. s.now) names.now) (string_bytes word.now) }
 {
-    OPTIONS.contains(&word.as_bytes())
+    names.iter().any(|name| *name == word.as_str())
 }
 
 fn is_value(word: &String) -> bool
@@ -113,17 +207,14 @@ fn is_word(word: &String, text: &str) -> bool
     word.as_str() == text
 }
 
-// The moment or the pace of an option, which must be there: a number of 0 to the last moment.
-fn number_of(options: &[String], name: &str) -> Option<u64>
-    ensures some { IfSome result (λ n.
-        (word : List ℕ) × (spec.value_of name.now (map string_bytes options.now) ≡ Some word)
-        × IsNumber 0 last_moment word n) }
-    ensures none { IfNone result ((word : List ℕ) (n : ℕ)
-        → spec.value_of name.now (map string_bytes options.now) ≡ Some word
-        → IsNumber 0 last_moment word n → ⊥) }
+// The number of an option, which must be there, from 0 to the greatest.
+fn number_of(options: &[String], name: &str, most: u64) -> Option<u64>
+    ensures some { IfSome result (Gives name.now 0 most (map string_bytes options.now)) }
+    ensures none { IfNone result ((n : ℕ)
+        → Gives name.now 0 most (map string_bytes options.now) n → ⊥) }
 {
     match value_of(options, name) {
-        Some(word) => number(word, 0, LAST),
+        Some(word) => number(word, 0, most),
         None => None,
     }
 }

@@ -215,7 +215,17 @@ run --from 0 --step 0 --limit 1048575
 run --from 0 --step 0 --journal -j
 run --from 0 --step 0 --journal a --journal b
 run --from 0 --step 0 --port 80
-serve --from 0 --step 0";
+run --from 0 --step 0 --seed 0
+serve --from 0 --step 0
+check
+check --models m
+check --models m --people p --step 0
+export --models m --people p
+export --journal j --limit 1048576
+load --seed 0
+load --seed 18446744073709551616 --count 0
+load --seed 0 --count 1048577
+load --seed 0 --count 0 --models m --people p";
 
 #[test]
 fn wrong_words_are_told(rt: HostRuntime) -> Result<(), Fail> {

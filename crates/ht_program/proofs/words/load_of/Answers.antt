@@ -1,0 +1,13 @@
+use Rattle.std.proofs.Common.{map}
+use Rattle.ht_program.proofs.Options.{bytes_of}
+use Rattle.ht_program.proofs.Said.{of_load}
+use Rattle.ht_program.proofs.words.load_of.Goals as goal
+
+pub returns-then-not-are_options-clause-none : goal.returns-then-not-are_options-clause-none
+returns-then-not-are_options-clause-none c = λ w. of_load (map bytes_of c.args.options.now) w (λ v. ⊥) (λ seed count is. let allowed = is.allowed in absurd (cc))
+
+pub returns-in_default-clause-none : goal.returns-in_default-clause-none
+returns-in_default-clause-none c = λ w. of_load (map bytes_of c.args.options.now) w (λ v. ⊥) (λ seed count is. let said = is.said in c.in_default.ensures.none seed said.0)
+
+pub returns-in_default-number_of-clause-none : goal.returns-in_default-number_of-clause-none
+returns-in_default-number_of-clause-none c = λ w. of_load (map bytes_of c.args.options.now) w (λ v. ⊥) (λ seed count is. let said = is.said in c.in_default-number_of.ensures.none count said.1)
