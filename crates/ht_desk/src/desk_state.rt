@@ -16,6 +16,13 @@ pub struct DeskState {
 }
 
 impl DeskState {
+    /// How often what happened, since the office was opened.
+    pub fn counts(&self) -> Counts
+        ensures { result ≡ self.now.counts }
+    {
+        self.counts
+    }
+
     /// The tables.
     pub fn tables(&self) -> &Tables
         ensures { result.now ≡ self.now.tables }

@@ -10,6 +10,8 @@ use ht_journal::Body;
 use std::alloc::Global;
 
 /// The record of a body.
+// Part of its callers, for which it would be moved once more.
+#[inline(always)]
 pub(crate) fn record_of(alloc: Global, body: &Body) -> Result<Record, OpenFault>
     requires bounds { body.now.at + length body.now.bytes.items ≤ 2 ^ 32 }
     ensures found { IfOk result

@@ -16,8 +16,9 @@ ghost use Rattle.ht_tree.specs.Soundness.{IsSound};
 use crate::beginning::{begin, compare_first};
 use crate::replaying::replay_one;
 use crate::{Counts, DeskState, OpenFault};
+use ht_base::Bytes;
 use ht_codec::spellings_are_short;
-use ht_journal::{JournalFault, JournalState};
+use ht_journal::{Body, JournalFault, JournalState};
 use ht_models::{Models, ModelsRefusal};
 use ht_outside::Disk;
 use ht_people::{Directory, PeopleRefusal};
@@ -142,10 +143,14 @@ fn replay<D: Disk>(
         Err(fault) => return Err(fault),
     };
     let mut length = 14 + first;
+    let mut body = Body {
+        at: 0,
+        bytes: Bytes::new(alloc),
+    };
     let mut n: u32 = 1;
     'records: while n < journal.count() {
         n += 1;
-        let size = match replay_one(alloc, journal, disk, tables, n) {
+        let size = match replay_one(alloc, journal, disk, tables, n, &mut body) {
             Ok(size) => size,
             Err(fault) => return Err(fault),
         };

@@ -15,19 +15,21 @@ ghost use Rattle.ht_tree.specs.Tables.{TablesOf};
 use crate::OpenFault;
 use crate::kept::record_of;
 use ht_base::Record;
-use ht_journal::JournalState;
+use ht_journal::{Body, JournalState};
 use ht_machine::apply;
 use ht_outside::Disk;
 use ht_tree::Tables;
 use std::alloc::Global;
 
 /// Replays the nth body on the tables that those before it lead to. It answers how many bytes it has.
+/// The body is read into the place of the one before.
 pub(crate) fn replay_one<D: Disk>(
     alloc: Global,
     journal: &mut JournalState,
     disk: &mut D,
     tables: &mut Tables,
     n: u32,
+    body: &mut Body,
 ) -> Result<u64, OpenFault>
     requires number { (1 ≤ n) × (n ≤ journal.old.count) }
     requires kept { (bodies : List (List ℕ))
@@ -60,9 +62,9 @@ pub(crate) fn replay_one<D: Disk>(
     ensures faults { D.faults disk.old ≤ D.faults disk.new }
     ensures still { OnOk result (D.faults disk.new ≡ D.faults disk.old) }
 {
-    let body = journal.body(alloc, disk, n)?;
+    journal.read_body(alloc, disk, n, body)?;
     let size = body.bytes.as_slice().len() as u64;
-    let kept = match record_of(alloc, &body) {
+    let kept = match record_of(alloc, body) {
         Ok(kept) => kept,
         Err(fault) => return Err(fault),
     };

@@ -2,7 +2,7 @@ ghost use Rattle.std.specs.Prelude.{◌^◌, ◌≤◌, ℕ, List};
 ghost use Rattle.ht_journal.specs.Keeping.{IsKept};
 
 use ht_base::Bytes;
-use ht_journal::{AppendRefusal, JournalFault, JournalState, Settled, open};
+use ht_journal::{AppendRefusal, Body, JournalFault, JournalState, Settled, open};
 use ht_outside::{Disk, MemoryDisk};
 use std::alloc::Global;
 use std::test::Fail;
@@ -15,12 +15,17 @@ pub(crate) fn disk(alloc: Global, bytes: &[u8], failing: &[u32]) -> Result<Memor
     Ok(MemoryDisk::make(alloc, Bytes::of(alloc, bytes)?, failing)?)
 }
 
-// The bodies that an opening finds, each with a point behind it.
+// The bodies that an opening finds, each with a point behind it. Each is read into the place of the one
+// before.
 pub(crate) fn found<D: Disk>(alloc: Global, disk: &mut D) -> Result<Vec<u8>, JournalFault> {
     let mut text = Vec::new(alloc);
     let mut journal = open(alloc, disk, LIMIT)?;
+    let mut body = Body {
+        at: 0,
+        bytes: Bytes::new(alloc),
+    };
     for n in 0..journal.count() {
-        let body = journal.body(alloc, disk, n + 1)?;
+        journal.read_body(alloc, disk, n + 1, &mut body)?;
         text.extend_from_slice(body.bytes.as_slice())?;
         text.push(b'.')?;
     }

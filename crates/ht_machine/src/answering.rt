@@ -19,6 +19,8 @@ pub(crate) enum Response {
 }
 
 /// What is answered of a task as it would be after the plan: its state and its owner.
+// Part of its caller, so that no owner is copied whom nobody reads.
+#[inline(always)]
 pub(crate) fn done(tables: &Tables, plan: &Plan, task: TaskId) -> Kept
     requires plan { IsPlanOf tables.now.tables plan.now }
     requires there { (row : Row)

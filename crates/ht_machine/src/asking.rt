@@ -21,6 +21,8 @@ pub(crate) struct CommandAt<'a> {
 }
 
 /// Plans a command, unless its caller is no person or its number tells that it isn't new.
+// Part of its caller, so that no response is copied.
+#[inline(always)]
 pub(crate) fn ask(
     alloc: Global,
     tables: &Tables,
@@ -43,6 +45,7 @@ pub(crate) fn ask(
 }
 
 // Plans a new command of a person.
+#[inline(always)]
 fn ask_anew(
     alloc: Global,
     tables: &Tables,

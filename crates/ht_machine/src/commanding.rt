@@ -18,6 +18,7 @@ use ht_tree::{Plan, Tables};
 use std::alloc::Global;
 
 /// Plans a person's command, and gives the task that it is about.
+#[inline(always)]
 pub(crate) fn command(
     alloc: Global,
     tables: &Tables,

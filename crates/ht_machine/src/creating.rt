@@ -20,6 +20,8 @@ use std::alloc::Global;
 
 /// Plans a new task of the model with this name, or else of the first, and its activation, unless it
 /// waits until a later moment.
+// Apart from the other commands, for which its locals would be cleared too.
+#[inline(never)]
 pub(crate) fn create(
     alloc: Global,
     tables: &Tables,

@@ -125,6 +125,8 @@ pub(crate) fn effective(last: Moment, at: Moment) -> Moment
 }
 
 // Plans what is due at the moment of a command, and then the command.
+// Part of its two callers, of which one makes no use of the reply: then it isn't made.
+#[inline(always)]
 pub(crate) fn turn_then_ask(
     alloc: Global,
     tables: &Tables,

@@ -17,6 +17,7 @@ pub(crate) enum Sending {
 }
 
 /// What is known of a command of this caller, with this number, if it has one.
+#[inline(always)]
 pub(crate) fn sending_of(
     tables: &Tables,
     caller: Name,
