@@ -3,9 +3,12 @@ use Rattle.std.proofs.Common.{◌≡◌, ◌≢◌, ◌⊎◌, inl, inr, ⊎_eli
 use Rattle.ht_base.specs.Records.{RecordOf}
 use Rattle.ht_desk.specs.declared.fault.OpenFault.{OpenFault}
 use Rattle.ht_desk.specs.declared.fault.OpenFault.TheVariants.{Models, People, Damaged, RecordRefused, TextsDiffer, Store, Memory}
-use Rattle.ht_desk.specs.Opening.{AreOfFile, IsBegunAtMost, IsOpenFault}
+use Rattle.ht_desk.specs.declared.desk_state.DeskState.{DeskState}
+use Rattle.ht_desk.specs.Keeping.{IsAt}
+use Rattle.ht_desk.specs.Opening.{AreOfFile, IsBegunAtMost, IsOpenFault, Opens, StandsOpen}
 use Rattle.ht_desk.specs.Records.{Finds, bodies_of, spelling}
 use Rattle.ht_desk.specs.Replaying.{TextsOf}
+use Rattle.ht_desk.specs.States.{State}
 use Rattle.ht_journal.specs.Files.{Fit}
 use Rattle.ht_journal.specs.Parts.{Stands}
 use Rattle.ht_journal.specs.Rooms.{IsRoomy}
@@ -15,9 +18,16 @@ use Rattle.ht_outside.specs.declared.disk.Disk.{Ghosts}
 use Rattle.ht_serve.specs.declared.ending.Ending.{Ending}
 use Rattle.ht_program.specs.Attaching.{Attaches, AttachesBoth, Disks}
 use Rattle.ht_program.specs.Attaching.AttachesBoth.{not_first, then_second}
-use Rattle.ht_program.specs.Office.{NotOpenedOn, RunsOver, WorkedInMemory, WorkedOn}
+use Rattle.ht_program.specs.Office.{KeptOn, NotOpenedOn, OpenedAs, RunsOver, WorkedInMemory, WorkedOn}
 use Rattle.ht_program.specs.Running.{Streams}
 use Rattle.ht_program.specs.Words.{WordsOf}
+
+-- an office that stands open was opened as what its file holds
+opened_as : {D : Type 0} (d : Ghosts D) (said : WordsOf) (texts : TextsOf) (beside : ℕ) (old new : D) (desk : DeskState) (st : StandsOpen d texts said.limit beside old new desk) (file : Option (List ℕ)) → d.gives old ≡ file → OpenedAs said texts file st.state
+opened_as d said texts beside old new desk st file gives = record {
+  office = record { spelled = (st.at).spelled; journal = (st.at).office; found = subst (λ g. IfSome g (AreOfFile texts st.state.records)) gives st.file };
+  begun = st.opened;
+}
 
 -- ---- in memory
 
@@ -25,6 +35,7 @@ module _ {R : Type 0} (r : Ghosts R) (said : WordsOf) (texts : TextsOf) (before 
     (empty : r.gives before ≡ Some []) (room : r.room before ≡ Some said.limit) (unfailed : r.faults before ≡ 0) where
   pub in_memory : (ending : Ending) → RunsOver r said texts before after old new (Ok ending) → WorkedInMemory said texts old new ending
   in_memory ending runs =
+      let desk = runs.0 in
       let mid = runs.1 in
       let opens = runs.2 in
       let st = opens.found 0 in
@@ -36,13 +47,8 @@ module _ {R : Type 0} (r : Ghosts R) (said : WordsOf) (texts : TextsOf) (before 
       record {
         opened = st.state;
         last = ran.0;
-        worked = record {
-          journal = (st.at).office;
-          spelled = (st.at).spelled;
-          found = subst (λ g. IfSome g (AreOfFile texts st.state.records)) empty st.file;
-          begun = st.opened;
-          did = ran.2;
-        };
+        opens = opened_as r said texts 0 before mid desk st (Some []) empty;
+        did = ran.2;
         no_faults = (none, safe.0 ∙ none);
         none_failed = safe.1;
       }
@@ -86,43 +92,40 @@ still_begun texts was now same = subst (λ (g : Option (List ℕ)). IfSome was (
 not_store : ◌≡◌ {A = Result (Unit {0}) OpenFault} (Ok tt) (Err Store) → ⊥
 not_store e = cc
 
-module _ {D : Type 0} (d : Ghosts D) (said : WordsOf) (texts : TextsOf) (before mid after : Disks D) (old new : Streams)
+module _ {D : Type 0} (d : Ghosts D) (said : WordsOf) (texts : TextsOf) (before mid after : Disks D)
     (first : Attaches d before.first mid.first (Ok tt)) (second : Attaches d before.second after.second (Ok tt)) where
-  pub on_disks : (ending : Ending) → RunsOver d said texts mid.first after.first old new (Ok ending) → WorkedOn d said texts before after old new ending
-  on_disks ending runs =
-      let opens = runs.2 in
-      let st = opens.found (d.faults after.second) in
-      let ran = runs.3 (d.faults after.second) texts st.state st.at in
-      let last = ran.3 in
-      record {
-        opened = st.state;
-        last = ran.0;
-        worked = record {
-          journal = (st.at).office;
-          spelled = (st.at).spelled;
-          found = subst (λ g. IfSome g (AreOfFile texts st.state.records)) first.file st.file;
-          begun = st.opened;
-          did = ran.2;
-        };
-        opened_faults = (st.at).failures ∙ ap (λ n. together n (d.faults after.second)) (opens.still ∙ first.still not_store) ∙ ap (together (d.faults before.first)) (second.still not_store);
-        last_faults = last.failures;
-        holds = holds (ran.0).records (ran.0).doubt _ last.doubted (d.gives after.first) (last.kept).file;
-        found = found (ran.0).records (ran.0).doubt _ last.doubted (last.kept).fit (d.gives after.first) (last.kept).file;
-        desk = ran.1;
-        kept = last;
-        second = second.file;
-      }
+  -- how often the second failed at the end is how often it had failed when the office was opened
+  module _ (mid_disk : D) (desk : DeskState) (opens : Opens d texts said.limit mid.first mid_disk (Ok desk)) where
+    abbrev pub stands : StandsOpen d texts said.limit (d.faults after.second) mid.first mid_disk desk
+    stands = opens.found (d.faults after.second)
 
-  pub none_on_disks : (fault : OpenFault) → RunsOver d said texts mid.first after.first old new (Err fault) → NotOpenedOn d texts before after fault × (new ≡ old)
-  none_on_disks fault runs =
-      let opens = runs.0 in (
-        record {
-          why = inl (subst (λ n. IsOpenFault texts (d.gives before.first) n (d.faults after.first) fault) (first.still not_store) (subst (λ g. IsOpenFault texts g (d.faults mid.first) (d.faults after.first) fault) first.file opens.refused));
-          holds = subst (λ g. IfSome g (λ file. IfSome (d.gives after.first) (IsBegunAtMost texts file))) first.file opens.begun;
-          second = second.file;
-        },
-        runs.1,
-      )
+    pub kept_on : (last : State) (left : DeskState) → IsAt d (d.faults after.second) texts last left after.first → KeptOn d said texts before after stands.state last
+    kept_on last left at = record {
+      opens = opened_as d said texts (d.faults after.second) mid.first mid_disk desk stands (d.gives before.first) first.file;
+      opened_faults = (stands.at).failures ∙ ap (λ n. together n (d.faults after.second)) (opens.still ∙ first.still not_store) ∙ ap (together (d.faults before.first)) (second.still not_store);
+      last_faults = at.failures;
+      holds = holds last.records last.doubt _ at.doubted (d.gives after.first) (at.kept).file;
+      found = found last.records last.doubt _ at.doubted (at.kept).fit (d.gives after.first) (at.kept).file;
+      desk = left;
+      kept = at;
+      second = second.file;
+    }
+
+  pub on_disks : (old new : Streams) (ending : Ending) → RunsOver d said texts mid.first after.first old new (Ok ending) → WorkedOn d said texts before after old new ending
+  on_disks old new ending runs =
+      let st = stands runs.1 runs.0 runs.2 in
+      let ran = runs.3 (d.faults after.second) texts st.state st.at in
+      record { opened = st.state; last = ran.0; keeps = kept_on runs.1 runs.0 runs.2 ran.0 ran.1 ran.3; did = ran.2 }
+
+  pub none_kept_on : (fault : OpenFault) → Opens d texts said.limit mid.first after.first (Err fault) → NotOpenedOn d texts before after fault
+  none_kept_on fault opens = record {
+    why = inl (subst (λ n. IsOpenFault texts (d.gives before.first) n (d.faults after.first) fault) (first.still not_store) (subst (λ g. IsOpenFault texts g (d.faults mid.first) (d.faults after.first) fault) first.file opens.refused));
+    holds = subst (λ g. IfSome g (λ file. IfSome (d.gives after.first) (IsBegunAtMost texts file))) first.file opens.begun;
+    second = second.file;
+  }
+
+  pub none_on_disks : (old new : Streams) (fault : OpenFault) → RunsOver d said texts mid.first after.first old new (Err fault) → NotOpenedOn d texts before after fault × (new ≡ old)
+  none_on_disks old new fault runs = (none_kept_on fault runs.0, runs.1)
 
 -- both were attached
 pub attached : {D : Type 0} (d : Ghosts D) (before after : Disks D) (done : Unit {0}) → AttachesBoth d before after (Ok done) → Attaches d before.first after.first (Ok tt) × Attaches d before.second after.second (Ok tt)

@@ -8,7 +8,9 @@ mod OfDesk
 mod OneOutput
 mod OneReport
 mod Opened
+mod OpenedOffices
 mod Options
+pub mod PublicLaws
 mod Reported
 mod Said
 mod Simulated

@@ -31,7 +31,7 @@ use Rattle.ht_program.specs.Folding.Decided.{nothing_left, kept, full}
 use Rattle.ht_program.specs.Inputs.{budget, lasts}
 use Rattle.ht_program.specs.Reading.{Reads}
 use Rattle.ht_program.specs.Words.{WordsOf}
-use Rattle.ht_program.specs.Words.WorkOf.{serving}
+use Rattle.ht_program.specs.Words.WorkOf.{running}
 use Rattle.ht_program.proofs.Said.{one_reading}
 use Rattle.ht_program.proofs.TextStatuses.{same_texts}
 use Rattle.ht_serve.proofs.PublicLaws.{over_later}
@@ -195,7 +195,7 @@ same_records texts file a b p q (inl found) (inr new) = absurd (some_records tex
 same_records texts file a b p q (inr new) (inl found) = absurd (some_records texts b.records b.tables q.journal (same_contents file (bodies_of b.records) [] found new.0))
 same_records texts file a b p q (inr new) (inr other) = new.1 ∙ sym other.1
 
-one_pace : (a b m n : ℕ) → serving a b ≡ serving m n → (a ≡ m) × (b ≡ n)
+one_pace : (a b m n : ℕ) → running a b ≡ running m n → (a ≡ m) × (b ≡ n)
 one_pace a b m n e = (cc, cc)
 
 module _ (one_state : (texts : TextsOf) (records : List RecordOf) (t u : TablesOf) → IsJournalOf texts records t → IsJournalOf texts records u → t ≡ u) where

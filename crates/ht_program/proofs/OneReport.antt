@@ -23,7 +23,7 @@ use Rattle.ht_program.specs.Folding.{OfficeOf, file_of, file_told, office_of}
 use Rattle.ht_program.specs.Reading.{Reads}
 use Rattle.ht_program.specs.Reports.{IsOf, IsOfCheck, IsOfExport, IsOfLoad, IsReportOf, IsUndisturbed}
 use Rattle.ht_program.specs.Words.{WordsOf, WorkOf}
-use Rattle.ht_program.specs.Words.WorkOf.{checking, exporting, loading, serving}
+use Rattle.ht_program.specs.Words.WorkOf.{checking, exporting, loading, running, serving}
 use Rattle.ht_program.proofs.OneOutput.{same_office}
 use Rattle.ht_program.proofs.Said.{one_reading}
 use Rattle.ht_program.proofs.TextStatuses.{same_texts}
@@ -66,7 +66,8 @@ module _ (one_models : (text : List ℕ) (a b : Result (List ModelOf) ModelsRefu
   Is work limit texts file text = (is : IsOf work limit texts file text) × IsUndisturbed work limit texts file text is
 
   of_work : (work : WorkOf) (limit : ℕ) (texts : TextsOf) (file a b : List ℕ) → Is work limit texts (Some file) a → Is work limit texts (Some file) b → a ≡ b
-  of_work (serving from step) limit texts file a b x y = absurd x.0
+  of_work (running from step) limit texts file a b x y = absurd x.0
+  of_work (serving service) limit texts file a b x y = absurd x.0
   of_work checking limit texts file a b x y = of_check texts a b x.0 y.0
   of_work exporting limit texts file a b x y = of_export texts file a b x.0 y.0
   of_work (loading seed count) limit texts file a b x y = of_load seed count limit texts file a b x.0 y.0 x.1 y.1

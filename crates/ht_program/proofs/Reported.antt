@@ -21,7 +21,7 @@ use Rattle.ht_program.specs.Reports.{IsOf, IsReport, IsReporting, Reports}
 use Rattle.ht_program.specs.Running.{Streams}
 use Rattle.ht_program.specs.Statuses.{end_status, ending_status, fault_status, missing_status}
 use Rattle.ht_program.specs.Words.{WordsOf, WorkOf}
-use Rattle.ht_program.specs.Words.WorkOf.{checking, exporting, loading, serving}
+use Rattle.ht_program.specs.Words.WorkOf.{checking, exporting, loading, running, serving}
 use Rattle.ht_program.specs.Working.{Did, Tells}
 use Rattle.ht_program.proofs.Statuses.{worked_of}
 
@@ -88,7 +88,8 @@ record HasTold (work : WorkOf) (limit : ℕ) (texts : TextsOf) (f : Option (List
 
 module _ (texts : TextsOf) (f : Option (List ℕ)) (limit : ℕ) (s t : State) (old new : Streams) (e : Ending) where
   did_tell : (work : WorkOf) → IsReporting work → IsIn texts f (office_of s) → IsOpened limit s → Did work s t old new e → HasTold work limit texts f old new e
-  did_tell (serving from step) reports opens begun did = absurd reports
+  did_tell (running from step) reports opens begun did = absurd reports
+  did_tell (serving service) reports opens begun did = absurd reports
   did_tell checking reports opens begun did = absurd did
   did_tell exporting reports opens begun did = record {
     text = export_text s.tables;
@@ -102,7 +103,8 @@ module _ (texts : TextsOf) (f : Option (List ℕ)) (limit : ℕ) (s t : State) (
   }
 
   did_leave : (work : WorkOf) → IsReporting work → Did work s t old new e → new.input ≡ old.input
-  did_leave (serving from step) reports did = absurd reports
+  did_leave (running from step) reports did = absurd reports
+  did_leave (serving service) reports did = absurd reports
   did_leave checking reports did = absurd did
   did_leave exporting reports did = did.unread
   did_leave (loading seed count) reports did = did.unread
@@ -123,10 +125,8 @@ module _ {D : Type 0} (d : Ghosts D) (said : WordsOf) (before after : Disks D) (
   of_run (Err why) texts reads runs is = refused IsText _ _ status why is (ap (λ (c : Streams). c.output) (not_opened said.journal texts why runs))
   of_run (Ok e) texts reads runs is =
       let has = worked_of d said before after old new status said.journal texts e runs in
-      let w = has.worked in
       let f = file_told said.journal (d.gives before.first) in
-      let opens : IsIn texts f (office_of has.opened) = record { spelled = w.spelled; journal = w.journal; found = w.found } in
-      let tells = did_tell texts f said.limit has.opened has.last old.connection new.connection e said.work reports opens w.begun w.did in
+      let tells = did_tell texts f said.limit has.opened has.last old.connection new.connection e said.work reports (has.opens).office (has.opens).begun has.did in
       told IsText _ _ status e tells.text (record { texts = texts; reads = reads; is = tells.is }) tells.tells is
 
   of_check : (end : Result Ending OpenFault) (texts : TextsOf) → Reads said.texts old.texts.texts (Ok texts) → said.work ≡ checking → Checks texts old.connection.output new.connection.output end → status ≡ end_status end → Reports IsText old.connection.output new.connection.output status
@@ -146,7 +146,7 @@ module _ {D : Type 0} (d : Ghosts D) (said : WordsOf) (before after : Disks D) (
   left_by (Err why) texts runs = ap (λ (c : Streams). c.input) (not_opened said.journal texts why runs)
   left_by (Ok e) texts runs =
       let has = worked_of d said before after old new status said.journal texts e runs in
-      did_leave texts None 0 has.opened has.last old.connection new.connection e said.work reports (has.worked).did
+      did_leave texts None 0 has.opened has.last old.connection new.connection e said.work reports has.did
 
   pub unread_input : RunsOffice d said before after old new status → new.connection.input ≡ old.connection.input
   unread_input (inl ran) = ⊎_elim (λ checked. checked.2) (λ runs. left_by ran.end ran.texts runs.1) ran.runs

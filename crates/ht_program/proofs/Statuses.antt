@@ -26,12 +26,12 @@ use Rattle.ht_program.specs.declared.reading.TextsFault.TheVariants.{Unread, Too
 use Rattle.ht_program.specs.Attaching.{Disks}
 use Rattle.ht_program.specs.Folding.{file_told}
 use Rattle.ht_program.specs.Inputs.{IsAnswered, IsStatusOf, budget}
-use Rattle.ht_program.specs.Office.{Outside, Runs, RunsOffice, Worked}
+use Rattle.ht_program.specs.Office.{OpenedAs, Outside, Runs, RunsOffice}
 use Rattle.ht_program.specs.Reading.{AreWrong}
 use Rattle.ht_program.specs.Statuses.{end_status, ending_status, fault_status, missing_status}
 use Rattle.ht_program.specs.Running.{Streams}
 use Rattle.ht_program.specs.Words.{WordsOf, WorkOf}
-use Rattle.ht_program.specs.Words.WorkOf.{checking, exporting, loading, serving}
+use Rattle.ht_program.specs.Words.WorkOf.{checking, exporting, loading, running, serving}
 use Rattle.ht_program.specs.Working.{Did}
 use Rattle.ht_program.proofs.Checked.{answered_check, broken_check, of_texts as of_judged}
 use Rattle.ht_program.proofs.InputStatus.{status_of_input}
@@ -96,13 +96,15 @@ below a b n h r = omega arith
 -- a fault of input or output has its cause
 module _ (s t : State) (old new : Streams) where
   read_rose : (work : WorkOf) → Did work s t old new ending.ReadFault → Rose old.input.faults new.input.faults
-  read_rose (serving from step) did = (did.served).ends.3
+  read_rose (running from step) did = (did.served).ends.3
+  read_rose (serving service) did = absurd did
   read_rose checking did = absurd did
   read_rose exporting did = absurd (did.tells).wrote
   read_rose (loading seed count) did = absurd (did.tells).wrote
 
   write_rose : (work : WorkOf) → Did work s t old new ending.WriteFault → Rose old.output.faults new.output.faults
-  write_rose (serving from step) did = ((did.served).ends.1).rose
+  write_rose (running from step) did = ((did.served).ends.1).rose
+  write_rose (serving service) did = absurd did
   write_rose checking did = absurd did
   write_rose exporting did = ((did.tells).cause).failed refl
   write_rose (loading seed count) did = ((did.tells).cause).failed refl
@@ -156,11 +158,12 @@ module _ {D : Type 0} (d : Ghosts D) (said : WordsOf) (before after : Disks D) (
   pub record HasWorked (journal : Option (List ℕ)) (texts : TextsOf) (e : Ending) : Type 0 where
     pub opened : State
     pub last : State
-    pub worked : Worked said texts (file journal) opened last old.connection new.connection e
+    pub opens : OpenedAs said texts (file journal) opened
+    pub did : Did said.work opened last old.connection new.connection e
 
   pub worked_of : (journal : Option (List ℕ)) (texts : TextsOf) (e : Ending) → Runs d journal said texts before after old.connection new.connection (Ok e) → HasWorked journal texts e
-  worked_of None texts e runs = record { opened = (runs.0).opened; last = (runs.0).last; worked = (runs.0).worked }
-  worked_of (Some name) texts e runs = record { opened = runs.opened; last = runs.last; worked = runs.worked }
+  worked_of None texts e runs = record { opened = (runs.0).opened; last = (runs.0).last; opens = (runs.0).opens; did = (runs.0).did }
+  worked_of (Some name) texts e runs = record { opened = runs.opened; last = runs.last; opens = (runs.keeps).opens; did = runs.did }
 
   -- ---- 2
 
@@ -242,8 +245,8 @@ module _ {D : Type 0} (d : Ghosts D) (said : WordsOf) (before after : Disks D) (
   answered_end (Ok ending.Done) texts runs is first second read write = inl is
   answered_end (Ok (ending.Wire code)) texts runs is first second read write = inr (inl is)
   answered_end (Ok ending.Budget) texts runs is first second read write = inr (inr (inr (inr (inr is))))
-  answered_end (Ok ending.ReadFault) texts runs is first second read write = let has = worked_of said.journal texts _ runs in absurd (read (read_rose has.opened has.last old.connection new.connection said.work (has.worked).did))
-  answered_end (Ok ending.WriteFault) texts runs is first second read write = let has = worked_of said.journal texts _ runs in absurd (write (write_rose has.opened has.last old.connection new.connection said.work (has.worked).did))
+  answered_end (Ok ending.ReadFault) texts runs is first second read write = let has = worked_of said.journal texts _ runs in absurd (read (read_rose has.opened has.last old.connection new.connection said.work has.did))
+  answered_end (Ok ending.WriteFault) texts runs is first second read write = let has = worked_of said.journal texts _ runs in absurd (write (write_rose has.opened has.last old.connection new.connection said.work has.did))
   answered_end (Ok ending.Memory) texts runs is first second read write = inr (inr (inr (inr (inl is))))
   answered_end (Err (fault.Models why)) texts runs is first second read write = inr (inr (inl is))
   answered_end (Err (fault.People why)) texts runs is first second read write = inr (inr (inl is))
@@ -269,8 +272,8 @@ module _ {D : Type 0} (d : Ghosts D) (said : WordsOf) (before after : Disks D) (
   broke_end (Ok ending.Done) texts runs is = absurd (omega arith)
   broke_end (Ok (ending.Wire code)) texts runs is = absurd (omega arith)
   broke_end (Ok ending.Budget) texts runs is = absurd (omega arith)
-  broke_end (Ok ending.ReadFault) texts runs is = let has = worked_of said.journal texts _ runs in inl (read_rose has.opened has.last old.connection new.connection said.work (has.worked).did)
-  broke_end (Ok ending.WriteFault) texts runs is = let has = worked_of said.journal texts _ runs in inr (write_rose has.opened has.last old.connection new.connection said.work (has.worked).did)
+  broke_end (Ok ending.ReadFault) texts runs is = let has = worked_of said.journal texts _ runs in inl (read_rose has.opened has.last old.connection new.connection said.work has.did)
+  broke_end (Ok ending.WriteFault) texts runs is = let has = worked_of said.journal texts _ runs in inr (write_rose has.opened has.last old.connection new.connection said.work has.did)
   broke_end (Ok ending.Memory) texts runs is = absurd (omega arith)
   broke_end (Err (fault.Models why)) texts runs is = absurd (omega arith)
   broke_end (Err (fault.People why)) texts runs is = absurd (omega arith)
@@ -290,11 +293,11 @@ module _ {D : Type 0} (d : Ghosts D) (said : WordsOf) (before after : Disks D) (
   broke (inr missing) seven = absurd (missing_not_seven missing.why (sym missing.status_is ∙ seven))
 
   -- the way that the input of a run ended
-  module _ (from step : ℕ) (serves : said.work ≡ serving from step) where
+  module _ (from step : ℕ) (serves : said.work ≡ running from step) where
     exact_end : (end : Result Ending OpenFault) (texts : TextsOf) → Runs d said.journal said texts before after old.connection new.connection end → status ≡ end_status end → status ≢ 4 → status ≢ 5 → status ≢ 6 → status ≢ 7 → status ≢ 8 → IsStatusOf budget old.connection.input.flow status
     exact_end (Ok e) texts runs is four five six seven eight =
         let has = worked_of said.journal texts e runs in
-        status_of_input _ _ has.opened has.last old.connection new.connection e status (subst (λ (w : WorkOf). Did w has.opened has.last old.connection new.connection e) serves (has.worked).did) is seven eight
+        status_of_input _ _ has.opened has.last old.connection new.connection e status (subst (λ (w : WorkOf). Did w has.opened has.last old.connection new.connection e) serves has.did) is seven eight
     exact_end (Err (fault.Models why)) texts runs is four five six seven eight = absurd (four is)
     exact_end (Err (fault.People why)) texts runs is four five six seven eight = absurd (four is)
     exact_end (Err (fault.Damaged at)) texts runs is four five six seven eight = absurd (five is)

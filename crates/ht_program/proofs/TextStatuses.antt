@@ -36,10 +36,10 @@ use Rattle.ht_program.proofs.Statuses.{bad_models, bad_people, empty_file, endin
 -- ---- the texts that were read
 
 -- they are those of these names, and neither is too long
-these : (text : List ℕ → List ℕ) (names : List ℕ × List ℕ) (texts : TextsOf) → Reads (Some names) (Some text) (Ok texts) → texts ≡ texts_of (text names.0) (text names.1)
+pub these : (text : List ℕ → List ℕ) (names : List ℕ × List ℕ) (texts : TextsOf) → Reads (Some names) (Some text) (Ok texts) → texts ≡ texts_of (text names.0) (text names.1)
 these text names texts reads = (reads.4).0 ∙ ap (λ (m : List ℕ). texts_of m reads.1) reads.2 ∙ ap (texts_of (text names.0)) reads.3
 
-short : (told : Option (List ℕ → List ℕ)) (names : List ℕ × List ℕ) (texts : TextsOf) → Reads (Some names) told (Ok texts) → (length texts.models ≤ LONGEST_OFFICE_TEXT) × (length texts.people ≤ LONGEST_OFFICE_TEXT)
+pub short : (told : Option (List ℕ → List ℕ)) (names : List ℕ × List ℕ) (texts : TextsOf) → Reads (Some names) told (Ok texts) → (length texts.models ≤ LONGEST_OFFICE_TEXT) × (length texts.people ≤ LONGEST_OFFICE_TEXT)
 short told names texts reads =
     let P : TextsOf → Type 0 = λ t. (length t.models ≤ LONGEST_OFFICE_TEXT) × (length t.people ≤ LONGEST_OFFICE_TEXT) in
     subst P (sym (reads.4).0) ((reads.4).1, (reads.4).2)
@@ -60,7 +60,7 @@ module _ {D : Type 0} (d : Ghosts D) (said : WordsOf) (before after : Disks D) (
 
     wrong_end : (end : Result Ending OpenFault) → RunsTo texts end → status ≡ end_status end → status ≢ 6 → status ≢ 8 → (status ≡ 4) ↔ AreWrong texts.models texts.people
     wrong_end (Ok e) runs is six eight =
-        let w = (worked_of d said before after old new status said.journal texts e runs).worked in
+        let w = ((worked_of d said before after old new status said.journal texts e runs).opens).office in
         ((λ four. absurd (ending_not e 4 (omega arith) (omega arith) (sym is ∙ four))), (λ wrong. absurd (right texts _ (w.journal).begins few.0 few.1 wrong)))
     wrong_end (Err (fault.Models why)) runs is six eight = ((λ four. bad_models texts why (of_models d said before after old new status said.journal texts why (why_of d said before after old new status said.journal texts _ runs))), (λ wrong. is))
     wrong_end (Err (fault.People why)) runs is six eight = ((λ four. bad_people texts why (of_people d said before after old new status said.journal texts why (why_of d said before after old new status said.journal texts _ runs))), (λ wrong. is))
@@ -127,7 +127,7 @@ module _ {D : Type 0} (d : Ghosts D) (said : WordsOf) (before after : Disks D) (
     journal_end : (end : Result Ending OpenFault) (texts : TextsOf) → Reads said.texts (Some text) (Ok texts) → RunsTo texts end → status ≡ end_status end → status ≢ 4 → status ≢ 6 → status ≢ 8 → (status ≡ 5) ↔ IsAtFault said text f
     journal_end (Ok e) texts reads runs is four six eight =
         let has = worked_of d said before after old new status said.journal texts e runs in
-        let w = has.worked in
+        let w = (has.opens).office in
         let found = subst (λ (g : Option (List ℕ)). IfSome g (AreOfFile texts (has.opened).records)) (told_file said.journal) w.found in (
           (λ five. absurd (ending_not e 5 (omega arith) (omega arith) (sym is ∙ five))),
           (λ bad. absurd (whole texts _ _ (file_of said.journal f) (bad.2).0 w.spelled w.journal found (subst (λ (t : TextsOf). Fails t (file_of said.journal f) (bad.2).0) (same_texts said.texts text bad.0 texts bad.1 reads) (bad.2).1))),

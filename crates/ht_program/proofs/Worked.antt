@@ -20,7 +20,7 @@ use Rattle.ht_serve.specs.Exchanges.{calls}
 use Rattle.ht_serve.specs.Serving.{Served, Sides, sides}
 use Rattle.ht_program.specs.Inputs.{budget}
 use Rattle.ht_program.specs.Running.{NoneFailed, Streams}
-use Rattle.ht_program.specs.Words.WorkOf.{serving}
+use Rattle.ht_program.specs.Words.WorkOf.{running}
 use Rattle.ht_program.specs.Working.{DidOver}
 use Rattle.ht_program.proofs.Folded.{ran}
 use Rattle.ht_program.proofs.Simulated.{simulated}
@@ -84,7 +84,7 @@ module _ {D A N : Type 0} (d : Ghosts D) (disk : A → D) (desk : A → DeskStat
     begins : IsAt d beside texts s (desk a) (disk a) → Goes a s
     begins at = record { at = at; room = refl; limit = sym at.limited; still = λ roomy. refl }
 
-  pub ran_over : (from step : ℕ) (a b : A) (old new : Streams) (clock : Option (ℕ → ℕ)) (e : Ending) → Served (StepsMade Moves a b) ⊥ false budget 0 (sides old.input old.output (Some (moment_of from step))) (sides new.input new.output clock) [] e → DidOver d (serving from step) (desk a) (disk a) (disk b) old new e
+  pub ran_over : (from step : ℕ) (a b : A) (old new : Streams) (clock : Option (ℕ → ℕ)) (e : Ending) → Served (StepsMade Moves a b) ⊥ false budget 0 (sides old.input old.output (Some (moment_of from step))) (sides new.input new.output clock) [] e → DidOver d (running from step) (desk a) (disk a) (disk b) old new e
   ran_over from step a b old new clock e served = λ beside texts s at.
       let made = simulated (Goes beside texts a s) Moves Steps (Each beside texts a s) (follows beside texts a s) a b s (calls served.exchanges) (served.serves).made (begins beside texts a s at) in
       let here = with_made (StepsMade Moves a b) (StepsMade Steps s made.0) budget _ _ e served made.1 in

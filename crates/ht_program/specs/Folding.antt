@@ -28,7 +28,7 @@ use Rattle.ht_serve.specs.Texts.{refusal_bytes, reply_status}
 use Rattle.ht_program.specs.Inputs.{budget, lasts}
 use Rattle.ht_program.specs.Reading.{Reads}
 use Rattle.ht_program.specs.Words.{AreWords, WordsOf}
-use Rattle.ht_program.specs.Words.WorkOf.{serving}
+use Rattle.ht_program.specs.Words.WorkOf.{running}
 
 -- ---- the office
 
@@ -123,13 +123,13 @@ pub record IsIn (texts : TextsOf) (file : Option (List ℕ)) (office : OfficeOf)
   pub journal : IsJournalOf texts office.records office.tables
   pub found : IfSome file (AreOfFile texts office.records)
 
--- what `office` writes that is given these words, of `run`, these texts and this file, and reads these bytes
+-- what `office_alone` writes that is given these words, of `run`, these texts and this file, and reads these bytes
 pub record IsOutputOf (words : List (List ℕ)) (told : List ℕ → List ℕ) (file bytes out : List ℕ) : Type 0 where
   pub said : WordsOf
   pub said_is : AreWords words said
   pub from : ℕ
   pub step : ℕ
-  pub serves : said.work ≡ serving from step
+  pub serves : said.work ≡ running from step
   pub texts : TextsOf
   pub reads : Reads said.texts (Some told) (Ok texts)
   pub office : OfficeOf

@@ -12,16 +12,16 @@ use Rattle.ht_desk.specs.declared.desk_state.DeskState.{DeskState}
 use Rattle.ht_desk.specs.declared.fault.OpenFault.{OpenFault}
 use Rattle.ht_desk.specs.declared.fault.OpenFault.TheVariants.{Store}
 use Rattle.ht_desk.specs.Keeping.{IsAt}
-use Rattle.ht_desk.specs.Opening.{AreOfFile, Fails, IsBegunAtMost, IsOpenFault, Opens}
-use Rattle.ht_desk.specs.Records.{AreSpelled, Finds, bodies_of, spelling}
-use Rattle.ht_desk.specs.Replaying.{IsJournalOf, TextsOf}
+use Rattle.ht_desk.specs.Opening.{Fails, IsBegunAtMost, IsOpenFault, Opens}
+use Rattle.ht_desk.specs.Records.{Finds, bodies_of, spelling}
+use Rattle.ht_desk.specs.Replaying.{TextsOf}
 use Rattle.ht_desk.specs.States.{IsOpened, State}
 use Rattle.ht_journal.specs.Parts.{Stands}
 use Rattle.ht_serve.specs.declared.ending.Ending.{Ending}
 use Rattle.ht_program.specs.declared.reading.TextsFault.{TextsFault}
 use Rattle.ht_program.specs.Attaching.{Disks}
 use Rattle.ht_program.specs.Checking.{Checks}
-use Rattle.ht_program.specs.Folding.{file_of}
+use Rattle.ht_program.specs.Folding.{IsIn, file_of, office_of}
 use Rattle.ht_program.specs.Reading.{AsksFor, Reads}
 use Rattle.ht_program.specs.Running.{Complains, Streams, streams}
 use Rattle.ht_program.specs.Statuses.{end_line, end_status, missing_line, missing_status}
@@ -53,30 +53,25 @@ RunsOver d said texts disk_before disk_after old new (Err fault) = Opens d texts
 
 -- ---- the office
 
--- It was opened in one state, in which it has the records of the file, as far as that is told. It did what the command
--- asks, which left it in the other state.
-pub record Worked (said : WordsOf) (texts : TextsOf) (file : Option (List ℕ)) (opened last : State) (old new : Streams) (ending : Ending) : Type 0 where
-  pub journal : IsJournalOf texts opened.records opened.tables
-  pub spelled : AreSpelled opened.records
-  pub found : IfSome file (AreOfFile texts opened.records)
+-- It was opened in this state, in which it has the records of the file, as far as that is told.
+pub record OpenedAs (said : WordsOf) (texts : TextsOf) (file : Option (List ℕ)) (opened : State) : Type 0 where
+  pub office : IsIn texts file (office_of opened)
   pub begun : IsOpened said.limit opened
-  pub did : Did said.work opened last old new ending
 
--- In memory no disk fails.
+-- In memory it did what the command asks, which left it in the last state, and no disk failed.
 pub record WorkedInMemory (said : WordsOf) (texts : TextsOf) (old new : Streams) (ending : Ending) : Type 0 where
   pub opened : State
   pub last : State
-  pub worked : Worked said texts (Some []) opened last old new ending
+  pub opens : OpenedAs said texts (Some []) opened
+  pub did : Did said.work opened last old new ending
   pub no_faults : (opened.faults ≡ 0) × (last.faults ≡ 0)
-  pub none_failed : DidWhole said.work opened last old new ending worked.did
+  pub none_failed : DidWhole said.work opened last old new ending did
 
--- On two disks the faults of each state are theirs together, and the first holds the records of the last state and no
--- more; or these and the one in doubt, where one stands, whose gate may hold anything. The second is neither read nor
--- written.
-pub record WorkedOn {D : Type 0} (d : Ghosts D) (said : WordsOf) (texts : TextsOf) (before after : Disks D) (old new : Streams) (ending : Ending) : Type 0 where
-  pub opened : State
-  pub last : State
-  pub worked : Worked said texts (d.gives before.first) opened last old new ending
+-- An office that went from the one state, in which it was opened, to the other was kept on two disks. The faults of each
+-- state are theirs together, and the first holds the records of the last state and no more; or these and the one in
+-- doubt, where one stands, whose gate may hold anything. The second is neither read nor written.
+pub record KeptOn {D : Type 0} (d : Ghosts D) (said : WordsOf) (texts : TextsOf) (before after : Disks D) (opened last : State) : Type 0 where
+  pub opens : OpenedAs said texts (d.gives before.first) opened
   pub opened_faults : opened.faults ≡ together (d.faults before.first) (d.faults before.second)
   pub last_faults : last.faults ≡ together (d.faults after.first) (d.faults after.second)
   pub holds : IfSome (d.gives after.first) (Stands (bodies_of last.records) (option_map spelling last.doubt))
@@ -84,6 +79,13 @@ pub record WorkedOn {D : Type 0} (d : Ghosts D) (said : WordsOf) (texts : TextsO
   pub desk : DeskState
   pub kept : IsAt d (d.faults after.second) texts last desk after.first
   pub second : d.gives after.second ≡ d.gives before.second
+
+-- on two disks it did what the command asks
+pub record WorkedOn {D : Type 0} (d : Ghosts D) (said : WordsOf) (texts : TextsOf) (before after : Disks D) (old new : Streams) (ending : Ending) : Type 0 where
+  pub opened : State
+  pub last : State
+  pub keeps : KeptOn d said texts before after opened last
+  pub did : Did said.work opened last old new ending
 
 -- Why an office wasn't opened over two disks: as an opening of the first says, or a disk failed. The first holds what it
 -- did, or the first record where it held none.

@@ -13,7 +13,7 @@ use Rattle.ht_program.specs.Checking.{AreCounted, counted_line}
 use Rattle.ht_program.specs.Folding.{IsIn, OfficeOf, file_told, office_of}
 use Rattle.ht_program.specs.Reading.{Reads}
 use Rattle.ht_program.specs.Words.{AreWords, WordsOf, WorkOf}
-use Rattle.ht_program.specs.Words.WorkOf.{checking, exporting, loading, serving}
+use Rattle.ht_program.specs.Words.WorkOf.{checking, exporting, loading, running, serving}
 
 -- ---- the texts
 
@@ -40,19 +40,21 @@ pub record IsOfLoad (seed count limit : ℕ) (texts : TextsOf) (file : Option (L
   pub text_is : text ≡ sums_line sums
 
 abbrev pub IsOf : WorkOf → ℕ → TextsOf → Option (List ℕ) → List ℕ → Type 0
-IsOf (serving from step) limit texts file text = ⊥
+IsOf (running from step) limit texts file text = ⊥
+IsOf (serving service) limit texts file text = ⊥
 IsOf checking limit texts file text = IsOfCheck texts text
 IsOf exporting limit texts file text = IsOfExport texts file text
 IsOf (loading seed count) limit texts file text = IsOfLoad seed count limit texts file text
 
 -- no request of a load was refused for want of memory, by a disk that failed or by the length of the journal
 abbrev pub IsUndisturbed : (work : WorkOf) (limit : ℕ) (texts : TextsOf) (file : Option (List ℕ)) (text : List ℕ) → IsOf work limit texts file text → Type 0
-IsUndisturbed (serving from step) limit texts file text is = Unit {0}
+IsUndisturbed (running from step) limit texts file text is = Unit {0}
+IsUndisturbed (serving service) limit texts file text is = Unit {0}
 IsUndisturbed checking limit texts file text is = Unit {0}
 IsUndisturbed exporting limit texts file text is = Unit {0}
 IsUndisturbed (loading seed count) limit texts file text is = AreDecided ((is.loads).load).history
 
--- what `office` writes whose words say this, and which is given these texts and this file, where they are told
+-- what `office_alone` writes whose words say this, and which is given these texts and this file, where they are told
 pub record IsReport (said : WordsOf) (told : Option (List ℕ → List ℕ)) (file : Option (List ℕ)) (text : List ℕ) : Type 0 where
   pub texts : TextsOf
   pub reads : Reads said.texts told (Ok texts)
@@ -73,7 +75,8 @@ pub record Reports (IsText : List ℕ → Type 0) (old new : SinkState) (status 
 
 -- which commands write such a text, and nothing else; they read nothing of the input
 abbrev pub IsReporting : WorkOf → Type 0
-IsReporting (serving from step) = ⊥
+IsReporting (running from step) = ⊥
+IsReporting (serving service) = ⊥
 IsReporting checking = Unit {0}
 IsReporting exporting = Unit {0}
 IsReporting (loading seed count) = Unit {0}

@@ -42,6 +42,11 @@ pub record Gives (name : List ℕ) (least most : ℕ) (options : List (List ℕ)
   pub given : value_of name options ≡ Some word
   pub number : IsNumber least most word n
 
+-- an option that may be missing: no number, where it isn't there, and else this number, which has these bounds
+abbrev pub MayGive : List ℕ → ℕ → ℕ → List (List ℕ) → Option ℕ → Type 0
+MayGive name least most options None = value_of name options ≡ None
+MayGive name least most options (Some n) = Gives name least most options n
+
 -- the names of a models text and of a people text, which stand together
 abbrev pub AreTexts : Option (List ℕ) → Option (List ℕ) → Option (List ℕ × List ℕ) → Type 0
 AreTexts None None None = ⊤
@@ -63,23 +68,36 @@ IsLimitOf journal (Some word) limit = IsNumber LEAST_LIMIT GREATEST_LIMIT word l
 
 -- ---- the commands
 
+-- the port at which connections are taken, how many workers serve them, how many milliseconds the timer rests between two
+-- turns, and how many connections are served before the end; without that number there is none
+pub record Service : Type 0 where
+  pub port : ℕ
+  pub workers : ℕ
+  pub tick : ℕ
+  pub connections : Option ℕ
+
 -- What the program is asked to do: to serve one connection, of whose requests the first is at a moment and the others follow
--- at a pace; to judge two texts; to write all tasks; or to make so many requests from a seed.
+-- at a pace; to serve connections over a port; to judge two texts; to write all tasks; or to make so many requests from a
+-- seed.
 pub data WorkOf : Type 0 where
-  serving : ℕ → ℕ → WorkOf
+  running : ℕ → ℕ → WorkOf
+  serving : Service → WorkOf
   checking : WorkOf
   exporting : WorkOf
   loading : ℕ → ℕ → WorkOf
 
 abbrev pub command_of : WorkOf → List ℕ
-command_of (serving from step) = codes "run"
+command_of (running from step) = codes "run"
+command_of (serving service) = codes "serve"
 command_of checking = codes "check"
 command_of exporting = codes "export"
 command_of (loading seed count) = codes "load"
 
 -- the options that a command may have
 abbrev pub options_of : WorkOf → List (List ℕ)
-options_of (serving from step) = codes "--from" ∷ codes "--step" ∷ codes "--models" ∷ codes "--people" ∷ codes "--journal" ∷ codes "--limit" ∷ []
+options_of (running from step) = codes "--from" ∷ codes "--step" ∷ codes "--models" ∷ codes "--people" ∷ codes "--journal" ∷ codes "--limit" ∷ []
+options_of (serving service) =
+    codes "--journal" ∷ codes "--port" ∷ codes "--workers" ∷ codes "--tick" ∷ codes "--models" ∷ codes "--people" ∷ codes "--connections" ∷ codes "--limit" ∷ []
 options_of checking = codes "--models" ∷ codes "--people" ∷ []
 options_of exporting = codes "--journal" ∷ codes "--models" ∷ codes "--people" ∷ []
 options_of (loading seed count) = codes "--seed" ∷ codes "--count" ∷ codes "--journal" ∷ codes "--limit" ∷ []
@@ -88,9 +106,33 @@ options_of (loading seed count) = codes "--seed" ∷ codes "--count" ∷ codes "
 abbrev pub most_loaded : ℕ
 most_loaded = 1048576
 
+-- the greatest number of a port
+abbrev pub greatest_port : ℕ
+greatest_port = 65535
+
+-- the most workers of one office
+abbrev pub most_workers : ℕ
+most_workers = 64
+
+-- the longest tick, in milliseconds: one hour
+abbrev pub longest_tick : ℕ
+longest_tick = 3600000
+
+-- the most connections that are served before the end
+abbrev pub most_connections : ℕ
+most_connections = 1000000
+
+-- what the options say of a service
+pub record IsService (options : List (List ℕ)) (service : Service) : Type 0 where
+  pub port : Gives (codes "--port") 1 greatest_port options service.port
+  pub workers : Gives (codes "--workers") 1 most_workers options service.workers
+  pub tick : Gives (codes "--tick") 1 longest_tick options service.tick
+  pub connections : MayGive (codes "--connections") 1 most_connections options service.connections
+
 -- the options that a command must have, and what they say of its work
 abbrev pub IsSaidBy : List (List ℕ) → WorkOf → Type 0
-IsSaidBy options (serving from step) = Gives (codes "--from") 0 last_moment options from × Gives (codes "--step") 0 last_moment options step
+IsSaidBy options (running from step) = Gives (codes "--from") 0 last_moment options from × Gives (codes "--step") 0 last_moment options step
+IsSaidBy options (serving service) = IsSome (value_of (codes "--journal") options) × IsService options service
 IsSaidBy options checking = IsSome (value_of (codes "--models") options) × IsSome (value_of (codes "--people") options)
 IsSaidBy options exporting = IsSome (value_of (codes "--journal") options)
 IsSaidBy options (loading seed count) = Gives (codes "--seed") 0 (2 ^ 64 - 1) options seed × Gives (codes "--count") 0 most_loaded options count
@@ -118,3 +160,17 @@ pub record AreWords (words : List (List ℕ)) (said : WordsOf) : Type 0 where
   pub texts_are : AreTexts (value_of (codes "--models") options) (value_of (codes "--people") options) said.texts
   pub journal_is : value_of (codes "--journal") options ≡ said.journal
   pub limit_is : IsLimitOf said.journal (value_of (codes "--limit") options) said.limit
+
+-- ---- without waiting
+
+-- which works end without waiting for anybody: all but to serve connections over a port
+abbrev pub IsAlone : WorkOf → Type 0
+IsAlone (running from step) = Unit {0}
+IsAlone (serving service) = ⊥
+IsAlone checking = Unit {0}
+IsAlone exporting = Unit {0}
+IsAlone (loading seed count) = Unit {0}
+
+-- the words aren't those of `serve`
+abbrev pub AreAlone : List (List ℕ) → Type 0
+AreAlone words = (rest : List (List ℕ)) → words ≡ codes "serve" ∷ rest → ⊥

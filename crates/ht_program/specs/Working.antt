@@ -20,7 +20,7 @@ use Rattle.ht_serve.specs.Exchanges.{calls}
 use Rattle.ht_program.specs.Inputs.{budget}
 use Rattle.ht_program.specs.Running.{NoneFailed, Ran, Streams}
 use Rattle.ht_program.specs.Words.{WorkOf}
-use Rattle.ht_program.specs.Words.WorkOf.{checking, exporting, loading, serving}
+use Rattle.ht_program.specs.Words.WorkOf.{checking, exporting, loading, running, serving}
 
 -- ---- a text that is written
 
@@ -53,16 +53,18 @@ pub record Loaded (seed count : ℕ) (s t : State) (old new : Streams) (ending :
   pub tells : Tells (sums_line sums) old.output new.output ending
   pub unread : new.input ≡ old.input
 
--- No office is opened to judge texts.
+-- No office is opened to judge texts. Connections over a port are served by workers, of which nothing is said here.
 abbrev pub Did : WorkOf → State → State → Streams → Streams → Ending → Type 0
-Did (serving from step) s t old new ending = Ran (moment_of from step) budget s t old new ending
+Did (running from step) s t old new ending = Ran (moment_of from step) budget s t old new ending
+Did (serving service) s t old new ending = ⊥
 Did checking s t old new ending = ⊥
 Did exporting s t old new ending = Exported s t old new ending
 Did (loading seed count) s t old new ending = Loaded seed count s t old new ending
 
 -- no reply of it tells that a disk failed
 abbrev pub DidWhole : (work : WorkOf) (s t : State) (old new : Streams) (ending : Ending) → Did work s t old new ending → Type 0
-DidWhole (serving from step) s t old new ending did = NoneFailed (calls (did.served).exchanges)
+DidWhole (running from step) s t old new ending did = NoneFailed (calls (did.served).exchanges)
+DidWhole (serving service) s t old new ending did = Unit {0}
 DidWhole checking s t old new ending did = Unit {0}
 DidWhole exporting s t old new ending did = Unit {0}
 DidWhole (loading seed count) s t old new ending did = load.NoneFailed ((did.loads).load).history

@@ -5,8 +5,9 @@ use ht_desk::OpenFault;
 use ht_outside::{Disk, Failed};
 use std::alloc::Global;
 
-/// Attaches the two disks of a journal: the name with `.0` behind it, and with `.1`.
-pub(crate) fn attach<D: Disk>(
+/// Attaches the two disks of a journal: the name with `.0` behind it, and with `.1`. It is told that a disk
+/// failed, or that there is no memory for a name.
+pub fn attach<D: Disk>(
     alloc: Global,
     name: &str,
     first: &mut D,

@@ -1,6 +1,8 @@
+ghost use Rattle.std.specs.Option.{ForSome};
 ghost use Rattle.std.specs.Prelude.{◌≡◌, ◌≤◌};
 ghost use Rattle.ht_base.specs.Moment.{last_moment};
 ghost use Rattle.ht_desk.specs.declared.limits.TheConstants.{GREATEST_LIMIT, LEAST_LIMIT};
+ghost use Rattle.ht_program.specs.Words.{greatest_port, longest_tick, most_connections, most_workers};
 
 use ht_base::Moment;
 use ht_outside::StepClock;
@@ -27,6 +29,21 @@ impl Run {
     }
 }
 
+/// The port at which connections are taken, 1 to 65,535; how many workers serve them, 1 to 64; how many
+/// milliseconds the timer rests between two turns, 1 to 3,600,000; and how many connections are served
+/// before the end, 1 to 1,000,000. Without that number there is no end.
+#[derive(Clone, Copy)]
+pub struct Serve {
+    pub port: u16,
+    pub workers: u32,
+    pub tick: u32,
+    pub connections: Option<u32>,
+    ghost bounded: { (1 ≤ port) × (port ≤ greatest_port)
+        × (1 ≤ workers) × (workers ≤ most_workers)
+        × (1 ≤ tick) × (tick ≤ longest_tick)
+        × ForSome connections (λ n. (1 ≤ n) × (n ≤ most_connections)) },
+}
+
 /// The names of the two texts of an office.
 #[derive(Clone, Copy)]
 pub struct Named<'a> {
@@ -39,6 +56,8 @@ pub struct Named<'a> {
 pub enum Work {
     /// To serve one connection.
     Run(Run),
+    /// To serve connections over a port, beside a timer.
+    Serve(Serve),
     /// To judge two texts.
     Check,
     /// To write all tasks.
@@ -50,10 +69,10 @@ pub enum Work {
 /// What the words say. Without names the office is the built-in one. Without a journal it is kept in
 /// memory. `limit` is the length in bytes that its journal may have.
 #[derive(Clone, Copy)]
-pub(crate) struct Words<'a> {
-    pub(crate) work: Work,
-    pub(crate) texts: Option<Named<'a>>,
-    pub(crate) journal: Option<&'a str>,
-    pub(crate) limit: u64,
+pub struct Words<'a> {
+    pub work: Work,
+    pub texts: Option<Named<'a>>,
+    pub journal: Option<&'a str>,
+    pub limit: u64,
     ghost bounded: { (LEAST_LIMIT ≤ limit) × (limit ≤ GREATEST_LIMIT) },
 }

@@ -8,7 +8,7 @@ ghost use Rattle.ht_serve.specs.Calls.{StepsMade};
 ghost use Rattle.ht_serve.specs.Serving.{Served, sides, sides_of};
 ghost use Rattle.ht_program.specs.Inputs.{budget};
 ghost use Rattle.ht_program.specs.Running.{streams};
-ghost use Rattle.ht_program.specs.Words.WorkOf.{serving};
+ghost use Rattle.ht_program.specs.Words.WorkOf.{running};
 ghost use Rattle.ht_program.specs.Working.{DidOver};
 
 use crate::command::Run;
@@ -31,7 +31,7 @@ pub(crate) fn serve<D: Disk, S: Source, K: Sink>(
     output: &mut K,
 ) -> Ending
     requires { Stands D.Disk desk disk.old }
-    ensures { DidOver D.Disk (serving run.now.from run.now.step) desk disk.old disk.new
+    ensures { DidOver D.Disk (running run.now.from run.now.step) desk disk.old disk.new
         (streams (S.source_state input.old) (K.sink_state output.old))
         (streams (S.source_state input.new) (K.sink_state output.new)) result }
 {

@@ -9,7 +9,7 @@ use ht_models::ModelsRefusal;
 use ht_people::PeopleRefusal;
 
 /// The status where the texts are missing.
-pub(crate) fn status_of_missing(fault: TextsFault) -> Status
+pub fn status_of_missing(fault: TextsFault) -> Status
     ensures { result.0 ≡ spec.missing_status fault }
 {
     Status(match fault {
@@ -20,7 +20,7 @@ pub(crate) fn status_of_missing(fault: TextsFault) -> Status
 }
 
 /// The status of an office that is not opened.
-pub(crate) fn status_of_fault(fault: OpenFault) -> Status
+pub fn status_of_fault(fault: OpenFault) -> Status
     ensures { result.0 ≡ spec.fault_status fault }
 {
     Status(match fault {
@@ -48,20 +48,21 @@ pub(crate) fn line_of_missing(fault: TextsFault) -> Line
     line
 }
 
-/// Puts the line about an office that is not opened.
-pub(crate) fn put_fault(line: &mut Line, fault: OpenFault)
-    requires { line.old.items ≡ [] }
-    ensures { line.new.items ≡ fault_line fault }
+/// The line on complaints about an office that is not opened.
+pub fn line_of_fault(fault: OpenFault) -> Line
+    ensures { result.items ≡ fault_line fault }
 {
+    let mut line = Line::new();
     match fault {
-        OpenFault::Models(refusal) => put_models(line, refusal),
-        OpenFault::People(refusal) => put_people(line, refusal),
-        OpenFault::Damaged(at) => put_numbered(line, b"journal: damaged at ", at),
-        OpenFault::RecordRefused(n) => put_numbered(line, b"journal: record ", n as u64),
-        OpenFault::TextsDiffer => put(line, b"journal: texts differ\n"),
-        OpenFault::Store => put(line, b"journal: store\n"),
-        OpenFault::Memory => put(line, b"memory\n"),
+        OpenFault::Models(refusal) => put_models(&mut line, refusal),
+        OpenFault::People(refusal) => put_people(&mut line, refusal),
+        OpenFault::Damaged(at) => put_numbered(&mut line, b"journal: damaged at ", at),
+        OpenFault::RecordRefused(n) => put_numbered(&mut line, b"journal: record ", n as u64),
+        OpenFault::TextsDiffer => put(&mut line, b"journal: texts differ\n"),
+        OpenFault::Store => put(&mut line, b"journal: store\n"),
+        OpenFault::Memory => put(&mut line, b"memory\n"),
     }
+    line
 }
 
 fn put_numbered(line: &mut Line, words: &[u8], n: u64)

@@ -10,14 +10,14 @@ use ht_serve::TakesEvents;
 /// A durable office with the disk of its journal. Whoever goes on with the disk closes it before: nothing
 /// is known of the disk otherwise.
 #[derive(Drop)]
-pub(crate) struct Machine<'a, D: Disk, S> {
-    pub(crate) disk: &'a mut D,
-    pub(crate) state: S,
+pub struct Machine<'a, D: Disk, S> {
+    pub disk: &'a mut D,
+    pub state: S,
 }
 
 impl<'a, D: Disk, S> Machine<'a, D, S> {
     /// Gives the disk back, and hands out the state.
-    pub(crate) fn close(self) -> S
+    pub fn close(self) -> S
         ensures disk { self.exit.0.now ≡ self.entry.disk.now }
         ensures state { result ≡ self.entry.state }
     {

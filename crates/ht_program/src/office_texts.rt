@@ -13,13 +13,14 @@ const PEOPLE: &[u8] =
 
 /// The two texts of an office: the built-in ones, or two that were read.
 #[derive(Drop)]
-pub(crate) enum OfficeTexts {
+pub enum OfficeTexts {
     BuiltIn,
     Read { models: Bytes, people: Bytes },
 }
 
 impl OfficeTexts {
-    pub(crate) fn models(&self) -> &[u8]
+    /// The models text.
+    pub fn models(&self) -> &[u8]
         ensures { result.now ≡ (texts_seen self.now).models }
     {
         match self {
@@ -28,7 +29,8 @@ impl OfficeTexts {
         }
     }
 
-    pub(crate) fn people(&self) -> &[u8]
+    /// The people text.
+    pub fn people(&self) -> &[u8]
         ensures { result.now ≡ (texts_seen self.now).people }
     {
         match self {

@@ -32,7 +32,7 @@ pub enum TextsFault {
 }
 
 /// The texts of these names, or else the built-in ones. The models text is read first.
-pub(crate) fn read_texts<X: Texts>(
+pub fn read_texts<X: Texts>(
     alloc: Global,
     named: Option<Named<'_>>,
     texts: &mut X,

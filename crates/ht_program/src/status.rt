@@ -2,7 +2,7 @@ ghost use Rattle.std.specs.Prelude.{◌≡◌, ◌≢◌, ◌+◌, ◌≤◌, []
 ghost use Rattle.std.specs.Process.{exit_status};
 ghost use Rattle.ht_program.specs.Statuses.{end_line, end_status, ending_line, ending_status};
 
-use crate::fault_lines::{put_fault, status_of_fault};
+use crate::fault_lines::{line_of_fault, status_of_fault};
 use arrayvec::ArrayVec;
 use ht_desk::OpenFault;
 use ht_serve::Ending;
@@ -28,11 +28,11 @@ pub fn exit_code(status: Status) -> ExitCode
     ExitCode::from(status.0)
 }
 
-/// A line on complaints, with its line feed.
-pub(crate) type Line = ArrayVec<u8, 64>;
+/// A line on complaints, with its line feed, of at most 64 bytes.
+pub type Line = ArrayVec<u8, 64>;
 
 /// The line for wrong words.
-pub(crate) const USAGE_LINE: &[u8] = b"usage: office run, serve, check, load or export\n";
+pub const USAGE_LINE: &[u8] = b"usage: office run, serve, check, load or export\n";
 
 /// The status of what was done: that of its ending, or of why the office was not opened.
 pub(crate) fn status_of(end: Result<Ending, OpenFault>) -> Status
@@ -61,26 +61,25 @@ fn status_of_ending(ending: Ending) -> Status
 pub(crate) fn line_of(end: Result<Ending, OpenFault>) -> Line
     ensures { result.items ≡ end_line end }
 {
-    let mut line = Line::new();
     match end {
-        Ok(ending) => put_ending(&mut line, ending),
-        Err(fault) => put_fault(&mut line, fault),
+        Ok(ending) => line_of_ending(ending),
+        Err(fault) => line_of_fault(fault),
     }
-    line
 }
 
-fn put_ending(line: &mut Line, ending: Ending)
-    requires { line.old.items ≡ [] }
-    ensures { line.new.items ≡ ending_line ending }
+fn line_of_ending(ending: Ending) -> Line
+    ensures { result.items ≡ ending_line ending }
 {
+    let mut line = Line::new();
     match ending {
         Ending::Done => {}
-        Ending::Wire(code) => put_wire(line, code),
+        Ending::Wire(code) => put_wire(&mut line, code),
         Ending::ReadFault => {}
         Ending::WriteFault => {}
-        Ending::Memory => put(line, b"memory\n"),
-        Ending::Budget => put(line, b"budget\n"),
+        Ending::Memory => put(&mut line, b"memory\n"),
+        Ending::Budget => put(&mut line, b"budget\n"),
     }
+    line
 }
 
 fn put_wire(line: &mut Line, code: u16)
@@ -94,7 +93,7 @@ fn put_wire(line: &mut Line, code: u16)
 }
 
 /// Puts bytes behind those that are there, for which there is room.
-pub(crate) fn put(line: &mut Line, bytes: &[u8])
+pub fn put(line: &mut Line, bytes: &[u8])
     requires { length line.old.items + length bytes.now ≤ 64 }
     ensures { line.new.items ≡ line.old.items ++ bytes.now }
 {

@@ -2,7 +2,7 @@ ghost use Rattle.std.specs.Prelude.{◌≡◌, ◌≢◌, ◌⊎◌, ◌↔◌, 
 ghost use Rattle.ht_outside.specs.Causes.{Rose};
 ghost use Rattle.ht_program.specs.Attaching.{disks};
 ghost use Rattle.ht_program.specs.Inputs.{IsAnswered, IsStatusOf, budget};
-ghost use Rattle.ht_program.specs.Named.{pair_of, words_told};
+ghost use Rattle.ht_program.specs.Named.{pair_of, words_told, work_told};
 ghost use Rattle.ht_program.specs.Office.{ChecksOrRuns, IsAtFault, RunsOffice, outside_of};
 ghost use Rattle.ht_program.specs.OfficeTexts.{AreShort, texts_seen};
 ghost use Rattle.ht_program.specs.Reading as reading;
@@ -11,8 +11,8 @@ ghost use Rattle.ht_program.specs.Reports.{IsReport, IsReporting, Reports};
 ghost use Rattle.ht_program.specs.Running.{Complains, streams};
 ghost use Rattle.ht_program.specs.Statuses as spec;
 ghost use Rattle.ht_program.specs.Statuses.{usage_line};
-ghost use Rattle.ht_program.specs.Words.{AreWords, WordsOf};
-ghost use Rattle.ht_program.specs.Words.WorkOf.{serving};
+ghost use Rattle.ht_program.specs.Words.{AreAlone, AreWords, IsAlone, WordsOf};
+ghost use Rattle.ht_program.specs.Words.WorkOf.{running};
 
 use crate::checking::check;
 use crate::command::{Named, Words, Work};
@@ -27,7 +27,8 @@ use ht_outside::{Disk, Failed, Sink, Source, Texts};
 use ht_serve::Ending;
 use std::alloc::Global;
 
-/// The whole program over its words, its texts, its disks, its input, its output and its complaints.
+/// The program without the command `serve`, over its words, its texts, its disks, its input, its output and
+/// its complaints. It waits for nobody, so it returns.
 ///
 /// The words are a command and its options, each a name and a value, in any order:
 ///
@@ -43,9 +44,9 @@ use std::alloc::Global;
 /// With `--models NAME --people NAME`, which `load` has not, the office is that of the texts with these
 /// names, of at most 262,144 bytes each, and else the built-in one. With `--journal NAME`, which `check`
 /// has not, it is kept in the files NAME.0 and NAME.1, as which the two disks are attached, and else in
-/// memory. `--limit N`, of `run` and `load`, is the length in bytes that its journal may have. See
-/// [`Status`] for how it ends.
-pub fn office<X: Texts, D: Disk, S: Source, K: Sink, Q: Sink>(
+/// memory. `--limit N`, of `run` and `load`, is the length in bytes that its journal may have. Other words
+/// are refused; those that begin with `serve` may not be given. See [`Status`] for how it ends.
+pub fn office_alone<X: Texts, D: Disk, S: Source, K: Sink, Q: Sink>(
     alloc: Global,
     words: &Vec<String>,
     texts: &mut X,
@@ -55,6 +56,7 @@ pub fn office<X: Texts, D: Disk, S: Source, K: Sink, Q: Sink>(
     output: &mut K,
     complaints: &mut Q,
 ) -> Status
+    requires alone { AreAlone (map string_bytes words.now.items) }
     ensures usage { (result.0 ≡ 2)
         ↔ ((said : WordsOf) → AreWords (map string_bytes words.now.items) said → ⊥) }
     ensures refused { result.0 ≡ 2
@@ -95,7 +97,7 @@ pub fn office<X: Texts, D: Disk, S: Source, K: Sink, Q: Sink>(
         → (result.0 ≢ 5) × (result.0 ≢ 6)
         × (first.new ≡ first.old) × (second.new ≡ second.old) }
     ensures exact { (said : WordsOf) (from step : ℕ)
-        → AreWords (map string_bytes words.now.items) said → said.work ≡ serving from step
+        → AreWords (map string_bytes words.now.items) said → said.work ≡ running from step
         → result.0 ≢ 3 → result.0 ≢ 4 → result.0 ≢ 5 → result.0 ≢ 6 → result.0 ≢ 7 → result.0 ≢ 8
         → IsStatusOf budget (S.source_state input.old).flow result.0 }
     ensures complete { (said : WordsOf) → AreWords (map string_bytes words.now.items) said
@@ -134,6 +136,7 @@ fn run_office<X: Texts, D: Disk, S: Source, K: Sink, Q: Sink>(
     output: &mut K,
     complaints: &mut Q,
 ) -> Status
+    requires alone { IsAlone (work_told words.now.work) }
     ensures office { RunsOffice D.Disk (words_told words.now) (disks first.old second.old)
         (disks first.new second.new)
         (outside_of X.Texts S.Source K.Sink Q.Sink texts.old input.old output.old complaints.old)
@@ -166,7 +169,8 @@ fn check_or_work<D: Disk, S: Source, K: Sink>(
     input: &mut S,
     output: &mut K,
 ) -> Result<Ending, OpenFault>
-    requires { AreShort (texts_seen read.now) }
+    requires short { AreShort (texts_seen read.now) }
+    requires alone { IsAlone (work_told words.now.work) }
     ensures { ChecksOrRuns D.Disk (words_told words.now) (texts_seen read.now)
         (disks first.old second.old) (disks first.new second.new)
         (streams (S.source_state input.old) (K.sink_state output.old))
@@ -188,8 +192,8 @@ pub fn tell_no_memory<Q: Sink>(complaints: &mut Q) -> Status
     Status::MEMORY
 }
 
-// Tells why the texts of these names are missing.
-fn complain_of<Q: Sink>(complaints: &mut Q, named: Option<Named<'_>>, fault: TextsFault)
+/// Writes the line about texts of these names that are missing.
+pub fn complain_of<Q: Sink>(complaints: &mut Q, named: Option<Named<'_>>, fault: TextsFault)
     ensures { Complains (Q.sink_state complaints.old) (Q.sink_state complaints.new)
         (spec.missing_line (unwrap_or (option_map pair_of named.entry) ([], [])) fault) }
 {
@@ -225,7 +229,7 @@ fn complain_unread<Q: Sink>(complaints: &mut Q, name: &str)
 }
 
 /// Writes a line, if there is one. That it can't be written changes no status.
-pub(crate) fn complain<Q: Sink>(complaints: &mut Q, line: &[u8])
+pub fn complain<Q: Sink>(complaints: &mut Q, line: &[u8])
     ensures { Complains (Q.sink_state complaints.old) (Q.sink_state complaints.new) line.now }
 {
     if line.is_empty() {

@@ -1,11 +1,11 @@
-ghost use Rattle.std.specs.Prelude.{◌≡◌, ◌≤◌, ℕ, List, Option, Some, bytes_eq, codes, map, option_map, string_bytes, IfSome, IfNone};
+ghost use Rattle.std.specs.Prelude.{◌≡◌, ◌≤◌, ◌∷◌, ℕ, List, Option, Some, bytes_eq, codes, false, true, map, option_map, string_bytes, IfSome, IfNone};
 ghost use Rattle.ht_base.specs.Moment.{last_moment};
 ghost use Rattle.ht_desk.specs.declared.limits.TheConstants.{GREATEST_LIMIT, LEAST_LIMIT};
-ghost use Rattle.ht_program.specs.Named.{pair_of, words_told, work_told};
+ghost use Rattle.ht_program.specs.Named.{pair_of, service_told, words_told, work_told};
 ghost use Rattle.ht_program.specs.Words as spec;
-ghost use Rattle.ht_program.specs.Words.{AreTexts, AreWords, Gives, IsAsked, IsLimitOf, IsNumber, WordsOf, WorkOf};
+ghost use Rattle.ht_program.specs.Words.{AreAlone, AreTexts, AreWords, Gives, IsAsked, IsLimitOf, IsNumber, IsService, MayGive, Service, WordsOf, WorkOf, most_connections};
 
-use crate::command::{Named, Run, Words, Work};
+use crate::command::{Named, Run, Serve, Words, Work};
 use crate::numbers::decimal_of;
 use ht_base::LAST;
 use ht_desk::{GREATEST_LIMIT, LEAST_LIMIT};
@@ -26,14 +26,49 @@ const OF_EXPORT: [&str; 3] = ["--journal", "--models", "--people"];
 
 const OF_LOAD: [&str; 4] = ["--seed", "--count", "--journal", "--limit"];
 
+const OF_SERVE: [&str; 8] = [
+    "--journal",
+    "--port",
+    "--workers",
+    "--tick",
+    "--models",
+    "--people",
+    "--connections",
+    "--limit",
+];
+
+/// The greatest number of a port.
+const GREATEST_PORT: u64 = 65_535;
+
+/// The most workers of one office.
+const MOST_WORKERS: u64 = 64;
+
+/// The longest tick of the timer, in milliseconds.
+const LONGEST_TICK: u64 = 3_600_000;
+
+/// The most connections that are served before the end.
+const MOST_CONNECTIONS: u64 = 1_000_000;
+
 /// The most requests that one load makes.
 const MOST_LOADED: u64 = 1_048_576;
 
 /// The length that a journal in memory may have, in bytes, where no other is given.
 const LIMIT_IN_MEMORY: u64 = 67_108_864;
 
-/// Reads the words of the command line.
-pub(crate) fn words_of(words: &[String]) -> Option<Words<'_>>
+/// Whether the words begin with another command than `serve`, or there are none.
+pub fn are_alone(words: &Vec<String>) -> bool
+    ensures yes { result ≡ true → AreAlone (map string_bytes words.now.items) }
+    ensures no { result ≡ false
+        → (rest : List (List ℕ)) × (map string_bytes words.now.items ≡ codes "serve" ∷ rest) }
+{
+    match words.split_first() {
+        Some((command, _)) => !is_word(command, "serve"),
+        None => true,
+    }
+}
+
+/// Reads the words of the command line; `None` where they are not in its grammar.
+pub fn words_of(words: &[String]) -> Option<Words<'_>>
     ensures some { IfSome result (λ w. AreWords (map string_bytes words.now) (words_told w)) }
     ensures none { IfNone result
         ((said : WordsOf) → AreWords (map string_bytes words.now) said → ⊥) }
@@ -68,6 +103,8 @@ fn work_of(command: &String, options: &[String]) -> Option<Work>
 {
     if is_word(command, "run") {
         run_of(options)
+    } else if is_word(command, "serve") {
+        serve_of(options)
     } else if is_word(command, "check") {
         check_of(options)
     } else if is_word(command, "export") {
@@ -89,13 +126,73 @@ fn run_of(options: &[String]) -> Option<Work>
     if !are_options(options, &OF_RUN) {
         return None;
     }
-    let Some(from) = number_of(options, "--from", LAST) else {
+    let Some(from) = number_of(options, "--from", 0, LAST) else {
         return None;
     };
-    let Some(step) = number_of(options, "--step", LAST) else {
+    let Some(step) = number_of(options, "--step", 0, LAST) else {
         return None;
     };
     Some(Work::Run(Run { from, step }))
+}
+
+// A service has a journal.
+fn serve_of(options: &[String]) -> Option<Work>
+    ensures some { IfSome result (λ w.
+        IsAsked (codes "serve") (map string_bytes options.now) (work_told w)) }
+    ensures none { IfNone result ((w : WorkOf)
+        → IsAsked (codes "serve") (map string_bytes options.now) w → ⊥) }
+{
+    if !are_options(options, &OF_SERVE) {
+        return None;
+    }
+    match (value_of(options, "--journal"), service_of(options)) {
+        (Some(_), Some(service)) => Some(Work::Serve(service)),
+        _ => None,
+    }
+}
+
+// The port of a service, its workers, its tick and its connections.
+fn service_of(options: &[String]) -> Option<Serve>
+    ensures some { IfSome result (λ s.
+        IsService (map string_bytes options.now) (service_told s)) }
+    ensures none { IfNone result ((s : Service)
+        → IsService (map string_bytes options.now) s → ⊥) }
+{
+    let Some(port) = number_of(options, "--port", 1, GREATEST_PORT) else {
+        return None;
+    };
+    let Some(workers) = number_of(options, "--workers", 1, MOST_WORKERS) else {
+        return None;
+    };
+    let Some(tick) = number_of(options, "--tick", 1, LONGEST_TICK) else {
+        return None;
+    };
+    let Some(connections) = connections_of(options) else {
+        return None;
+    };
+    Some(Serve {
+        port: port as u16,
+        workers: workers as u32,
+        tick: tick as u32,
+        connections,
+    })
+}
+
+// How many connections a service serves, which need not be told.
+fn connections_of(options: &[String]) -> Option<Option<u32>>
+    ensures some { IfSome result
+        (MayGive (codes "--connections") 1 most_connections (map string_bytes options.now)) }
+    ensures none { IfNone result ((n : Option ℕ)
+        → MayGive (codes "--connections") 1 most_connections (map string_bytes options.now) n
+        → ⊥) }
+{
+    let Some(word) = value_of(options, "--connections") else {
+        return Some(None);
+    };
+    match number(word, 1, MOST_CONNECTIONS) {
+        Some(n) => Some(Some(n as u32)),
+        None => None,
+    }
 }
 
 fn check_of(options: &[String]) -> Option<Work>
@@ -138,10 +235,10 @@ fn load_of(options: &[String]) -> Option<Work>
     if !are_options(options, &OF_LOAD) {
         return None;
     }
-    let Some(seed) = number_of(options, "--seed", u64::MAX) else {
+    let Some(seed) = number_of(options, "--seed", 0, u64::MAX) else {
         return None;
     };
-    let Some(count) = number_of(options, "--count", MOST_LOADED) else {
+    let Some(count) = number_of(options, "--count", 0, MOST_LOADED) else {
         return None;
     };
     Some(Work::Load {
@@ -207,14 +304,14 @@ fn is_word(word: &String, text: &str) -> bool
     word.as_str() == text
 }
 
-// The number of an option, which must be there, from 0 to the greatest.
-fn number_of(options: &[String], name: &str, most: u64) -> Option<u64>
-    ensures some { IfSome result (Gives name.now 0 most (map string_bytes options.now)) }
+// The number of an option, which must be there, with these bounds.
+fn number_of(options: &[String], name: &str, least: u64, most: u64) -> Option<u64>
+    ensures some { IfSome result (Gives name.now least most (map string_bytes options.now)) }
     ensures none { IfNone result ((n : ℕ)
-        → Gives name.now 0 most (map string_bytes options.now) n → ⊥) }
+        → Gives name.now least most (map string_bytes options.now) n → ⊥) }
 {
     match value_of(options, name) {
-        Some(word) => number(word, 0, most),
+        Some(word) => number(word, least, most),
         None => None,
     }
 }

@@ -5,6 +5,7 @@ ghost use Rattle.ht_program.specs.Named.{words_told, work_told};
 ghost use Rattle.ht_program.specs.Office.{Runs, RunsOver};
 ghost use Rattle.ht_program.specs.OfficeTexts.{AreShort, texts_seen};
 ghost use Rattle.ht_program.specs.Running.{streams};
+ghost use Rattle.ht_program.specs.Words.{IsAlone};
 ghost use Rattle.ht_program.specs.Words.WorkOf.{checking};
 ghost use Rattle.ht_program.specs.Working.{DidOver};
 
@@ -33,6 +34,7 @@ pub(crate) fn work<D: Disk, S: Source, K: Sink>(
 ) -> Result<Ending, OpenFault>
     requires short { AreShort (texts_seen office.now) }
     requires opens { work_told words.now.work ≢ checking }
+    requires alone { IsAlone (work_told words.now.work) }
     ensures { Runs D.Disk (option_map (λ s. s.now) words.now.journal) (words_told words.now)
         (texts_seen office.now) (disks first.old second.old) (disks first.new second.new)
         (streams (S.source_state input.old) (K.sink_state output.old))
@@ -61,6 +63,7 @@ fn work_over<D: Disk, S: Source, K: Sink>(
 ) -> Result<Ending, OpenFault>
     requires short { AreShort (texts_seen office.now) }
     requires opens { work_told words.now.work ≢ checking }
+    requires alone { IsAlone (work_told words.now.work) }
     ensures { RunsOver D.Disk (words_told words.now) (texts_seen office.now) disk.old disk.new
         (streams (S.source_state input.old) (K.sink_state output.old))
         (streams (S.source_state input.new) (K.sink_state output.new)) result }
@@ -82,12 +85,14 @@ fn work_at<D: Disk, S: Source, K: Sink>(
 ) -> Ending
     requires stands { Stands D.Disk desk disk.old }
     requires opens { work_told work ≢ checking }
+    requires alone { IsAlone (work_told work) }
     ensures { DidOver D.Disk (work_told work) desk disk.old disk.new
         (streams (S.source_state input.old) (K.sink_state output.old))
         (streams (S.source_state input.new) (K.sink_state output.new)) result }
 {
     match work {
         Work::Run(run) => serve(alloc, &run, desk, disk, input, output),
+        Work::Serve(_) => unreachable!(),
         Work::Check => unreachable!(),
         Work::Export => export_tasks(alloc, &desk, output),
         Work::Load { seed, count } => load_office(alloc, desk, disk, seed, count, output),

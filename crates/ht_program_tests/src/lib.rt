@@ -10,4 +10,6 @@ mod requests;
 #[cfg(test)]
 mod runs;
 #[cfg(test)]
+mod services;
+#[cfg(test)]
 mod working;

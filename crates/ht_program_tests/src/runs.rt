@@ -1,6 +1,6 @@
 use ht_base::{Bytes, Txt};
 use ht_outside::{MemoryDisk, MemorySink, MemorySource, MemoryTexts};
-use ht_program::{Status, office, tell_no_memory};
+use ht_program::{Status, are_alone, office_alone, tell_no_memory};
 use ht_samples::{MODELS, PEOPLE};
 use std::alloc::Global;
 use std::process::Abort;
@@ -15,7 +15,7 @@ pub(crate) struct Ran {
     left: usize,
 }
 
-fn words(alloc: Global, line: &str) -> Result<Vec<String>, Fail> {
+pub(crate) fn words(alloc: Global, line: &str) -> Result<Vec<String>, Fail> {
     let mut words = Vec::new(alloc);
     for word in line.split_whitespace() {
         words.push(String::from_str(alloc, word)?)?;
@@ -89,10 +89,13 @@ pub(crate) fn run_on(
     writes: &[u32],
 ) -> Result<Ran, Fail> {
     let words = words(alloc, line)?;
+    if !are_alone(&words) {
+        return Err(Fail::from("words of serve"));
+    }
     let mut texts = texts_of(alloc, office_texts)?;
     let mut output = MemorySink::make(alloc, Vec::from_slice(alloc, writes)?)?;
     let mut complaints = MemorySink::make(alloc, Vec::new(alloc))?;
-    let status = office(
+    let status = office_alone(
         alloc,
         &words,
         &mut texts,
@@ -216,7 +219,7 @@ run --from 0 --step 0 --journal -j
 run --from 0 --step 0 --journal a --journal b
 run --from 0 --step 0 --port 80
 run --from 0 --step 0 --seed 0
-serve --from 0 --step 0
+serves --from 0 --step 0
 check
 check --models m
 check --models m --people p --step 0

@@ -1,3 +1,4 @@
 mod Asked
 mod Links
+pub mod PublicLaws
 mod Turns

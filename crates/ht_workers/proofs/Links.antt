@@ -172,3 +172,9 @@ module _ (A B M : List Call → Type 0) (P Q : Type 0) (made_more : (xs ys : Lis
   ends_on share ended.Done stops few b = absurd (stops refl)
   ends_on share ended.Door stops few b = ((n + b.0.0, few_on share b.0.0 b.0.1 few, stops_on b.0.0 b.0.2), rose_later d0.faults d1.faults d2.faults a.faults b.1)
   ends_on share ended.Memory stops few b = (n + b.0, few_on share b.0 b.1 few, stops_on b.0 b.2)
+
+-- the same work, as another tells of its calls, and of who is spent
+module _ (A B : List Call → Type 0) (P Q : Type 0) (made : (cs : List Call) → A cs → B cs) (kept : P → Q) where
+  pub works_as : (n : ℕ) (old new : DoorState) → Works A P n old new → Works B Q n old new
+  works_as n old new w = subst (λ (k : ℕ). Works B Q k old new) (let e : n + 0 ≡ n = omega arith in e)
+      (works_on A (λ cs. cs ≡ []) B P Q (λ xs ys a none. subst B (sym (ap (λ (cs : List Call). xs ++ cs) none ∙ append-nil xs)) (made xs a)) (λ ys none p. kept p) old new new n w 0 (works_none (λ cs. cs ≡ []) Q new refl))

@@ -17,8 +17,8 @@ module _ {D R : Type 0} (d : Ghosts D) (r : Ghosts R) (said : WordsOf) (texts : 
       let why = none_in_memory r said texts before after old new empty room unfailed fault runs in (why.0, why.1, refl)
 
 kept_on_disks : {D : Type 0} (d : Ghosts D) (said : WordsOf) (texts : TextsOf) (name : List ℕ) (before mid after : Disks D) (old new : Streams) (end : Result Ending OpenFault) → Attaches d before.first mid.first (Ok tt) → Attaches d before.second after.second (Ok tt) → RunsOver d said texts mid.first after.first old new end → Runs d (Some name) said texts before after old new end
-kept_on_disks d said texts name before mid after old new (Ok ending) first second runs = on_disks d said texts before mid after old new first second ending runs
-kept_on_disks d said texts name before mid after old new (Err fault) first second runs = none_on_disks d said texts before mid after old new first second fault runs
+kept_on_disks d said texts name before mid after old new (Ok ending) first second runs = on_disks d said texts before mid after first second old new ending runs
+kept_on_disks d said texts name before mid after old new (Err fault) first second runs = none_on_disks d said texts before mid after first second old new fault runs
 
 pub returns-in-Ok : goal.returns-in-Ok
 returns-in-Ok g c =

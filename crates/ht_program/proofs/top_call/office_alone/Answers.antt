@@ -7,7 +7,7 @@ use Rattle.ht_program.proofs.Said.{no_names, one_reading}
 use Rattle.ht_program.proofs.Statuses.{answered, broke, exact, in_memory, not_two, store}
 use Rattle.ht_program.proofs.TextStatuses.{as_said, built_in, journal, wrong}
 use Rattle.ht_program.proofs.Unnamed.{without_journal}
-use Rattle.ht_program.proofs.top_call.office.Goals as goal
+use Rattle.ht_program.proofs.top_call.office_alone.Goals as goal
 
 abbrev IsSaid : WordsOf → List (String Global) → Type 0
 IsSaid said ws = AreWords (map bytes_of ws) said
