@@ -1,0 +1,3 @@
+pub mod Crews
+pub mod Gathering
+pub mod Shares
