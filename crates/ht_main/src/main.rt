@@ -1,9 +1,11 @@
-//! The program: hands its words, files, disks and streams to the top call, and ends with the exit code of the
-//! status.
+//! The program: hands its words, files, disks and streams, the clock of the system and a port to the top
+//! call, and ends with the exit code of the status.
 #![tactic(auto)]
 
+use ht_doors::{SystemClock, TcpDoor};
 use ht_outside::{FileDisk, FileTexts, StdSink, StdSource};
-use ht_program::{exit_code, office, tell_no_memory};
+use ht_program::{exit_code, tell_no_memory};
+use ht_server::office;
 use std::env;
 use std::io::{self, ErrorKind};
 use std::process::ExitCode;
@@ -26,12 +28,17 @@ fn main(rt: HostRuntime) -> ExitCode {
     let mut texts = FileTexts::new(rt.alloc(), &rt);
     let mut first = FileDisk::new(&rt);
     let mut second = FileDisk::new(&rt);
+    let clock = SystemClock::new(&rt);
+    let mut door = TcpDoor::new(&rt);
     let status = office(
+        &rt,
         rt.alloc(),
         &words,
         &mut texts,
         &mut first,
         &mut second,
+        &clock,
+        &mut door,
         &mut input,
         &mut output,
         &mut complaints,

@@ -1,0 +1,7 @@
+mod Counting
+mod Ended
+mod Followed
+mod OpenedThen
+mod Said
+mod Sent
+mod Statuses
