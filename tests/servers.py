@@ -2,6 +2,8 @@
 
 import collections
 import json
+import os
+import pathlib
 import random
 import signal
 import socket
@@ -125,6 +127,10 @@ class Listening:
     def check_stands(self):
         if self.process.poll() is not None:
             raise Failure(f"the server ended with {self.process.returncode}: {self.process.stderr.read().decode()}")
+
+    def processor_seconds(self):
+        fields = pathlib.Path(f"/proc/{self.process.pid}/stat").read_text().rpartition(")")[2].split()
+        return (int(fields[11]) + int(fields[12])) / os.sysconf("SC_CLK_TCK")
 
     def kill(self, signal_=signal.SIGKILL):
         self.process.send_signal(signal_)
