@@ -23,6 +23,13 @@ RESET = struct.pack("ii", 1, 0)
 Reply = collections.namedtuple("Reply", "status text closes bytes")
 
 
+def expect(reply, status, **wanted):
+    """The text of a reply, which is to have this status and these keys with these values."""
+    if reply.status != status or any(reply.text.get(key) != value for key, value in wanted.items()):
+        raise Failure(f"{status} with {wanted} was due, and {reply.bytes} came")
+    return reply.text
+
+
 def free_port():
     for port in random.sample(PORTS, len(PORTS)):
         with socket.socket() as tried:
