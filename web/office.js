@@ -13,7 +13,9 @@ const WHOLE = /^-?[0-9]+$/;
 const base = new URL("..", import.meta.url);
 const at = (id) => document.getElementById(id);
 const load = async (name) => (await fetch(new URL(name, import.meta.url))).json();
-const page = { person: "", rules: null, texts: null, words: null, language: 0, seen: {}, count: {}, wait: SECONDS, timer: 0, busy: false };
+const page = {
+  person: "", rules: null, texts: null, words: null, language: 0, seen: {}, count: {}, wait: SECONDS, timer: 0, busy: false,
+};
 
 // ---- words
 
