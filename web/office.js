@@ -49,6 +49,7 @@ function make(tag, properties = {}, ...children) {
   return element;
 }
 const titled = (tag, key, ...children) => [make(tag, {}, say(key)), ...children];
+const none = () => make("p", { class: "none" }, say("nothing"));
 const facts = (pairs) => make("dl", {}, ...pairs.filter(([, value]) => value !== null && value !== "")
   .flatMap(([name, value]) => [make("dt", {}, name), make("dd", {}, value)]));
 
@@ -72,14 +73,16 @@ function tell(text) {
 async function ask(method, path, given) {
   const body = given && JSON.stringify(given);
   const headers = body ? { "content-type": "application/json" } : {};
-  const reply = await fetch(new URL(path, base), { method, body, headers, cache: "no-store", signal: AbortSignal.timeout(1000 * PATIENCE) });
+  const signal = AbortSignal.timeout(1000 * PATIENCE);
+  const reply = await fetch(new URL(path, base), { method, body, headers, cache: "no-store", signal });
   return { status: reply.status, told: await reply.json().catch(() => ({ fault: "Head" })) };
 }
 
 // ---- commands: each has a number, and the one that is under way is kept, so that a reload sends the same again
 
 const kept = {
-  read: () => JSON.parse(localStorage.getItem(`office ${page.person}`)) ?? { device: Math.floor(Math.random() * 16), number: 0, pending: null },
+  read: () => JSON.parse(localStorage.getItem(`office ${page.person}`))
+    ?? { device: Math.floor(Math.random() * 16), number: 0, pending: null },
   write: (what) => localStorage.setItem(`office ${page.person}`, JSON.stringify(what)),
 };
 const alone = (act) => (navigator.locks ? navigator.locks.request("office", act) : act());
@@ -132,8 +135,12 @@ function report({ status, told, pending }) {
 function rolesIn(sheet) {
   const me = page.person;
   const of = {
-    initiator: sheet.initiator === me, stakeholder: sheet.stakeholders.includes(me), potentialOwner: sheet.potentialOwners.includes(me),
-    actualOwner: sheet.owner === me, administrator: sheet.administrators.includes(me), operator: page.texts.operators.includes(me),
+    initiator: sheet.initiator === me,
+    stakeholder: sheet.stakeholders.includes(me),
+    potentialOwner: sheet.potentialOwners.includes(me),
+    actualOwner: sheet.owner === me,
+    administrator: sheet.administrators.includes(me),
+    operator: page.texts.operators.includes(me),
   };
   return page.rules.roles.filter((role) => of[role]);
 }
@@ -150,13 +157,15 @@ function refusal(operation, sheet) {
   const lacks = Object.entries(keys).find(([key, required]) => required && modelOf(sheet.model)?.[key]?.length === 0);
   if (lacks) return say(`none.${lacks[0]}`);
   const allowed = page.rules.states.filter((state) => mine.some((row) => row.states.includes(state)));
-  return allowed.includes(sheet.state) ? null : say("wrongState", { state: stateOf(sheet.state), allowed: listed("state", allowed) });
+  if (allowed.includes(sheet.state)) return null;
+  return say("wrongState", { state: stateOf(sheet.state), allowed: listed("state", allowed) });
 }
 
 // ---- forms
 
 const modelOf = (name) => page.texts.models.find((model) => model.name === name);
-const choice = (id, name, options) => make("select", { id, name }, ...options.map(([value, text]) => make("option", { value }, text)));
+const choice = (id, name, options) => make("select", { id, name },
+  ...options.map(([value, text]) => make("option", { value }, text)));
 const labelled = (text, control) => make("label", {}, text, " ", control);
 
 function partField(prefix, part) {
@@ -172,7 +181,8 @@ function field(prefix, key, sheet) {
   const model = modelOf(sheet.model);
   switch (key) {
     case "output": return make("div", {}, ...(model?.output ?? []).map((part) => partField(prefix, part)));
-    case "text": return labelled(say("text"), make("textarea", { id, name: key, rows: 3, cols: 40, maxlength: 512, required: true }));
+    case "text": return labelled(say("text"),
+      make("textarea", { id, name: key, rows: 3, cols: 40, maxlength: 512, required: true }));
     case "priority": return labelled(say("priorityOf"), plain({ type: "number", min: 0, max: 10, required: true }));
     case "role": return labelled(say("role"), choice(id, key, page.rules.lists.map((name) => [name, say(`list.${name}`)])));
     case "sub": return labelled(say("sub"), choice(id, key, (model?.sub ?? []).map((name) => [name, name])));
@@ -189,8 +199,8 @@ function valueOf(kind, text) {
 }
 
 function partsOf(form, parts) {
-  const given = parts.map((part) => [part, form.elements[`part ${part.name}`]?.value ?? ""]).filter(([, text]) => text !== "");
-  return Object.fromEntries(given.map(([part, text]) => [part.name, valueOf(part.kind, text)]));
+  const typed = parts.map((part) => [part, form.elements[`part ${part.name}`]?.value ?? ""]);
+  return Object.fromEntries(typed.filter(([, text]) => text !== "").map(([part, text]) => [part.name, valueOf(part.kind, text)]));
 }
 
 // What a form gives for a key, or nothing.
@@ -209,8 +219,8 @@ function given(form, key, sheet) {
 
 function act(operation, sheet, form) {
   const keys = Object.keys(page.rules.operations[operation].keys);
-  const body = Object.fromEntries(keys.map((key) => [key, form && given(form, key, sheet)]).filter(([, value]) => value !== undefined));
-  return command(operation, `tasks/${sheet.task}/${operation}`, body);
+  const body = keys.map((key) => [key, form && given(form, key, sheet)]).filter(([, value]) => value !== undefined);
+  return command(operation, `tasks/${sheet.task}/${operation}`, Object.fromEntries(body));
 }
 
 function deed(operation, sheet) {
@@ -230,7 +240,7 @@ function deeds(sheet) {
   const all = Object.keys(page.rules.operations).filter((it) => it !== "get").map((it) => [it, refusal(it, sheet)]);
   const may = all.filter(([, no]) => !no), not = all.filter(([, no]) => no);
   return [
-    ...titled("h3", "deeds", may.length ? make("div", { class: "deeds" }, ...may.map(([it]) => deed(it, sheet))) : make("p", { class: "none" }, say("nothing"))),
+    ...titled("h3", "deeds", may.length ? make("div", { class: "deeds" }, ...may.map(([it]) => deed(it, sheet))) : none()),
     make("details", { id: "may-not" }, make("summary", { id: "may-not-head" }, say("not")),
       facts(not.map(([it, no]) => [say(`op.${it}`), no]))),
   ];
@@ -246,17 +256,19 @@ const taskLink = (task, text) => make("a", { href: `#${task}`, id: `to-${task}` 
 
 function drawSheet(sheet) {
   const model = modelOf(sheet.model), timed = (key) => [say(key), sheet[key] === null ? null : moment(sheet[key])];
-  const people = ["potentialOwners", "excludedOwners", "administrators", "stakeholders"].map((key) => [say(`list.${key}`), sheet[key].join(", ")]);
+  const people = page.rules.lists.map((key) => [say(`list.${key}`), sheet[key].join(", ")]);
   const has = (object) => Object.keys(object).length > 0;
   redraw(at("task"),
     make("h2", {}, say("row", sheet), " – ", make("span", { id: "state" }, stateOf(sheet.state))),
-    facts([[say("owner"), sheet.owner], [say("priorityOf"), String(sheet.priority)], timed("created"), timed("waits"), timed("until"),
+    facts([[say("owner"), sheet.owner], [say("priorityOf"), String(sheet.priority)],
+      timed("created"), timed("waits"), timed("until"),
       [say("lastOwner"), sheet.lastOwner], [say("faultOf"), sheet.fault],
       [say("parent"), sheet.parent && taskLink(sheet.parent, String(sheet.parent))]]),
     deeds(sheet),
     has(sheet.input) ? titled("h3", "parts", partsShown(model?.input, sheet.input)) : [],
     has(sheet.output) ? titled("h3", "results", partsShown(model?.output, sheet.output)) : [],
-    sheet.subs.length ? titled("h3", "subs", make("ul", {}, ...sheet.subs.map((sub) => make("li", {}, taskLink(sub, String(sub)))))) : [],
+    sheet.subs.length ? titled("h3", "subs", make("ul", {},
+      ...sheet.subs.map((sub) => make("li", {}, taskLink(sub, String(sub)))))) : [],
     sheet.comments.length ? titled("h3", "comments", make("ol", { id: "comments" }, ...sheet.comments.map((it) =>
       make("li", {}, it.text, make("br"), make("small", {}, `${it.person}, ${moment(it.moment)}`))))) : [],
     titled("h3", "people", facts([[say("list.initiator"), sheet.initiator], ...people])),
@@ -267,19 +279,25 @@ function drawSheet(sheet) {
 
 function row(it) {
   const text = `${say("row", it)} – ${stateOf(it.state)}${it.owner && it.owner !== page.person ? ` (${it.owner})` : ""}`;
-  const link = make("a", { href: `#${it.task}` }, text, make("br"), make("small", {}, `${say("priority", it)}, ${moment(it.created)}`));
+  const link = make("a", { href: `#${it.task}` }, text, make("br"),
+    make("small", {}, `${say("priority", it)}, ${moment(it.created)}`));
   if (location.hash === `#${it.task}`) link.setAttribute("aria-current", "true");
   return make("li", {}, link);
 }
 const late = (it) => make("li", {}, make("a", { href: `#${it.task}` }, say("late", { ...it, moment: moment(it.moment) })));
 
+// The rest of a list, which is seen with a press.
+function moreOf(id, seen, count) {
+  const onclick = () => {
+    page.count[id] = Math.min(seen + LISTED, MOST_LISTED);
+    look();
+  };
+  return make("button", { id: `more-${id}`, type: "button", disabled: seen >= MOST_LISTED, onclick }, say("more", { count }));
+}
+
 function drawList(id, { rows, total }, one) {
-  const more = total - rows.length;
-  redraw(at(id), make("h2", {}, `${say(id)} (${total})`), rows.length ? make("ul", {}, ...rows.map(one)) : make("p", { class: "none" }, say("nothing")),
-    more > 0 ? make("p", {}, make("button", { id: `more-${id}`, type: "button", disabled: rows.length >= MOST_LISTED, onclick: () => {
-      page.count[id] = Math.min(rows.length + LISTED, MOST_LISTED);
-      look();
-    } }, say("more", { count: more }))) : []);
+  redraw(at(id), make("h2", {}, `${say(id)} (${total})`), rows.length ? make("ul", {}, ...rows.map(one)) : none(),
+    total > rows.length ? make("p", {}, moreOf(id, rows.length, total - rows.length)) : []);
 }
 
 function drawCreate() {
@@ -291,14 +309,17 @@ function drawCreate() {
   const form = make("form", {
     onsubmit: async (event) => {
       event.preventDefault();
-      const later = form.elements.activateAt.value, input = partsOf(form, chosen().input);
-      const body = { model: model.value, ...(Object.keys(input).length && { input }), ...(later && { activateAt: new Date(later).getTime() }) };
+      const later = form.elements.activateAt.value;
+      const body = { model: model.value, input: partsOf(form, chosen().input) };
+      if (later) body.activateAt = new Date(later).getTime();
       const reply = await command("create", "tasks", body);
       if (reply && !reply.told.fault) location.hash = `#${reply.told.task}`;
     },
-  }, labelled(say("model"), model), parts, labelled(say("activateAt"), make("input", { id: "create-at", name: "activateAt", type: "datetime-local" })),
+  }, labelled(say("model"), model), parts,
+  labelled(say("activateAt"), make("input", { id: "create-at", name: "activateAt", type: "datetime-local" })),
   make("button", { id: "create-go" }, say("make")));
-  redraw(at("create"), make("details", { id: "create-details" }, make("summary", { id: "create-head" }, say("create")), form));
+  const head = make("summary", { id: "create-head" }, say("create"));
+  redraw(at("create"), make("details", { id: "create-details" }, head, form));
   partsOfChosen();
 }
 
@@ -322,7 +343,9 @@ async function lookAtTask() {
 }
 
 async function lookAtLists() {
-  const lists = { mine: "lists/actualOwner/live", open: "lists/potentialOwner/Ready", all: "lists/any/live", told: "notifications" };
+  const lists = {
+    mine: "lists/actualOwner/live", open: "lists/potentialOwner/Ready", all: "lists/any/live", told: "notifications",
+  };
   await Promise.all(Object.entries(lists).map(async ([id, path]) => {
     const { told } = await ask("GET", `${path}/0/${page.count[id] ?? LISTED}`);
     if (told.fault) throw new Error(why(told));
