@@ -13,7 +13,7 @@ use atomic_table::Table;
 use ht_base::{Spent, Stepper};
 use std::alloc::Global;
 use std::marker::Model;
-use std::sync::Wait;
+use std::sync::{Mutex, Wait};
 
 /// A machine at which threads take turns.
 ///
@@ -23,6 +23,9 @@ use std::sync::Wait;
 #[derive(Drop)]
 pub struct Shared<T: Stepper + Drop> {
     board: Board<T>,
+    // Held while a ticket is drawn, waited for and used: who waits for it sleeps, where one with a
+    // ticket would look over and over.
+    queue: Mutex<()>,
 }
 
 impl<T: Stepper + Drop> Model for Shared<T> {
@@ -56,7 +59,8 @@ impl<T: Stepper + Drop> Shared<T> {
             Ok((board, place)) => {
                 let mut place = place;
                 put(&board, &mut place, value);
-                Ok((Shared { board }, Pass { place, number: 0 }))
+                let queue = Mutex::new(());
+                Ok((Shared { board, queue }, Pass { place, number: 0 }))
             }
         }
     }
@@ -81,6 +85,7 @@ impl<T: Stepper + Drop> Shared<T> {
         ensures spent { OnErr result (IsSpent pass.old pass.new) }
     {
         let number = pass.number;
+        let _held = self.queue.lock(rt);
         call_at(rt, &self.board, &mut pass.place, number, event)
     }
 
@@ -133,7 +138,7 @@ impl<T: Stepper + Drop> Shared<T> {
         ensures entries { All (λ e. Contains (0 ∷ pass.ended) e.pass) pass.seen }
         ensures found { pass.found ≤ length pass.seen }
     {
-        let Shared { board } = self;
+        let Shared { board, queue: _ } = self;
         let Pass { place, number: _ } = pass;
         close_at(board, place)
     }
