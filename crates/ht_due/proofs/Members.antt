@@ -1,5 +1,5 @@
 -- Which dues are there once many came and went.
-use Rattle.std.proofs.Common.{◌≡◌, ℕ, zero, suc, Bool, true, false, List, [], ◌∷◌, fold, Some, None, refl, ap, ◌∙◌, ◌||◌, ◌&&◌, not, ◌⊎◌, inl, inr}
+use Rattle.std.proofs.Common.{◌≡◌, ℕ, zero, suc, Bool, true, false, List, [], ◌∷◌, fold, take, Some, None, refl, ap, ◌∙◌, ◌||◌, ◌&&◌, not, ◌⊎◌, inl, inr}
 use Rattle.std.specs.Prelude.{slice_get}
 use Rattle.std.specs.List.{list_all}
 use Rattle.std.specs.Ordering.{is_eq}
@@ -8,7 +8,8 @@ use Rattle.std.specs.declared.cmp.Ordering.TheVariants.{Less, Equal, Greater}
 use Rattle.ht_due.specs.declared.due.Due.{Due}
 use Rattle.ht_due.specs.Dues.{AreAbsent, AreNew, Ascends, compare_dues, has, merged, put_due, without}
 use Rattle.ht_due.proofs.Ascending.{ascends_put, ascends_without, has_put, has_without}
-use Rattle.ht_due.proofs.Order.{exact, itself}
+use Rattle.ht_due.proofs.Order.{exact, flip, itself}
+use Rattle.ht_due.proofs.Places.{before_at}
 
 pub ascends_all_put : (xs ds : List Due) → Ascends xs → Ascends (fold put_due xs ds)
 ascends_all_put xs [] a = a
@@ -101,3 +102,15 @@ has_at (x ∷ ds) zero d at = ap (λ (z : Due). has d (z ∷ ds)) (some at) ∙ 
     some : Some x ≡ Some d → x ≡ d
     some e = cc
 has_at (x ∷ ds) (suc n) d at = has_more d x ds (has_at ds n d at)
+
+-- the next of the new ones isn't there once those in front of it came
+none_in_front : (news : List Due) (n : ℕ) (x : Due) → Ascends news → slice_get news n ≡ Some x → has x (take n news) ≡ false
+none_in_front news zero x up at = refl
+none_in_front [] (suc n) x up at = refl
+none_in_front (y ∷ news) (suc n) x up at = ap (λ o. is_eq o || has x (take n news)) (flip y x Less (before_at y x news n up.0 at)) ∙ none_in_front news n x up.1 at
+
+pub absent_among : (news : List Due) (n : ℕ) (x : Due) (dues : List Due) → Ascends news → slice_get news n ≡ Some x → AreAbsent news dues → has x (fold put_due dues (take n news)) ≡ false
+absent_among news n x dues up at absent =
+    has_all_put x dues (take n news)
+    ∙ ap (λ b. b || has x dues) (none_in_front news n x up at)
+    ∙ absent x (has_at news n x at)

@@ -1,5 +1,6 @@
+pub mod Blocks
 pub mod Dues
 pub mod Examples
+pub mod Kept
 pub mod Places
 pub mod Queues
-pub mod Walking

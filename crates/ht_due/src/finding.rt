@@ -1,9 +1,8 @@
 ghost use Rattle.std.specs.Prelude.{◌≡◌, IfErr, IfOk};
-ghost use Rattle.ht_due.specs.Dues.{Ascends, compare_dues};
+ghost use Rattle.ht_due.specs.Dues.{Ascends};
 ghost use Rattle.ht_due.specs.Places.{BelongsAt, StandsAt};
 
 use crate::Due;
-use std::cmp::Ordering;
 
 // Where a due stands, or else where it would.
 pub(crate) fn find(dues: &[Due], due: Due) -> Result<usize, usize>
@@ -12,10 +11,4 @@ pub(crate) fn find(dues: &[Due], due: Due) -> Result<usize, usize>
     ensures missed { IfErr result (λ place. BelongsAt due dues.now place) }
 {
     dues.binary_search(&due)
-}
-
-pub(crate) fn compare(a: Due, b: Due) -> Ordering
-    ensures { result ≡ compare_dues a b }
-{
-    a.cmp(&b)
 }

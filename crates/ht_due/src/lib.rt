@@ -2,6 +2,8 @@
 //! tasks. A queue keeps them so that the least is at hand, and changes without memory.
 #![tactic(auto)]
 
+mod block;
+mod blocks;
 mod due;
 mod finding;
 mod laws;
@@ -9,7 +11,6 @@ mod least;
 mod merging;
 mod queue;
 mod sorting;
-mod taking_out;
 
 pub use due::Due;
 pub use laws::{

@@ -2,30 +2,38 @@ ghost use Rattle.std.specs.Prelude.{◌≡◌, ◌+◌, ◌≤◌, [], false, le
 ghost use Rattle.ht_due.specs.Dues.{AreNew, Ascends, has, merged, next_after, put_due, without};
 
 use crate::Due;
-use crate::finding::find;
-use crate::merging::put_in;
-use crate::taking_out::take_out;
+use crate::block::Block;
+use crate::blocks::{after, first_of, make, put, take};
+use crate::merging::{put_all, take_all};
 use ht_base::Memory;
 use std::alloc::Global;
 use std::marker::Model;
+
+// How many dues a queue has at most, those that it has room for among them.
+const LIMIT: u64 = 1 << 32;
 
 /// The dues in ascending order, none twice. A contract sees them as the list `dues`, and in `spare`
 /// how many more the queue takes without memory.
 #[derive(Drop)]
 pub struct DueQueue {
-    dues: Vec<Due>,
+    // The dues, in blocks of which no two neighbours fit in one.
+    blocks: Vec<Block>,
+    // Blocks for dues that come. What is in them counts for nothing.
+    free: Vec<Block>,
+    // How many dues there are, and how many more are sure to find a block.
+    count: u64,
+    room: u64,
 }
 
 impl Model for DueQueue {
-    ghost use Rattle.std.specs.Prelude.{◌-◌, vec_capacity, vec_len};
-    ghost use Rattle.ht_due.specs.Dues.{Ascends};
+    ghost use Rattle.ht_due.specs.Kept.{IsKept, queue_in};
     ghost use Rattle.ht_due.specs.Queues.{QueueOf};
 
     ghost Value = { QueueOf };
 
-    ghost view = { λ q. record { dues = q.dues.items; spare = vec_capacity q.dues - vec_len q.dues } };
+    ghost view = { queue_in };
 
-    ghost invariant = { λ q. Ascends q.dues.items };
+    ghost invariant = { IsKept };
 }
 
 impl DueQueue {
@@ -34,7 +42,10 @@ impl DueQueue {
         ensures { result.dues ≡ [] }
     {
         DueQueue {
-            dues: Vec::new(alloc),
+            blocks: Vec::new(alloc),
+            free: Vec::new(alloc),
+            count: 0,
+            room: 0,
         }
     }
 
@@ -43,7 +54,7 @@ impl DueQueue {
         ensures first { result ≡ slice_get self.now.dues 0 }
         ensures ascend { Ascends self.now.dues }
     {
-        self.dues.first().copied()
+        first_of(&self.blocks, 0)
     }
 
     /// The first due that comes after this one, which needn't be there. None where none does.
@@ -51,19 +62,33 @@ impl DueQueue {
         ensures next { result ≡ next_after due self.now.dues }
         ensures ascend { Ascends self.now.dues }
     {
-        match find(&self.dues, due) {
-            Ok(place) => self.dues.get(place + 1).copied(),
-            Err(place) => self.dues.get(place).copied(),
-        }
+        after(&self.blocks, due)
     }
 
-    /// Makes room for at least `more` further dues.
+    /// Makes room for at least `more` further dues. [`Memory`] also where the queue would have more than
+    /// 2^32 of them.
     pub fn reserve(&mut self, more: u32) -> Result<(), Memory>
         ensures dues { self.new.dues ≡ self.old.dues }
         ensures spare { OnOk result (more ≤ self.new.spare) }
         ensures kept { self.old.spare ≤ self.new.spare }
     {
-        self.dues.reserve(more as usize)?;
+        let more = u64::from(more);
+        if more <= self.room {
+            return Ok(());
+        }
+        if self.count + more > LIMIT {
+            return Err(Memory);
+        }
+        // Two neighbours have more than 128 dues.
+        let enough = ((self.count + more) / 64 + 2) as usize;
+        self.blocks.reserve(enough)?;
+        self.free.reserve(enough)?;
+        let blocks = self.blocks.len() + self.free.len();
+        if blocks < enough {
+            let alloc = *self.blocks.allocator();
+            make(alloc, &mut self.free, enough - blocks)?;
+        }
+        self.room = more;
         Ok(())
     }
 
@@ -74,12 +99,9 @@ impl DueQueue {
         ensures dues { self.new.dues ≡ put_due self.old.dues due }
         ensures spare { self.new.spare + 1 ≡ self.old.spare }
     {
-        match find(&self.dues, due) {
-            Ok(_) => unreachable!(),
-            Err(place) => {
-                let _ = self.dues.insert(place, due);
-            }
-        }
+        put(&mut self.blocks, &mut self.free, due);
+        self.count += 1;
+        self.room -= 1;
     }
 
     /// Takes a due out, and says whether it was there. It takes no memory.
@@ -88,18 +110,15 @@ impl DueQueue {
         ensures found { result ≡ has due self.old.dues }
         ensures spare { self.old.spare ≤ self.new.spare }
     {
-        match find(&self.dues, due) {
-            Ok(place) => {
-                let _ = self.dues.remove(place);
-                true
-            }
-            Err(_) => false,
+        let is_there = take(&mut self.blocks, &mut self.free, due);
+        if is_there {
+            self.count -= 1;
         }
+        is_there
     }
 
-    /// Takes out those that are gone and puts in the new ones, each list ascending, in one go: many
-    /// changes cost about as much as a few. It takes no memory. One that is gone needn't have been
-    /// there, and one that is in both lists stays.
+    /// Takes out those that are gone and puts in the new ones, each list ascending. It takes no memory.
+    /// One that is gone needn't have been there, and one that is in both lists stays.
     pub fn merge(&mut self, gone: &[Due], news: &[Due])
         requires spare { length news.now ≤ self.old.spare }
         requires gone { Ascends gone.now }
@@ -108,7 +127,15 @@ impl DueQueue {
         ensures dues { self.new.dues ≡ merged self.old.dues gone.now news.now }
         ensures spare { self.old.spare ≤ self.new.spare + length news.now }
     {
-        take_out(&mut self.dues, gone);
-        put_in(&mut self.dues, news);
+        ascends(self);
+        take_all(self, gone);
+        put_all(self, news);
     }
+}
+
+// The dues of a queue are in order.
+fn ascends(queue: &DueQueue)
+    ensures { Ascends queue.now.dues }
+{
+    let _least = queue.least();
 }
