@@ -12,10 +12,15 @@ mod Fitting
 mod HeldGiven
 mod InPlace
 mod Indexing
+mod KnownSubs
 mod LeastDues
+mod ListsInStep
 mod Mapped
+mod Moving
 mod OneByOne
 mod OnlyOne
+mod OpenInStep
+mod OpenMoving
 mod Passed
 mod Places
 mod Planning
@@ -26,5 +31,6 @@ mod Rows
 mod Seeing
 mod Slots
 mod Sounding
+mod Staying
 mod Steps
 mod SubTasks

@@ -7,6 +7,7 @@ pub use Rattle.ht_tree.proofs.HeldGiven.{given_held, given_output_held, updated_
 pub use Rattle.ht_tree.proofs.Filing.{file_of}
 pub use Rattle.ht_tree.proofs.Fitting.{all_selected, sound_row_fits}
 pub use Rattle.ht_tree.proofs.Families.{Alike, alike_put, behind_is, in_less, in_push, new_small, of_itself, of_less, parent_alike, standing, there_alike, to_come_alike}
+pub use Rattle.ht_tree.proofs.ListsInStep.{has_ids, ids_ascend}
 pub use Rattle.ht_tree.proofs.Mapped.{map_alike, mapped_from, mapped_sound, row_at-map}
 pub use Rattle.ht_tree.proofs.Passed.{taken_ascends, taken_below}
 pub use Rattle.ht_tree.proofs.Putting.{length-put_in, put_new, put_old, row_at-put_in}

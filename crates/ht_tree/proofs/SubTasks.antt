@@ -27,7 +27,7 @@ parent_of_sub task row is = go row.parent refl is
     go (Some p) same h = (p, same, eqb-true p.0.0 task h)
 
 -- none is, where the row at no place is one
-no_subs : (task : ℕ) (rows : List Row) → ((i : ℕ) (row : Row) → slice_get rows i ≡ Some row → is_sub_of task row ≡ true → ⊥) → sub_tasks task rows ≡ []
+pub no_subs : (task : ℕ) (rows : List Row) → ((i : ℕ) (row : Row) → slice_get rows i ≡ Some row → is_sub_of task row ≡ true → ⊥) → sub_tasks task rows ≡ []
 no_subs task [] none = refl
 no_subs task (x ∷ rows) none = go (is_sub_of task x) refl (no_subs task rows (λ i row at is. none (suc i) row at is))
   where

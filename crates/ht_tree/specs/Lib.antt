@@ -5,6 +5,9 @@ pub mod Examples
 pub mod Families
 pub mod Kept
 pub mod KeptIndex
+pub mod ListedBy
+pub mod Moves
+pub mod Open
 pub mod Passed
 pub mod Places
 pub mod Plans

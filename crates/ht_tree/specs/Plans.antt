@@ -5,6 +5,9 @@ use Rattle.ht_tree.specs.declared.notice.Notice.{Notice}
 use Rattle.ht_tree.specs.declared.plan.Totals.{Totals}
 use Rattle.ht_tree.specs.declared.row.Row.{Row}
 use Rattle.ht_tree.specs.declared.slot.Slot.{Slot}
+use Rattle.ht_tree.specs.declared.listed_by.ListedBy.TheVariants as by
+use Rattle.ht_tree.specs.ListedBy.{AreMoves}
+use Rattle.ht_tree.specs.Open.{AreOpenMoves}
 use Rattle.ht_tree.specs.RowDues.{changed_dues}
 use Rattle.ht_tree.specs.Rows.{put_in, row_at}
 use Rattle.ht_tree.specs.Sizes.{top_size, total_size}
@@ -148,10 +151,17 @@ pub record AreDuesPrepared (t : RoomyTables) (p : PlanOf) : Type 0 where
   pub news : t.news ≡ changed_dues (t.tables).models (planned t.tables p).rows (p.changes).rows
   pub room : length t.news ≤ t.due_room
 
--- The tables have all the memory that the plan's commit takes, and know what it changes of the dues. Crates
--- above hand this on, and look at no part of it.
+-- how the lists of tasks change is at hand
+pub record AreListsPrepared (t : RoomyTables) (p : PlanOf) : Type 0 where
+  pub subs : AreMoves by.Parent (t.tables).rows (planned t.tables p).rows t.sub_moves
+  pub persons : AreMoves by.Person (t.tables).rows (planned t.tables p).rows t.person_moves
+  pub recent : AreOpenMoves (t.tables).rows (planned t.tables p).rows t.open_moves
+
+-- The tables have all the memory that the plan's commit takes, and know what it changes of the dues and of
+-- the lists of tasks. Crates above hand this on, and look at no part of it.
 pub record IsPrepared (t : RoomyTables) (p : PlanOf) : Type 0 where
   pub rows : new_rows t.tables p ≤ t.room
   pub slots : IsTrue (is_some (p.changes).slot) → 1 ≤ t.slot_room
   pub dues : AreDuesPrepared t p
+  pub lists : AreListsPrepared t p
   pub notices : length (p.changes).notices ≤ t.notice_room

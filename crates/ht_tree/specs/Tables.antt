@@ -3,6 +3,7 @@
 use Rattle.std.specs.Prelude.{ℕ, zero, suc, List, [], ◌∷◌, ◌++◌, Option, None, slice_get}
 use Rattle.ht_base.specs.Places.{place_in}
 use Rattle.ht_due.specs.declared.due.Due.{Due}
+use Rattle.ht_index.specs.declared.moves.Move.{Move}
 use Rattle.ht_models.specs.Model.{ModelOf, names}
 use Rattle.ht_people.specs.Directory.{DirectoryOf}
 use Rattle.ht_tree.specs.declared.notice.Notice.{Notice}
@@ -19,8 +20,8 @@ pub record TablesOf : Type 0 where
   pub slots : List Slot
   pub last : ℕ
 
--- and how many more rows, notifications, slots and dues they take without memory, and which dues go and
--- come with the plan that was prepared last
+-- and how many more rows, notifications, slots and dues they take without memory, and with the plan that
+-- was prepared last which dues go and come, and how tasks move between the lists of tasks
 pub record RoomyTables : Type 0 where
   pub tables : TablesOf
   pub room : ℕ
@@ -29,6 +30,9 @@ pub record RoomyTables : Type 0 where
   pub due_room : ℕ
   pub gone : List Due
   pub news : List Due
+  pub sub_moves : List Move
+  pub person_moves : List Move
+  pub open_moves : List Move
 
 -- no tasks yet
 abbrev pub empty_tables : List ModelOf → DirectoryOf → TablesOf

@@ -4,8 +4,8 @@ ghost use Rattle.ht_due.specs.Dues.{AreNew, Ascends, has, merged, put_due, witho
 
 use ht_due::{Due, DueQueue};
 
-/// How many dues go and come one by one. More of them move the others more often than one walk along
-/// all does. That is measured: no promise rests on the number.
+/// How many dues go and come one by one, but for those that do both. Of more of them it isn't looked which
+/// do both, since each would be looked for among all. No promise rests on the number.
 const FEW: usize = 8;
 
 /// Takes dues out of a queue, which are there, and puts others in, each list ascending. It takes no

@@ -1,5 +1,6 @@
 ghost use Rattle.std.specs.Prelude.{◌≡◌, ◌≤◌, IfOk, length, map};
 ghost use Rattle.ht_tree.specs.Families as spec;
+ghost use Rattle.ht_tree.specs.ListedBy.{sub_ids};
 ghost use Rattle.ht_tree.specs.Plans.{IsSoundPlan, planned};
 
 use crate::{Plan, Row, Tables};
@@ -7,8 +8,8 @@ use ht_base::{Memory, TaskId};
 use std::alloc::Global;
 
 /// The numbers of the sub tasks as they would be after the plan, in ascending order (WS-HumanTask 1.1,
-/// 4.7). The rows of the tasks behind the task are looked at until as many are found as its model has sub
-/// entries: each costs at most a logarithm of the number of the plan's rows.
+/// 4.7). Those of the tables are at hand. The plan's new tasks behind the task are looked at, until as many
+/// are found as its model has sub entries: each costs at most a logarithm of the number of the plan's rows.
 pub fn sub_tasks(
     alloc: Global,
     tables: &Tables,
@@ -21,8 +22,8 @@ pub fn sub_tasks(
         ≡ map (λ r. r.task) (spec.sub_tasks task.0 (planned tables.now.tables plan.now).rows)) }
 {
     let most = most_subs(tables, plan, task);
-    let mut found = Vec::new(alloc);
-    for before in task.0..plan.rows(tables) {
+    let mut found = known(alloc, tables, task)?;
+    for before in tables.rows().max(task.0)..plan.rows(tables) {
         if found.len() == most {
             return Ok(found);
         }
@@ -34,6 +35,13 @@ pub fn sub_tasks(
         }
     }
     Ok(found)
+}
+
+// Those of the tables.
+fn known(alloc: Global, tables: &Tables, task: TaskId) -> Result<Vec<TaskId>, Memory>
+    ensures { IfOk result (λ ids. ids.items ≡ sub_ids task.0 tables.now.tables.rows) }
+{
+    Ok(tables.subs(task).to_vec(alloc)?)
 }
 
 // The number of sub entries of the task's model: of each there is one sub task at most.

@@ -1,7 +1,9 @@
-ghost use Rattle.std.specs.Prelude.{◌≡◌, ◌≤◌, ◌<◌, ◌+◌, ◌++◌, IfOk, IfSome, fold, OnOk, Some, length, option_map, vec_capacity, vec_len};
+ghost use Rattle.std.specs.Prelude.{◌≡◌, ◌≤◌, ◌<◌, ◌+◌, ◌++◌, IfOk, IfSome, filter, fold, OnOk, Some, length, option_map, vec_capacity, vec_len};
 ghost use Rattle.ht_tree.specs.declared.row.Row.{Row};
 ghost use Rattle.ht_tree.specs.Puts.{CanPut};
-ghost use Rattle.ht_tree.specs.Plans.{AreDuesPrepared, IsNext, IsPlanOf, IsPrepared, committed};
+ghost use Rattle.ht_tree.specs.ListedBy as lists;
+ghost use Rattle.ht_tree.specs.Open.{is_live_task};
+ghost use Rattle.ht_tree.specs.Plans.{AreDuesPrepared, AreListsPrepared, IsNext, IsPlanOf, IsPrepared, committed};
 ghost use Rattle.ht_tree.specs.RowDues.{all_dues};
 ghost use Rattle.ht_tree.specs.Rows.{put_in, row_at};
 ghost use Rattle.ht_tree.specs.Sizes.{total_size};
@@ -10,10 +12,12 @@ ghost use Rattle.ht_tree.specs.Tables.{device_slot, directory, empty_tables, not
 
 use crate::changed_dues::{dues_after, dues_before};
 use crate::exchanging::exchange;
+use crate::moves::{Moves, moves_of};
 use crate::slot::{put_slot, slot_of};
 use crate::{Notice, Plan, Row, Slot};
 use ht_base::{Memory, Moment, Person, TaskId};
 use ht_due::{Due, DueQueue};
+use ht_index::{Index, Move};
 use ht_models::Models;
 use ht_people::Directory;
 use std::alloc::Global;
@@ -21,8 +25,9 @@ use std::marker::Model;
 
 /// The tasks of an office, over its models and its people, its notifications, and the last numbered
 /// command of each device. A contract also sees in `room`, `notice_room`, `slot_room` and `due_room` how
-/// many more tasks, notifications, devices and dues they take without memory, and in `gone` and `news` the
-/// dues that go and come with the plan that was prepared last.
+/// many more tasks, notifications, devices and dues they take without memory, in `gone` and `news` the
+/// dues that go and come with the plan that was prepared last, and in `sub_moves`, `person_moves` and
+/// `open_moves` the tasks that move with it between the lists of tasks.
 #[derive(Drop)]
 pub struct Tables {
     models: Models,
@@ -39,6 +44,11 @@ pub struct Tables {
     // The dues that go and that come with the plan that was prepared last.
     gone: Vec<Due>,
     news: Vec<Due>,
+    // The sub tasks of each task.
+    subs: Index,
+    // The tasks in which each person has a role, and the same without those that ended long ago.
+    persons: Index,
+    recent: Index,
 }
 
 impl Model for Tables {
@@ -73,6 +83,9 @@ impl Tables {
             queue: DueQueue::new(alloc),
             gone: Vec::new(alloc),
             news: Vec::new(alloc),
+            subs: Index::new(alloc),
+            persons: Index::new(alloc),
+            recent: Index::new(alloc),
         })
     }
 
@@ -146,6 +159,34 @@ impl Tables {
         &self.queue
     }
 
+    /// The sub tasks of a task, ascending by number (WS-HumanTask 1.1, 4.7). Of a task that isn't there
+    /// there are none.
+    pub fn subs(&self, id: TaskId) -> &[TaskId]
+        ensures value { result.now ≡ lists.sub_ids id.0 self.now.tables.rows }
+        ensures sound { IsSound self.now.tables }
+    {
+        self.subs.list(id.0)
+    }
+
+    /// The tasks of which a person is initiator, stakeholder, potential owner, actual owner or business
+    /// administrator (WS-HumanTask 1.1, 3.1), ascending by number.
+    pub fn rows_of(&self, person: Person) -> &[TaskId]
+        ensures value { result.now ≡ lists.rows_of person self.now.tables.rows }
+        ensures sound { IsSound self.now.tables }
+    {
+        self.persons.list(person.0)
+    }
+
+    /// Each of them that isn't final, and maybe some that ended not long ago.
+    pub fn open_rows_of(&self, person: Person) -> &[TaskId]
+        ensures live { filter (is_live_task self.now.tables.rows) result.now
+            ≡ lists.live_rows_of person self.now.tables.rows }
+        ensures few { length result.now ≤ length self.now.tables.rows }
+        ensures sound { IsSound self.now.tables }
+    {
+        self.recent.list(person.0)
+    }
+
     /// The tasks of the trees of all top tasks.
     pub(crate) fn size(&self) -> u64
         ensures value { result ≡ total_size self.now.tables.models self.now.tables.rows }
@@ -169,7 +210,8 @@ impl Tables {
         if plan.keeps() {
             self.slots.reserve(1)?;
         }
-        self.prepare_dues(plan)
+        self.prepare_dues(plan)?;
+        self.prepare_lists(plan)
     }
 
     // Finds the dues that go and that come with a plan, and makes room for those that come.
@@ -190,6 +232,41 @@ impl Tables {
         self.queue.reserve(more)
     }
 
+    // Finds how the lists of tasks change with a plan, and makes room for what comes to them.
+    fn prepare_lists(&mut self, plan: &Plan) -> Result<(), Memory>
+        requires { IsPlanOf self.old.tables plan.now }
+        ensures tables { self.new.tables ≡ self.old.tables }
+        ensures prepared { OnOk result (AreListsPrepared self.new plan.now) }
+        ensures room { self.new.room ≡ self.old.room }
+        ensures notice_room { self.new.notice_room ≡ self.old.notice_room }
+        ensures slot_room { self.new.slot_room ≡ self.old.slot_room }
+        ensures due_room { self.new.due_room ≡ self.old.due_room }
+        ensures gone { self.new.gone ≡ self.old.gone }
+        ensures news { self.new.news ≡ self.old.news }
+    {
+        let alloc = *self.rows.allocator();
+        let Moves {
+            subs,
+            persons,
+            recent,
+        } = moves_of(alloc, self, plan)?;
+        sweep_full(alloc, self, &recent)?;
+        self.subs.prepare(subs)?;
+        self.persons.prepare(persons)?;
+        self.recent.prepare(recent)
+    }
+
+    // Takes the tasks that ended out of a person's list, before it takes memory for more.
+    fn sweep(&mut self, alloc: Global, person: u32) -> Result<(), Memory>
+        ensures { self.new ≡ self.old }
+    {
+        if !self.recent.is_full(person) {
+            return Ok(());
+        }
+        let live = live_of(alloc, self, Person(person))?;
+        self.recent.replace(person, live)
+    }
+
     /// Makes the planned change. It can't be refused, and takes no memory.
     pub fn commit(&mut self, plan: Plan, at: Moment)
         requires fits { IsPlanOf self.old.tables plan }
@@ -201,12 +278,51 @@ impl Tables {
         self.size = plan.size(self) as u64;
         self.last = at;
         exchange(&mut self.queue, &self.gone, &self.news);
+        self.subs.make_moves();
+        self.persons.make_moves();
+        self.recent.make_moves();
         let (rows, notices, slot) = plan.into_changes();
         tell(&mut self.notices, notices);
         put_all(&mut self.rows, rows);
         if let Some(slot) = slot {
             put_slot(&mut self.slots, slot);
         }
+    }
+}
+
+// Sweeps the lists to which tasks come.
+fn sweep_full(alloc: Global, tables: &mut Tables, moves: &[Move]) -> Result<(), Memory>
+    ensures { tables.new ≡ tables.old }
+{
+    for one in moves {
+        if one.comes {
+            tables.sweep(alloc, one.key)?;
+        }
+    }
+    Ok(())
+}
+
+// The tasks of a person that aren't final.
+fn live_of(alloc: Global, tables: &Tables, person: Person) -> Result<Vec<TaskId>, Memory>
+    ensures live { IfOk result
+        (λ ids. ids.items ≡ lists.live_rows_of person tables.now.tables.rows) }
+    ensures sound { IsSound tables.now.tables }
+{
+    let mut live = Vec::new(alloc);
+    for id in tables.open_rows_of(person) {
+        if is_live(tables, *id) {
+            live.push(*id)?;
+        }
+    }
+    Ok(live)
+}
+
+fn is_live(tables: &Tables, id: TaskId) -> bool
+    ensures { result ≡ is_live_task tables.now.tables.rows id }
+{
+    match tables.row(id) {
+        Some(row) => !row.state.is_final(),
+        None => false,
     }
 }
 

@@ -220,3 +220,48 @@ fn the_last_command_of_each_device_is_kept(rt: HostRuntime) -> Result<(), Fail> 
     are_last(&rt, &tables);
     Ok(())
 }
+
+// ---- the tasks of each person
+
+// Whether these are the tasks of these numbers.
+fn are_tasks(tasks: &[TaskId], numbers: &[u32]) -> bool {
+    if tasks.len() != numbers.len() {
+        return false;
+    }
+    for (task, number) in tasks.iter().zip(numbers) {
+        if task.0 != *number {
+            return false;
+        }
+    }
+    true
+}
+
+// The person may take the first on with another, and nobody the second; the third is for one alone. All
+// are dan's.
+const TASKS: [(u32, &[u32]); 5] = [
+    (0, &[1]),
+    (1, &[1, 3]),
+    (2, &[1, 2]),
+    (3, &[1, 2, 3]),
+    (4, &[1]),
+];
+
+#[test]
+fn the_tasks_of_each_person_are_listed(rt: HostRuntime) -> Result<(), Fail> {
+    let mut tables = tables(rt.alloc())?;
+    for model in 0..3 {
+        created(&rt, rt.alloc(), &mut tables, model)?;
+    }
+    for (person, numbers) in TASKS {
+        assert!(rt;
+            are_tasks(tables.rows_of(Person(person)), numbers),
+            "{person}"
+        );
+        assert!(rt;
+            are_tasks(tables.open_rows_of(Person(person)), numbers),
+            "{person}"
+        );
+    }
+    assert!(rt; tables.subs(TaskId(1)).is_empty());
+    Ok(())
+}

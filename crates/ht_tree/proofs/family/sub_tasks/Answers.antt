@@ -1,4 +1,4 @@
-use Rattle.std.proofs.Common.{◌≡◌, ℕ, ◌+◌, suc, List, [], ◌∷◌, ◌++◌, length, map, take, Some, ap, sym, ◌∙◌, arith}
+use Rattle.std.proofs.Common.{◌≡◌, ℕ, ◌+◌, suc, List, [], ◌∷◌, ◌++◌, length, map, max, take, Some, ap, sym, ◌∙◌, arith}
 use Rattle.std.proofs.lemmas.List.{length-map, map-append}
 use Rattle.std.proofs.lemmas.Option.{none-some}
 use Rattle.std.specs.Prelude.{slice_get}
@@ -9,7 +9,8 @@ use Rattle.ht_tree.specs.Plans.{planned}
 use Rattle.ht_tree.specs.Rows.{row_at}
 use Rattle.ht_tree.proofs.Rows.{some_at}
 use Rattle.ht_tree.proofs.FewSubs.{all_found}
-use Rattle.ht_tree.proofs.SubTasks.{no_more, none_before, one_more}
+use Rattle.ht_tree.proofs.KnownSubs.{keep_on, known_subs}
+use Rattle.ht_tree.proofs.SubTasks.{no_more, one_more}
 use Rattle.ht_tree.proofs.family.sub_tasks.Goals as goal
 use Rattle.ht_tree.proofs.family.sub_tasks.Goals.{then-is_sub_of+in_ok-push, else-is_sub_of}
 
@@ -18,8 +19,13 @@ ids rows = map (λ r. r.task) rows
 
 pub loop-before-init : goal.loop-before-init
 loop-before-init c =
-    let u = planned c.args.tables.now.tables c.args.plan.now in
-    c.new-found.ensures.items ∙ ap ids (sym (none_before u c.requires.plan.sound c.args.task.0))
+    let t = c.args.tables.now.tables in
+    let u = planned t c.args.plan.now in
+    let task = c.args.task.0 in
+    let start : c.max-before.result ≡ max (length t.rows) task = c.max-before.ensures ∙ ap (λ (n : ℕ). max n task) c.rows.ensures.value in
+    c.in_ok-found.ensures
+    ∙ known_subs t u c.rows.ensures.sound c.requires.plan.sound (keep_on t c.args.plan.now c.requires.plan.fits) task
+    ∙ ap (λ (n : ℕ). ids (sub_tasks task (take n u.rows))) (sym start)
 
 pub returns-then-len-most : goal.returns-then-len-most
 returns-then-len-most c =

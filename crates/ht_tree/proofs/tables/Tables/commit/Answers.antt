@@ -6,13 +6,20 @@ use Rattle.ht_tree.specs.declared.notice.Notice.{Notice}
 use Rattle.ht_tree.specs.declared.row.Row.{Row}
 use Rattle.ht_tree.specs.declared.tables.Tables.TheInside.{Inside}
 use Rattle.ht_tree.specs.Kept.{IsKept, most_notices, roomy, tables_in}
-use Rattle.ht_tree.specs.Plans.{AreDuesPrepared, Follow, IsPlanOf, PlanOf, committed}
+use Rattle.ht_index.specs.Indexes.{IndexOf, list_of, moved}
+use Rattle.ht_tree.specs.declared.listed_by.ListedBy.{ListedBy}
+use Rattle.ht_tree.specs.declared.listed_by.ListedBy.TheVariants as by
+use Rattle.ht_tree.specs.ListedBy.{AreInStep, AreMoves}
+use Rattle.ht_tree.specs.Open.{AreOpen, AreOpenMoves}
+use Rattle.ht_tree.specs.Plans.{AreDuesPrepared, AreListsPrepared, Follow, IsPlanOf, PlanOf, committed, planned}
 use Rattle.ht_tree.specs.Puts.{CanPut}
 use Rattle.ht_tree.specs.RowDues.{row_dues}
 use Rattle.ht_tree.specs.Rows.{put_in}
 use Rattle.ht_tree.specs.Soundness.{IsSound}
 use Rattle.ht_tree.specs.Tables.{RoomyTables}
 use Rattle.ht_tree.proofs.DuesInStep.{ChangesDues, changes_dues}
+use Rattle.ht_tree.proofs.ListsInStep.{in_step}
+use Rattle.ht_tree.proofs.OpenInStep.{open_in_step}
 use Rattle.ht_tree.proofs.Putting.{can_put}
 use Rattle.ht_tree.proofs.tables.Tables.commit.Goals as goal
 
@@ -40,6 +47,21 @@ few_notices t now plan after view kept len room is =
     let long = ap (λ (l : List Notice). length l) is ∙ length-append t.notices.items (plan.changes).notices in
     omega arith
 
+-- the lists of tasks are in step with the rows, once the moves are made
+lists : (kind : ListedBy) (t : Inside) (now : RoomyTables) (plan : PlanOf) (at : ℕ) (before after : IndexOf) (rows : List Row) → roomy t ≡ now → IsKept t → IsSound (committed now.tables plan at) → AreMoves kind t.rows.items (planned (tables_in t) plan).rows before.moves → AreInStep kind t.rows.items before → ((key : ℕ) → list_of key after ≡ fold (moved key) (list_of key before) before.moves) → rows ≡ fold put_in t.rows.items (plan.changes).rows → AreInStep kind rows after
+lists kind t now plan at before after rows view kept sound moves step then_ are =
+    let S : RoomyTables → Type 0 = λ r. IsSound (committed r.tables plan at) in
+    let P : List Row → Type 0 = λ l. AreInStep kind l after in
+    subst P (sym are) (in_step kind t.rows.items (planned (tables_in t) plan).rows (kept.sound).numbered (subst S (sym view) sound).numbered before after step moves then_)
+
+opened : (t : Inside) (now : RoomyTables) (plan : PlanOf) (at : ℕ) (before after : IndexOf) (rows : List Row) → AreOpenMoves t.rows.items (planned (tables_in t) plan).rows before.moves → AreOpen t.rows.items before → ((key : ℕ) → list_of key after ≡ fold (moved key) (list_of key before) before.moves) → rows ≡ fold put_in t.rows.items (plan.changes).rows → AreOpen rows after
+opened t now plan at before after rows moves are then_ is =
+    let P : List Row → Type 0 = λ l. AreOpen l after in
+    subst P (sym is) (open_in_step t.rows.items (planned (tables_in t) plan).rows before after are moves then_)
+
+prepared : (t : Inside) (now : RoomyTables) (plan : PlanOf) → roomy t ≡ now → AreListsPrepared now plan → AreListsPrepared (roomy t) plan
+prepared t now plan view are = let P : RoomyTables → Type 0 = λ r. AreListsPrepared r plan in subst P (sym view) are
+
 pub exchange-requires-clause-ascend : goal.exchange-requires-clause-ascend
 exchange-requires-clause-ascend c = (changes c.self.inside c.args.self.now c.args.plan c.args.at.0 c.self.view_is c.self.invariant c.requires.fits c.requires.sound c.requires.prepared.dues).ascend
 
@@ -65,6 +87,7 @@ pub invariant_of-self : goal.invariant_of-self
 invariant_of-self c =
     let change = changes c.self.inside c.args.self.now c.args.plan c.args.at.0 c.self.view_is c.self.invariant c.requires.fits c.requires.sound c.requires.prepared.dues in
     let dues = c.self.inside.queue.dues in
+    let moves = prepared c.self.inside c.args.self.now c.args.plan c.self.view_is c.requires.prepared.lists in
     let rows : c.put_all.new.rows.items ≡ fold put_in c.self.inside.rows.items (c.args.plan.changes).rows = c.put_all.ensures ∙ ap (λ (l : List Row). fold put_in c.self.inside.rows.items l) c.into_changes-rows.ensures.rows in
     record {
       sound = search rules;
@@ -78,12 +101,16 @@ invariant_of-self c =
           ∙ ap (λ (news : List Due). merged dues c.self.inside.gone.items news) c.deref-2.ensures.value
           ∙ change.due
           ∙ ap (λ (l : List Row). in_order (flat_map (row_dues c.self.inside.models) l)) (sym rows);
+      subs = lists by.Parent c.self.inside c.args.self.now c.args.plan c.args.at.0 c.self.inside.subs c.make_moves.new.self c.put_all.new.rows.items c.self.view_is c.self.invariant c.requires.sound moves.subs c.self.invariant.subs c.make_moves.ensures.lists rows;
+      persons = lists by.Person c.self.inside c.args.self.now c.args.plan c.args.at.0 c.self.inside.persons c.make_moves-2.new.self c.put_all.new.rows.items c.self.view_is c.self.invariant c.requires.sound moves.persons c.self.invariant.persons c.make_moves-2.ensures.lists rows;
+      recent = opened c.self.inside c.args.self.now c.args.plan c.args.at.0 c.self.inside.recent c.make_moves-3.new.self c.put_all.new.rows.items moves.recent c.self.invariant.recent c.make_moves-3.ensures.lists rows;
     }
 
 pub invariant_of-self-in_default : goal.invariant_of-self-in_default
 invariant_of-self-in_default c =
     let change = changes c.self.inside c.args.self.now c.args.plan c.args.at.0 c.self.view_is c.self.invariant c.requires.fits c.requires.sound c.requires.prepared.dues in
     let dues = c.self.inside.queue.dues in
+    let moves = prepared c.self.inside c.args.self.now c.args.plan c.self.view_is c.requires.prepared.lists in
     let rows : c.put_all.new.rows.items ≡ fold put_in c.self.inside.rows.items (c.args.plan.changes).rows = c.put_all.ensures ∙ ap (λ (l : List Row). fold put_in c.self.inside.rows.items l) c.into_changes-rows.ensures.rows in
     record {
       sound = search rules;
@@ -97,4 +124,7 @@ invariant_of-self-in_default c =
           ∙ ap (λ (news : List Due). merged dues c.self.inside.gone.items news) c.deref-2.ensures.value
           ∙ change.due
           ∙ ap (λ (l : List Row). in_order (flat_map (row_dues c.self.inside.models) l)) (sym rows);
+      subs = lists by.Parent c.self.inside c.args.self.now c.args.plan c.args.at.0 c.self.inside.subs c.make_moves.new.self c.put_all.new.rows.items c.self.view_is c.self.invariant c.requires.sound moves.subs c.self.invariant.subs c.make_moves.ensures.lists rows;
+      persons = lists by.Person c.self.inside c.args.self.now c.args.plan c.args.at.0 c.self.inside.persons c.make_moves-2.new.self c.put_all.new.rows.items c.self.view_is c.self.invariant c.requires.sound moves.persons c.self.invariant.persons c.make_moves-2.ensures.lists rows;
+      recent = opened c.self.inside c.args.self.now c.args.plan c.args.at.0 c.self.inside.recent c.make_moves-3.new.self c.put_all.new.rows.items moves.recent c.self.invariant.recent c.make_moves-3.ensures.lists rows;
     }

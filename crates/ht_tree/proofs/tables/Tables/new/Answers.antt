@@ -1,6 +1,13 @@
-use Rattle.std.proofs.Common.{arith, refl}
+use Rattle.std.proofs.Common.{◌≡◌, ℕ, zero, suc, true, false, List, [], arith, refl, ap, sym, subst, ◌∙◌}
+use Rattle.ht_index.specs.Indexes.{Ascends, has}
+use Rattle.ht_tree.specs.declared.row.Row.{Row}
+use Rattle.ht_tree.specs.Open.{is_live_at}
 use Rattle.ht_tree.proofs.Sounding.{empty_sound}
 use Rattle.ht_tree.proofs.tables.Tables.new.Goals as goal
+
+none : (k n : ℕ) → is_live_at k n [] ≡ false
+none k zero = refl
+none k (suc i) = refl
 
 pub invariant_of-result : goal.invariant_of-result
 invariant_of-result c = record {
@@ -8,4 +15,11 @@ invariant_of-result c = record {
   counted = rw c.new.ensures.items refl;
   due = rw c.new.ensures.items c.new-4.ensures;
   notices_few = rw c.new-2.ensures.items (omega arith);
+  subs = rw c.new.ensures.items c.new-7.ensures.lists;
+  persons = rw c.new.ensures.items c.new-8.ensures.lists;
+  recent = record {
+    ascends = λ k. subst Ascends (sym (c.new-9.ensures.lists k)) tt;
+    listed = λ k n e. let no : false ≡ true = sym (ap (has n) (c.new-9.ensures.lists k)) ∙ e in absurd cc;
+    whole = λ k n e. let no : false ≡ true = sym (ap (λ (l : List Row). is_live_at k n l) c.new.ensures.items ∙ none k n) ∙ e in absurd cc;
+  };
 }

@@ -1,0 +1,5 @@
+mod Members
+mod Places
+pub mod PublicLaws
+mod Settling
+mod Slots

@@ -1,0 +1,10 @@
+use Rattle.std.proofs.Common.{◌≡◌, ℕ, ◌+◌, ◌≤◌, fold, take}
+use Rattle.ht_index.specs.Indexes.{moved}
+use Rattle.ht_index.specs.Kept.{coming, list_at, spare_at}
+use Rattle.ht_index.proofs.moving.move_all.Given as goal
+
+abbrev pub invariant-loop-one : goal.invariant-loop-one
+invariant-loop-one l = record {
+  lists : (k : ℕ) → list_at k l.lists.items ≡ fold (moved k) (list_at k l.fn.lists.items) (take l.one-index l.moves);
+  room : (k : ℕ) → coming k l.moves ≤ spare_at k l.lists.items + coming k (take l.one-index l.moves);
+}

@@ -1,0 +1,4 @@
+pub mod Examples
+pub mod Indexes
+pub mod Kept
+pub mod Listed

@@ -1,0 +1,95 @@
+ghost use Rattle.std.specs.Prelude.{ℕ, ◌≡◌, [], fold, OnErr, OnOk};
+ghost use Rattle.ht_index.specs.Indexes.{Ascends, list_of, moved};
+
+use crate::Move;
+use crate::asking::{ask_all, give_all_back, replace_at};
+use crate::listed::Listed;
+use crate::moving::move_all;
+use ht_base::{Memory, TaskId};
+use std::alloc::Global;
+use std::marker::Model;
+
+/// The tasks that stand under each key, ascending by number. A contract also sees in `moves` those that
+/// are prepared: they are made without memory.
+#[derive(Drop)]
+pub struct Index {
+    // Behind the last there are no tasks.
+    lists: Vec<Listed>,
+    moves: Vec<Move>,
+}
+
+impl Model for Index {
+    ghost use Rattle.ht_index.specs.Kept.{HasRoom, index_in};
+    ghost use Rattle.ht_index.specs.Indexes.{IndexOf};
+
+    ghost Value = { IndexOf };
+
+    ghost view = { index_in };
+
+    ghost invariant = { HasRoom };
+}
+
+impl Index {
+    /// No task stands anywhere.
+    pub fn new(alloc: Global) -> Index
+        ensures lists { (key : ℕ) → list_of key result ≡ [] }
+        ensures moves { result.moves ≡ [] }
+    {
+        Index {
+            lists: Vec::new(alloc),
+            moves: Vec::new(alloc),
+        }
+    }
+
+    /// The tasks that stand under a key.
+    pub fn list(&self, key: u32) -> &[TaskId]
+        ensures value { result.now ≡ list_of key self.now }
+        ensures ascends { Ascends result.now }
+    {
+        match self.lists.get(key as usize) {
+            Some(list) => list.as_slice(),
+            None => &[],
+        }
+    }
+
+    /// Whether the next task that comes to a list takes memory. Nothing else hangs on it.
+    pub fn is_full(&self, key: u32) -> bool {
+        match self.lists.get(key as usize) {
+            Some(list) => list.is_full(),
+            None => true,
+        }
+    }
+
+    /// Puts a list in the place of that of a key.
+    pub fn replace(&mut self, key: u32, tasks: Vec<TaskId>) -> Result<(), Memory>
+        requires { Ascends tasks.items }
+        ensures here { OnOk result (list_of key self.new ≡ tasks.items) }
+        ensures refused { OnErr result ((k : ℕ) → list_of k self.new ≡ list_of k self.old) }
+        ensures others { (k : ℕ) → (k ≡ key → ⊥) → list_of k self.new ≡ list_of k self.old }
+        ensures moves { self.new.moves ≡ self.old.moves }
+    {
+        replace_at(&mut self.lists, key, tasks)
+    }
+
+    /// Makes room for these moves, in the place of those that were prepared before.
+    pub fn prepare(&mut self, moves: Vec<Move>) -> Result<(), Memory>
+        ensures lists { (key : ℕ) → list_of key self.new ≡ list_of key self.old }
+        ensures moves { OnOk result (self.new.moves ≡ moves.items) }
+    {
+        give_all_back(&mut self.lists, &self.moves);
+        self.moves.clear();
+        ask_all(&mut self.lists, &moves)?;
+        self.moves = moves;
+        Ok(())
+    }
+
+    /// Makes the moves that were prepared, one after another. It takes no memory.
+    pub fn make_moves(&mut self)
+        ensures lists { (key : ℕ) → list_of key self.new
+            ≡ fold (moved key) (list_of key self.old) self.old.moves }
+        ensures moves { self.new.moves ≡ [] }
+    {
+        move_all(&mut self.lists, &self.moves);
+        self.moves.clear();
+    }
+}

@@ -1,0 +1,14 @@
+//! Which tasks stand under a key: for each key the list of them, ascending by number, which changes
+//! without memory where room was made.
+#![tactic(auto)]
+
+mod asking;
+mod finding;
+mod index;
+mod listed;
+mod moves;
+mod moving;
+
+pub use finding::put_task;
+pub use index::Index;
+pub use moves::Move;
