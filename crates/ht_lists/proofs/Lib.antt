@@ -1,7 +1,12 @@
+mod Asked
+mod BestKeys
 mod CommentsShown
+mod FirstFew
 mod Found
 mod KeyOrder
 mod OneOrder
 mod PartsShown
+mod Results
+mod RowsFound
 mod TasksShown
 mod Told

@@ -177,11 +177,11 @@ module _ {A : Type 0} (cmp : A → A → Ordering) (total : IsTotalOrder cmp) wh
       at rest Equal e = more (tie q y) rest
       at rest Greater e = more (tie q y) rest
 
-  rises_all : (acc xs : List A) → Rises acc → Rises (fold (put_by cmp) acc xs)
+  pub rises_all : (acc xs : List A) → Rises acc → Rises (fold (put_by cmp) acc xs)
   rises_all acc [] up = up
   rises_all acc (x ∷ xs) up = rises_all (put_by cmp acc x) xs (rises_put acc x up)
 
-  ties_all : (q : A) (acc xs : List A) → Rises acc → filter (tie q) (fold (put_by cmp) acc xs) ≡ filter (tie q) acc ++ filter (tie q) xs
+  pub ties_all : (q : A) (acc xs : List A) → Rises acc → filter (tie q) (fold (put_by cmp) acc xs) ≡ filter (tie q) acc ++ filter (tie q) xs
   ties_all q acc [] up = sym (append_nil (filter (tie q) acc))
     where
       append_nil : (zs : List A) → zs ++ [] ≡ zs

@@ -1,15 +1,11 @@
 -- Notifications that are taken one by one.
-use Rattle.std.proofs.Common.{◌≡◌, ℕ, ◌+◌, ◌-◌, ◌<◌, ◌≤◌, zero, suc, Bool, true, false, cond, List, [], ◌∷◌, ◌++◌, drop, take, Some, slice_get, Result, Ok, Err, OnOk, refl, ap, sym, subst, ◌∙◌, arith, append_assoc}
+use Rattle.std.proofs.Common.{◌≡◌, ℕ, ◌+◌, ◌-◌, ◌<◌, ◌≤◌, zero, suc, Bool, true, false, cond, List, [], ◌∷◌, ◌++◌, drop, take, Some, slice_get, refl, ap, sym, subst, ◌∙◌, arith, append_assoc}
 use native.Mathlib.Numerals.{unary_clauses}
 use Rattle.ht_base.specs.Persons.{has}
 use Rattle.ht_base.specs.declared.notice_page.NoticeRow.{NoticeRow}
 use Rattle.ht_lists.specs.Lists.{notice_row, part_of, told_from}
 use Rattle.ht_tree.specs.declared.notice.Notice.{Notice}
 use Rattle.ht_tree.specs.Tables.{notice_at}
-
-pub on_ok_then : {T E P Q : Type 0} (r : Result T E) → OnOk r P → (P → Q) → OnOk r Q
-on_ok_then (Ok t) p f = f p
-on_ok_then (Err e) p f = tt
 
 -- the next is taken
 pub takes : (rows new : List NoticeRow) (passed left fewer : ℕ) (row : NoticeRow) (later : List NoticeRow) → passed ≤ 0 → 0 < left → fewer ≡ left - 1 → new ≡ rows ++ row ∷ []

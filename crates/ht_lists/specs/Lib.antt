@@ -1,7 +1,10 @@
+pub mod Best
+pub mod BestHeld
 pub mod Examples
 pub mod Keys
 pub mod Lists
 pub mod Naming
+pub mod Offering
 pub mod Parts
 pub mod Sheets
 pub mod Shown

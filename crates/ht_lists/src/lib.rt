@@ -2,9 +2,11 @@
 //! that were sent to the person, and the sheet of a task.
 #![tactic(auto)]
 
+mod best;
 mod keys;
 mod listing;
 mod naming;
+mod offering;
 mod sheets;
 mod telling;
 

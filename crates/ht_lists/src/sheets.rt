@@ -1,13 +1,12 @@
 ghost use Rattle.std.specs.Prelude.{◌≡◌, IfOk, IsSome, Some, map, option_map};
 ghost use Rattle.ht_lists.specs.Sheets as spec;
 ghost use Rattle.ht_tree.specs.Families.{sub_tasks};
-ghost use Rattle.ht_tree.specs.Plans.{no_plan};
 ghost use Rattle.ht_tree.specs.Soundness.{IsSoundRow};
 ghost use Rattle.ht_tree.specs.Tables.{task_row};
 
 use crate::naming::{comments_of, name_or_none, names_of, parts_of};
 use ht_base::{Ids, Memory, Names, Sheet, TaskId};
-use ht_tree::{Plan, Row, Tables, sub_tasks};
+use ht_tree::{Row, Tables};
 use std::alloc::Global;
 
 /// The sheet of a task, which must be there (WS-HumanTask 1.1, 7.1.1 "getTaskDetails"): its row, with
@@ -17,21 +16,19 @@ pub fn sheet(alloc: Global, tables: &Tables, task: TaskId) -> Result<Sheet, Memo
     ensures { IfOk result (λ s. option_map (spec.sheet_of tables.now.tables)
         (task_row tables.now.tables task.0) ≡ Some s) }
 {
-    let nothing = Plan::begin(alloc)?;
     match tables.row(task) {
-        Some(row) => sheet_in(alloc, tables, &nothing, row),
+        Some(row) => sheet_in(alloc, tables, row),
         None => unreachable!(),
     }
 }
 
 #[tactic(auto, using(crate::proofs::PartsShown::input_shown, crate::proofs::PartsShown::output_shown))]
-fn sheet_in(alloc: Global, tables: &Tables, nothing: &Plan, row: &Row) -> Result<Sheet, Memory>
-    requires sound { IsSoundRow tables.now.tables row.now }
-    requires nothing { nothing.now ≡ no_plan }
+fn sheet_in(alloc: Global, tables: &Tables, row: &Row) -> Result<Sheet, Memory>
+    requires { IsSoundRow tables.now.tables row.now }
     ensures { IfOk result (λ s. s ≡ spec.sheet_of tables.now.tables row.now) }
 {
     let roles = role_names(alloc, tables, row)?;
-    let subs = subs_of(alloc, tables, nothing, row.task)?;
+    let subs = subs_of(alloc, tables, row.task)?;
     let people = tables.people();
     let parent = match row.parent {
         Some((task, _)) => Some(task),
@@ -85,12 +82,9 @@ fn role_names(alloc: Global, tables: &Tables, row: &Row) -> Result<RoleNames, Me
     })
 }
 
-// The sub tasks of a task, where nothing is planned.
-fn subs_of(alloc: Global, tables: &Tables, nothing: &Plan, task: TaskId) -> Result<Ids, Memory>
-    requires { nothing.now ≡ no_plan }
+fn subs_of(alloc: Global, tables: &Tables, task: TaskId) -> Result<Ids, Memory>
     ensures { IfOk result
         (λ ids. ids ≡ map (λ r. r.task) (sub_tasks task.0 tables.now.tables.rows)) }
 {
-    let _last = tables.last();
-    Ok(Ids::of(sub_tasks(alloc, tables, nothing, task)?))
+    Ok(Ids::of(tables.subs(task).to_vec(alloc)?))
 }

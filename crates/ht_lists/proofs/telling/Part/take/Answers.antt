@@ -1,5 +1,6 @@
 use Rattle.std.proofs.Common.{◌-◌, refl, arith}
-use Rattle.ht_lists.proofs.Told.{on_ok_then, takes}
+use Rattle.ht_lists.proofs.Results.{on_ok_then}
+use Rattle.ht_lists.proofs.Told.{takes}
 use Rattle.ht_lists.proofs.telling.Part.take.Goals as goal
 
 pub returns-clause-looks : goal.returns-clause-looks

@@ -1,0 +1,32 @@
+-- What is still asked of tasks in which a person is known to have a role.
+use Rattle.std.specs.Prelude.{ℕ, Bool, true, false, not, List, filter, filter_map, map, Option, Some, None}
+use Rattle.ht_base.specs.declared.query.Which.{Which}
+use Rattle.ht_base.specs.declared.query.Which.TheVariants as which
+use Rattle.ht_base.specs.declared.role.Role.{Role}
+use Rattle.ht_base.specs.declared.role.Role.TheVariants.{Operator}
+use Rattle.ht_base.specs.declared.task_id.TaskId.{TaskId}
+use Rattle.ht_base.specs.State.{is_final}
+use Rattle.ht_lists.specs.declared.keys.Key.{Key}
+use Rattle.ht_lists.specs.Keys.{key_of}
+use Rattle.ht_lists.specs.Lists.{is_listed, is_shown}
+use Rattle.ht_tree.specs.declared.row.Row.{Row}
+use Rattle.ht_tree.specs.Tables.{TablesOf, task_row}
+
+-- the role that no task gives
+abbrev pub is_operator : Option Role → Bool
+is_operator (Some Operator) = true
+is_operator _ = false
+
+-- no task that is final is asked for
+abbrev pub is_live : Which → Bool
+is_live which.Live = true
+is_live which.All = false
+is_live (which.Only one) = not (is_final one)
+
+-- a task in which the person has a role is listed
+abbrev pub is_asked : TablesOf → ℕ → Option Role → Which → Row → Bool
+is_asked t person None which row = is_shown which row.state
+is_asked t person (Some role) which row = is_listed t person (Some role) which row
+
+abbrev pub asked_keys : TablesOf → ℕ → Option Role → Which → List TaskId → List Key
+asked_keys t person role which ids = map key_of (filter (is_asked t person role which) (filter_map (λ id. task_row t id.0) ids))
