@@ -27,7 +27,7 @@ chain_of (suc n) rows task k (Some p) is h = here (p.0.0 == task) refl h (λ t. 
 
 module _ (u : TablesOf) (sound : IsSound u) (task : ℕ) where
   -- the parent of a task has a lower number
-  parent_lower : (k : ℕ) (p : TaskId × ℕ) → parent_at k u.rows ≡ Some p → p.0.0 < k
+  pub parent_lower : (k : ℕ) (p : TaskId × ℕ) → parent_at k u.rows ≡ Some p → p.0.0 < k
   parent_lower k p at = go (row_at k u.rows) refl at
     where
       go : (o : Option Row) → row_at k u.rows ≡ o → option_and_then (λ (r : Row). r.parent) o ≡ Some p → p.0.0 < k

@@ -1,7 +1,6 @@
 -- Entries whose sub tasks may be made by hand, told by the numbers of a task's sub tasks.
 use Rattle.ht_models.specs.Contradictions.{is_automatic}
 use Rattle.std.proofs.Common.{◌≡◌, ℕ, ◌+◌, suc, Bool, true, false, not, ◌&&◌, ◌||◌, if◌then◌else◌, bytes_eq, List, [], ◌∷◌, map, Option, Some, None, refl, sym, ap, subst, ◌∙◌, arith}
-use Rattle.std.specs.List.{list_any}
 use Rattle.std.specs.Option.{option_and_then}
 use Rattle.std.specs.Prelude.{slice_get}
 use Rattle.ht_base.specs.declared.task_id.TaskId.{TaskId}
@@ -17,7 +16,7 @@ use Rattle.ht_models.specs.Model.{ModelOf}
 use Rattle.ht_entries.specs.SubEntries.{SubEntry}
 use Rattle.ht_tree.specs.declared.row.Row.{Row}
 use Rattle.ht_base.specs.State.{is_final}
-use Rattle.ht_tree.specs.Families.{is_made, is_of_entry, sub_tasks}
+use Rattle.ht_tree.specs.Families.{is_made, sub_tasks}
 use Rattle.ht_tree.specs.Soundness.{IsSound}
 use Rattle.ht_tree.specs.Tables.{TablesOf, model_of, task_row}
 

@@ -1,9 +1,7 @@
 -- The tasks that are freed below another, from the greatest number to the least.
-use Rattle.std.proofs.Common.{◌≡◌, ℕ, ◌+◌, ◌-◌, ◌≤◌, zero, suc, Bool, true, false, ◌&&◌, if◌then◌else◌, List, [], ◌∷◌, ◌++◌, filter, get_or, length, map, take, Option, Some, refl, sym, ap, subst, ◌∙◌, append_assoc, arith}
-use Rattle.std.proofs.lemmas.List.{append-nil, map-append, reverse-append, take_all}
+use Rattle.std.proofs.Common.{◌≡◌, ℕ, ◌==◌, Bool, true, false, ◌&&◌, ◌||◌, if◌then◌else◌, List, [], ◌∷◌, ◌++◌, filter, map, Option, Some, None, refl, sym, ap, subst, ◌∙◌, append_assoc}
+use Rattle.std.proofs.lemmas.List.{append-nil, map-append, reverse-append}
 use Rattle.std.proofs.lemmas.List.Elements.{filter-append}
-use Rattle.std.proofs.lemmas.Option.{get_or_from_slice_get, slice_get_within}
-use Rattle.std.proofs.Math.Seq.{take-suc}
 use Rattle.std.specs.Option.{option_map_or}
 use Rattle.std.specs.Prelude.{reverse}
 use Rattle.ht_base.specs.declared.task_id.TaskId.{TaskId}
@@ -15,98 +13,111 @@ use Rattle.ht_compose.specs.Families.{StillThere, is_above}
 use Rattle.ht_compose.specs.Freeing.{IsFreed, checks_of, freed_tasks, is_freed}
 use Rattle.ht_compose.specs.Items.{Does, Item}
 use Rattle.ht_compose.specs.Items.Item.{Check}
-use Rattle.ht_compose.specs.Reaching.{IsLastBelow, reached}
+use Rattle.ht_compose.specs.Reaching.{Reaches, changes, reached, reached_but}
 use Rattle.ht_compose.specs.Running.{Runs}
-use Rattle.ht_compose.proofs.Chains.{none_lower}
+use Rattle.ht_compose.specs.Trees.{is_of_tree, tree_ids}
 use Rattle.ht_compose.proofs.Reached.{reached_standing}
+use Rattle.ht_compose.proofs.Spread.{AreLeft, Going, changes_yet, front_left, goes_further}
 use Rattle.ht_compose.proofs.Standing.{there_as_alike, there_then}
-use Rattle.ht_tree.proofs.PublicLaws.{goes_then, map_alike, some_at}
+use Rattle.ht_index.proofs.PublicLaws.{filter_ascends, has_filter, one_list}
+use Rattle.ht_tree.proofs.PublicLaws.{goes_then, has_ids, ids_ascend, map_alike}
 use Rattle.ht_tree.specs.declared.row.Row.{Row}
+use Rattle.ht_tree.specs.ListedBy.{ids_by}
 use Rattle.ht_tree.specs.Plans.{Goes, PlanOf, planned}
 use Rattle.ht_tree.specs.Rows.{row_at}
 use Rattle.ht_tree.specs.Soundness.{IsSound, is_suspended}
 use Rattle.ht_tree.specs.Tables.{TablesOf, task_row, with_rows}
 
--- of the rows up to this number
-abbrev pub freed_to : TablesOf → ℕ → ℕ → List Item
-freed_to u task k = map (λ row. Check row.task.0) (reverse (filter (is_freed u.rows task) (take k u.rows)))
+abbrev pub tasks_checked : List TaskId → List Item
+tasks_checked ids = map (λ id. Check id.0) ids
 
-module _ (u : TablesOf) (sound : IsSound u) (task : ℕ) where
-  abbrev checks : List Row → List Item
-  checks rows = map (λ row. Check row.task.0) rows
+abbrev checks : List Row → List Item
+checks rows = map (λ row. Check row.task.0) rows
 
-  pub one_more : (j : ℕ) (row : Row) → row_at (suc j) u.rows ≡ Some row → freed_to u task (suc j) ≡ (if is_freed u.rows task row then Check (suc j) ∷ [] else []) ++ freed_to u task j
-  one_more j row at =
-      let test : Row → Bool = is_freed u.rows task in
-      let last : get_or u.rows j row ≡ row = get_or_from_slice_get u.rows j row row at in
-      let more : take (suc j) u.rows ≡ take j u.rows ++ row ∷ [] = take-suc u.rows j row (slice_get_within u.rows j row at) ∙ ap (λ (r : Row). take j u.rows ++ r ∷ []) last in
-      ap (λ (l : List Row). checks (reverse (filter test l))) more
-      ∙ ap (λ (l : List Row). checks (reverse l)) (filter-append test (take j u.rows) (row ∷ []))
-      ∙ ap checks (reverse-append (filter test (take j u.rows)) (filter test (row ∷ [])))
-      ∙ map-append (λ row. Check row.task.0) (reverse (filter test (row ∷ []))) (reverse (filter test (take j u.rows)))
-      ∙ ap (λ (l : List Item). l ++ freed_to u task j) (go (is_freed u.rows task row) refl)
+-- the task is freed
+abbrev is_freed_at : TablesOf → ℕ → TaskId → Bool
+is_freed_at u task id = option_map_or (is_freed u.rows task) (row_at id.0 u.rows) false
+
+-- those of a list, from its end on
+abbrev pub freed_in : TablesOf → ℕ → List TaskId → List Item
+freed_in u task ids = tasks_checked (reverse (filter (is_freed_at u task) ids))
+
+checked_backwards : (rows : List Row) → tasks_checked (reverse (map (λ row. row.task) rows)) ≡ checks (reverse rows)
+checked_backwards [] = refl
+checked_backwards (r ∷ rows) =
+    ap tasks_checked (reverse-append (r.task ∷ []) (map (λ row. row.task) rows))
+    ∙ map-append (λ id. Check id.0) (reverse (map (λ row. row.task) rows)) (r.task ∷ [])
+    ∙ ap (λ (l : List Item). l ++ Check r.task.0 ∷ []) (checked_backwards rows)
+    ∙ sym (map-append (λ row. Check row.task.0) (reverse rows) (r ∷ []))
+    ∙ sym (ap checks (reverse-append (r ∷ []) rows))
+
+-- ---- as they are put into a list
+
+module _ (u : TablesOf) (task : ℕ) where
+  one_more : (front : List TaskId) (id : TaskId) → freed_in u task (front ++ id ∷ []) ≡ (if is_freed_at u task id then Check id.0 ∷ [] else []) ++ freed_in u task front
+  one_more front id =
+      let test : TaskId → Bool = is_freed_at u task in
+      ap (λ (l : List TaskId). tasks_checked (reverse l)) (filter-append test front (id ∷ []))
+      ∙ ap tasks_checked (reverse-append (filter test front) (filter test (id ∷ [])))
+      ∙ map-append (λ id. Check id.0) (reverse (filter test (id ∷ []))) (reverse (filter test front))
+      ∙ ap (λ (l : List Item). l ++ freed_in u task front) (go (is_freed_at u task id) refl)
     where
-      go : (b : Bool) → is_freed u.rows task row ≡ b → checks (reverse (filter (is_freed u.rows task) (row ∷ []))) ≡ (if b then Check (suc j) ∷ [] else [])
-      go true is = ap (λ (c : Bool). checks (reverse (if c then row ∷ [] else []))) is ∙ ap (λ (k : ℕ). Check k ∷ []) (sound.numbered (suc j) row at)
-      go false is = ap (λ (c : Bool). checks (reverse (if c then row ∷ [] else []))) is
+      go : (b : Bool) → is_freed_at u task id ≡ b → tasks_checked (reverse (filter (is_freed_at u task) (id ∷ []))) ≡ (if b then Check id.0 ∷ [] else [])
+      go true is = ap (λ (c : Bool). tasks_checked (reverse (if c then id ∷ [] else []))) is
+      go false is = ap (λ (c : Bool). tasks_checked (reverse (if c then id ∷ [] else []))) is
 
-  not_below : (row : Row) → is_above u.rows task row ≡ false → is_freed u.rows task row ≡ false
-  not_below row none = ap (λ (b : Bool). b && is_suspended row.state) none
-
-  -- none has a number that isn't greater than the task's
-  pub none_before : (k : ℕ) → k ≤ task → k ≤ length u.rows → freed_to u task k ≡ []
-  none_before zero low within = refl
-  none_before (suc j) low within =
-      let its = some_at u.rows j (omega arith) in
-      let none = not_below its.0 (none_lower u sound task (suc j) its.0 its.1 low) in
-      one_more j its.0 its.1
-      ∙ ap (λ (b : Bool). (if b then Check (suc j) ∷ [] else []) ++ freed_to u task j) none
-      ∙ none_before j (omega arith) (omega arith)
-
-  -- and none is behind the last
-  none_behind : (last d : ℕ) → IsLastBelow u task last → last + d ≤ length u.rows → freed_to u task (last + d) ≡ freed_to u task last
-  none_behind last zero below within = let e : last + 0 ≡ last = omega arith in ap (λ (k : ℕ). freed_to u task k) e
-  none_behind last (suc d) below within =
-      let e : last + suc d ≡ suc (last + d) = omega arith in
-      let its = some_at u.rows (last + d) (omega arith) in
-      let none = not_below its.0 (below.none (suc (last + d)) its.0 its.1 (omega arith)) in
-      ap (λ (k : ℕ). freed_to u task k) e
-      ∙ one_more (last + d) its.0 its.1
-      ∙ ap (λ (b : Bool). (if b then Check (suc (last + d)) ∷ [] else []) ++ freed_to u task (last + d)) none
-      ∙ none_behind last d below (omega arith)
-
-  pub all_before : (last : ℕ) → IsLastBelow u task last → freed_to u task last ≡ checks (freed_tasks task u.rows)
-  all_before last below =
-      let within = below.within in
-      let e : last + (length u.rows - last) ≡ length u.rows = omega arith in
-      sym (none_behind last (length u.rows - last) below (omega arith))
-      ∙ ap (λ (k : ℕ). freed_to u task k) e
-      ∙ ap (λ (l : List Row). checks (reverse (filter (is_freed u.rows task) l))) (take_all (length u.rows) u.rows (omega arith))
-
-  -- ---- as they are put into a list
-
-  abbrev tasks_checked : List TaskId → List Item
-  tasks_checked ids = map (λ id. Check id.0) ids
-
-  pub one_further : (old new : List TaskId) (id : TaskId) (j last : ℕ) → id.0 ≡ suc j → suc j ≤ length u.rows → new ≡ old ++ (if option_map_or (is_freed u.rows task) (task_row u id.0) false then id ∷ [] else []) → tasks_checked old ++ freed_to u task (suc j) ≡ freed_to u task last → tasks_checked new ++ freed_to u task j ≡ freed_to u task last
-  one_further old new id j last number within is before =
-      let its = some_at u.rows j (omega arith) in
-      let test : option_map_or (is_freed u.rows task) (task_row u id.0) false ≡ is_freed u.rows task its.0 = ap (λ (k : ℕ). option_map_or (is_freed u.rows task) (task_row u k) false) number ∙ ap (λ (o : Option Row). option_map_or (is_freed u.rows task) o false) its.1 in
-      ap (λ (l : List TaskId). tasks_checked l ++ freed_to u task j) is
-      ∙ ap (λ (l : List Item). l ++ freed_to u task j) (map-append (λ id. Check id.0) old (if option_map_or (is_freed u.rows task) (task_row u id.0) false then id ∷ [] else []))
-      ∙ ap (λ (l : List Item). (tasks_checked old ++ l) ++ freed_to u task j) (go (option_map_or (is_freed u.rows task) (task_row u id.0) false))
-      ∙ ap (λ (b : Bool). (tasks_checked old ++ (if b then Check (suc j) ∷ [] else [])) ++ freed_to u task j) test
-      ∙ append_assoc (tasks_checked old) (if is_freed u.rows task its.0 then Check (suc j) ∷ [] else []) (freed_to u task j)
-      ∙ ap (λ (l : List Item). tasks_checked old ++ l) (sym (one_more j its.0 its.1))
+  one_further : (old new front : List TaskId) (id : TaskId) (whole : List Item) → new ≡ old ++ (if is_freed_at u task id then id ∷ [] else []) → tasks_checked old ++ freed_in u task (front ++ id ∷ []) ≡ whole → tasks_checked new ++ freed_in u task front ≡ whole
+  one_further old new front id whole is before =
+      ap (λ (l : List TaskId). tasks_checked l ++ freed_in u task front) is
+      ∙ ap (λ (l : List Item). l ++ freed_in u task front) (map-append (λ id. Check id.0) old (if is_freed_at u task id then id ∷ [] else []))
+      ∙ ap (λ (l : List Item). (tasks_checked old ++ l) ++ freed_in u task front) (go (is_freed_at u task id))
+      ∙ append_assoc (tasks_checked old) (if is_freed_at u task id then Check id.0 ∷ [] else []) (freed_in u task front)
+      ∙ ap (λ (l : List Item). tasks_checked old ++ l) (sym (one_more front id))
       ∙ before
     where
-      go : (b : Bool) → tasks_checked (if b then id ∷ [] else []) ≡ (if b then Check (suc j) ∷ [] else [])
-      go true = ap (λ (k : ℕ). Check k ∷ []) number
+      go : (b : Bool) → tasks_checked (if b then id ∷ [] else []) ≡ (if b then Check id.0 ∷ [] else [])
+      go true = refl
       go false = refl
 
+module _ (u : TablesOf) (sound : IsSound u) (task : ℕ) where
+  -- those of the tree are all that are freed
+  all_in_tree : filter (is_freed_at u task) (tree_ids task u.rows) ≡ ids_by (is_freed u.rows task) u.rows
+  all_in_tree =
+      one_list (filter (is_freed_at u task) (tree_ids task u.rows)) (ids_by freed u.rows)
+      (filter_ascends (is_freed_at u task) (tree_ids task u.rows) (ids_ascend inside u.rows sound.numbered))
+      (ids_ascend freed u.rows sound.numbered)
+      (λ n.
+      has_filter (is_freed_at u task) n (tree_ids task u.rows)
+      ∙ ap (λ (b : Bool). b && is_freed_at u task (record { 0 = n })) (has_ids inside u.rows n sound.numbered)
+      ∙ at (row_at n u.rows)
+      ∙ sym (has_ids freed u.rows n sound.numbered))
+    where
+      inside : Row → Bool
+      inside = is_of_tree u.rows task
+
+      freed : Row → Bool
+      freed = is_freed u.rows task
+
+      turn : (a b c : Bool) → ((a || b) && (b && c)) ≡ (b && c)
+      turn a true c = or_true a c
+        where
+          or_true : (a c : Bool) → ((a || true) && c) ≡ c
+          or_true true c = refl
+          or_true false c = refl
+      turn true false c = refl
+      turn false false c = refl
+
+      at : (o : Option Row) → (option_map_or inside o false && option_map_or freed o false) ≡ option_map_or freed o false
+      at None = refl
+      at (Some r) = turn (r.task.0 == task) (is_above u.rows task r) (is_suspended r.state)
+
   -- once the walk is through
-  pub all_freed : (ids : List TaskId) (k last : ℕ) → IsLastBelow u task last → k ≤ task → k ≤ length u.rows → tasks_checked ids ++ freed_to u task k ≡ freed_to u task last → tasks_checked ids ≡ checks (freed_tasks task u.rows)
-  all_freed ids k last below low within before = sym (append-nil (tasks_checked ids)) ∙ ap (λ (l : List Item). tasks_checked ids ++ l) (sym (none_before k low within)) ∙ before ∙ all_before last below
+  pub all_freed : (ids : List TaskId) → tasks_checked ids ++ freed_in u task [] ≡ freed_in u task (tree_ids task u.rows) → tasks_checked ids ≡ checks (freed_tasks task u.rows)
+  all_freed ids before =
+      sym (append-nil (tasks_checked ids))
+      ∙ before
+      ∙ ap (λ (l : List TaskId). tasks_checked (reverse l)) all_in_tree
+      ∙ checked_backwards (filter (is_freed u.rows task) u.rows)
 
   -- and the task behind them
   pub then_itself : (old new : List TaskId) (id : TaskId) → id.0 ≡ task → new ≡ old ++ id ∷ [] → tasks_checked old ≡ checks (freed_tasks task u.rows) → tasks_checked new ≡ checks_of task u.rows
@@ -115,6 +126,31 @@ module _ (u : TablesOf) (sound : IsSound u) (task : ℕ) where
       ∙ map-append (λ id. Check id.0) old (id ∷ [])
       ∙ ap (λ (l : List Item). l ++ Check id.0 ∷ []) all
       ∙ ap (λ (n : ℕ). checks (freed_tasks task u.rows) ++ Check n ∷ []) number
+
+-- ---- as the walk goes on
+
+-- all are done but those that are left, and what was freed is listed
+pub record FreesBut (t : TablesOf) (old new : PlanOf) (task : ℕ) (left freed : List TaskId) : Type 0 where
+  pub goes : Goes t old new (planned t old) (with_rows (planned t old) (reached_but left reach.Free (planned t old).rows task))
+  pub are : AreLeft (planned t old) left
+  pub listed : tasks_checked freed ++ freed_in (planned t old) task left ≡ freed_in (planned t old) task (tree_ids task (planned t old).rows)
+
+pub frees_next : (t : TablesOf) (old mid new : PlanOf) (task : ℕ) (left front : List TaskId) (id : TaskId) (freed more : List TaskId) (changed : Bool) → IsSound (planned t old) → left ≡ front ++ id ∷ [] → FreesBut t old mid task left freed → Reaches t mid new task reach.Free id.0 → changed ≡ option_map_or (changes reach.Free (planned t mid).rows task) (task_row (planned t mid) id.0) false → more ≡ freed ++ (if changed then id ∷ [] else []) → FreesBut t old new task front more
+frees_next t old mid new task left front id freed more changed sound popped frees reaches changes_it listed =
+    let u = planned t old in
+    let L : List TaskId → Type 0 = λ l. AreLeft u l in
+    let G : List TaskId → Type 0 = λ l. Going u sound task reach.Free tt t old mid l in
+    let are = subst L popped frees.are in
+    let going = subst G popped frees.goes in
+    let test : is_freed_at u task id ≡ changed = sym (changes_yet u sound task reach.Free tt t old mid front id are going) ∙ sym changes_it in
+    record {
+      goes = goes_further u sound task reach.Free tt t old mid new front id are going reaches;
+      are = front_left u front id are;
+      listed =
+          one_further u task freed more front id (freed_in u task (tree_ids task u.rows))
+          (listed ∙ ap (λ (b : Bool). freed ++ (if b then id ∷ [] else [])) (sym test))
+          (ap (λ (l : List TaskId). tasks_checked freed ++ freed_in u task l) (sym popped) ∙ frees.listed);
+    }
 
 -- the tasks are freed, and then those that were are checked
 pub freed_then : (t : TablesOf) (old mid new : PlanOf) (at : Moment) (task : ℕ) (ids : List TaskId) → IsSound (planned t old) → map (λ id. Check id.0) ids ≡ checks_of task (planned t old).rows → Goes t old mid (planned t old) (with_rows (planned t old) (freeing task (planned t old).rows)) → Runs t mid new at (map (λ id. Check id.0) ids) → IsFreed t old new at task

@@ -19,6 +19,7 @@ mod Freed
 mod FreedAlone
 mod Going
 mod InOrder
+mod InTrees
 mod Keeping
 mod LeftToTake
 mod MappedInputs

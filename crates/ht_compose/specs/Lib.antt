@@ -15,4 +15,6 @@ pub mod Gathering
 pub mod Items
 pub mod Reaching
 pub mod Running
+pub mod TreeExamples
+pub mod Trees
 pub mod Work

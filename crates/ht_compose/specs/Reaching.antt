@@ -1,7 +1,8 @@
--- What reaches tasks below another, row by row, and plans that go over the rows from the last one on.
-use Rattle.std.specs.Prelude.{◌≡◌, ℕ, ◌==◌, ◌≤◌, ◌<◌, nat_lt, Bool, false, not, ◌&&◌, ◌||◌, List, length, map, Some, IsTrue, if◌then◌else◌}
+-- What reaches tasks below another, row by row, and plans that go over the rows of a tree from the last one on.
+use Rattle.std.specs.Prelude.{◌≡◌, ℕ, ◌==◌, Bool, false, not, ◌&&◌, ◌||◌, List, map, Some, IsTrue, if◌then◌else◌}
 use Rattle.ht_base.specs.declared.state.State.{State}
 use Rattle.ht_base.specs.declared.state.State.TheVariants.{Obsolete}
+use Rattle.ht_base.specs.declared.task_id.TaskId.{TaskId}
 use Rattle.ht_base.specs.State.{contains_state, is_final}
 use Rattle.ht_rules.specs.States.{opened}
 use Rattle.ht_compose.specs.declared.reaching.Change.{Change}
@@ -10,6 +11,7 @@ use Rattle.ht_compose.specs.declared.reaching.Reach.{Reach}
 use Rattle.ht_compose.specs.declared.reaching.Reach.TheVariants as reach
 use Rattle.ht_compose.specs.Downward.{end_below, ended, freed, held}
 use Rattle.ht_compose.specs.Families.{is_above}
+use Rattle.ht_index.specs.Indexes.{has}
 use Rattle.ht_tree.specs.declared.row.Row.{Row}
 use Rattle.ht_tree.specs.Plans.{Goes, PlanOf, planned}
 use Rattle.ht_tree.specs.Soundness.{is_suspended}
@@ -55,12 +57,6 @@ pub record IsTask (u : TablesOf) (task : ℕ) : Type 0 where
   pub there : task_row u task ≡ Some row
   pub number : row.task.0 ≡ task
 
--- no task behind this number is below the task
-pub record IsLastBelow (u : TablesOf) (task last : ℕ) : Type 0 where
-  pub from : task ≤ last
-  pub within : last ≤ length u.rows
-  pub none : (id : ℕ) (row : Row) → task_row u id ≡ Some row → last < id → is_above u.rows task row ≡ false
-
 -- the plan goes on by what comes of the row of a task
 pub record Reaches (t : TablesOf) (old new : PlanOf) (task : ℕ) (what : Reach) (id : ℕ) : Type 0 where
   pub row : Row
@@ -69,12 +65,9 @@ pub record Reaches (t : TablesOf) (old new : PlanOf) (task : ℕ) (what : Reach)
 
 -- ---- of all rows
 
--- of those with a number that is greater
-abbrev pub behind : ℕ → (Row → Row) → List Row → List Row
-behind number f rows = map (λ row. if nat_lt number row.task.0 then f row else row) rows
-
-abbrev pub reached_behind : ℕ → Reach → List Row → ℕ → List Row
-reached_behind number what rows task = behind number (λ row. reached what rows task row) rows
+-- of those that are not among these
+abbrev pub reached_but : List TaskId → Reach → List Row → ℕ → List Row
+reached_but left what rows task = map (λ row. if has row.task.0 left then row else reached what rows task row) rows
 
 abbrev pub all_reached : Reach → List Row → ℕ → List Row
 all_reached what rows task = map (λ row. reached what rows task row) rows

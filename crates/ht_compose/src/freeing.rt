@@ -12,7 +12,8 @@ ghost use Rattle.ht_tree.specs.Soundness.{IsSound};
 use crate::item::Item;
 use crate::reaching::Reach;
 use crate::running::run;
-use crate::spreading::{last_below, reach_one};
+use crate::spreading::reach_one;
+use crate::trees::tree_of;
 use ht_base::{Memory, Moment, TaskId};
 use ht_tree::{Plan, Tables};
 use std::alloc::Global;
@@ -59,9 +60,8 @@ fn free_below(
     ensures marked { OnErr result (plan.new.marked ≡ plan.old.marked) }
 {
     let mut freed = Vec::new(alloc);
-    let last = last_below(tables, plan, task);
-    for done in 0..last - task.0 + 1 {
-        let id = TaskId(last - done);
+    let mut left = tree_of(alloc, tables, plan, task)?;
+    while let Some(id) = left.pop() {
         if reach_one(alloc, tables, plan, task, Reach::Free, id)? {
             freed.push(id)?;
         }

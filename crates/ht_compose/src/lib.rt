@@ -21,6 +21,7 @@ mod reaching;
 mod resuming;
 mod running;
 mod spreading;
+mod trees;
 
 pub use by_hand::entry_to_make;
 pub use composing::{activate, begin, close, instantiate};

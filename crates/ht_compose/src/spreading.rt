@@ -1,18 +1,18 @@
 ghost use Rattle.std.specs.Prelude.{◌≡◌, IfOk, OnErr, OnOk, false};
 ghost use Rattle.std.specs.Option.{option_map_or};
-ghost use Rattle.ht_compose.specs.Reaching.{ReachIsFinal, IsLastBelow, IsTask, Reaches, ReachesAll, changes};
+ghost use Rattle.ht_compose.specs.Reaching.{ReachIsFinal, IsTask, Reaches, ReachesAll, changes};
 ghost use Rattle.ht_tree.specs.Plans.{IsPlanOf, IsSoundPlan, planned};
 ghost use Rattle.ht_tree.specs.Soundness.{IsSound};
 ghost use Rattle.ht_tree.specs.Tables.{task_row};
 
 use crate::changing::{change_of, changed, touches};
 use crate::reaching::Reach;
+use crate::trees::tree_of;
 use ht_base::{Memory, TaskId};
 use ht_tree::{Plan, Tables};
 use std::alloc::Global;
 
-/// Plans what reaches the tasks below this one. Where its model has sub entries, the rows of all tasks
-/// behind it are looked at.
+/// Plans what reaches the tasks below this one, from the greatest number to the least.
 pub(crate) fn spread(
     alloc: Global,
     tables: &Tables,
@@ -27,27 +27,11 @@ pub(crate) fn spread(
     ensures sound { OnOk result (IsSound (planned tables.now.tables plan.new)) }
     ensures marked { OnErr result (plan.new.marked ≡ plan.old.marked) }
 {
-    let last = last_below(tables, plan, task);
-    for done in 0..last - task.0 + 1 {
-        reach_one(alloc, tables, plan, task, reach, TaskId(last - done))?;
+    let mut left = tree_of(alloc, tables, plan, task)?;
+    while let Some(id) = left.pop() {
+        reach_one(alloc, tables, plan, task, reach, id)?;
     }
     Ok(())
-}
-
-// The number behind which no task is below this one.
-pub(crate) fn last_below(tables: &Tables, plan: &Plan, task: TaskId) -> u32
-    requires plan { IsSoundPlan tables.now.tables plan.now }
-    requires there { IsTask (planned tables.now.tables plan.now) task.0 }
-    ensures { IsLastBelow (planned tables.now.tables plan.now) task.0 result }
-{
-    let Some(row) = plan.row(tables, task) else {
-        unreachable!()
-    };
-    if tables.models().model(row.model).subs.is_empty() {
-        task.0
-    } else {
-        plan.rows(tables)
-    }
 }
 
 // Plans what comes of one row, and tells whether it changes.

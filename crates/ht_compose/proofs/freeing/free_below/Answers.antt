@@ -1,34 +1,26 @@
-use Rattle.std.proofs.Common.{◌≡◌, ℕ, ◌+◌, ◌-◌, ◌++◌, suc, Bool, false, List, [], ◌∷◌, map, if◌then◌else◌, ap, refl, subst, sym, ◌∙◌, arith}
-use Rattle.std.proofs.lemmas.List.{append-nil}
-use Rattle.std.specs.Option.{option_map_or}
+use Rattle.std.proofs.Common.{◌≡◌, ◌++◌, Bool, List, [], ◌∷◌, if◌then◌else◌, ap, refl, subst, sym, ◌∙◌}
+use Rattle.std.proofs.lemmas.List.{append-nil, nil_from_length}
 use Rattle.ht_base.specs.declared.task_id.TaskId.{TaskId}
 use Rattle.ht_compose.specs.declared.reaching.Reach.TheVariants as reach
-use Rattle.ht_compose.specs.Freeing.{is_freed}
-use Rattle.ht_compose.specs.Items.Item.{Check}
-use Rattle.ht_compose.specs.Reaching.{Reaches, changes}
-use Rattle.ht_compose.proofs.Freed.{all_freed, freed_to, one_further}
+use Rattle.ht_compose.proofs.Freed.{all_freed, freed_in, frees_next, tasks_checked}
 use Rattle.ht_compose.proofs.Reached.{all_sound}
-use Rattle.ht_compose.proofs.Spread.{Going, begins, changes_yet, done, goes_further, is_there}
+use Rattle.ht_compose.proofs.Spread.{AreLeft, Going, all_left, begins, done, is_there}
 use Rattle.ht_compose.proofs.freeing.free_below.Goals as goal
-use Rattle.ht_compose.proofs.freeing.free_below.Goals.{then-branch+in_ok-push, else-branch}
 use Rattle.ht_tree.specs.Plans.{planned}
 use Rattle.ht_tree.specs.Soundness.{IsSound}
-use Rattle.ht_tree.specs.Tables.{TablesOf, task_row}
-use Rattle.ht_tree.proofs.PublicLaws.{within}
+use Rattle.ht_tree.specs.Tables.{TablesOf}
 
-pub loop-done-init : goal.loop-done-init
-loop-done-init c =
+pub loop-id-init : goal.loop-id-init
+loop-id-init c =
     let t = c.args.tables.now.tables in
     let p = c.args.plan.now in
     let u = planned t p in
-    let last = c.last_below-last.result in
-    let all : last ≡ last - 0 = omega arith in
-    let P : ℕ → Type 0 = λ k. Going u c.requires.plan.sound c.args.task.0 reach.Free tt t p p k in
     record {
-      goes = subst P all (begins u c.requires.plan.sound c.args.task.0 reach.Free tt t p last c.requires.plan.fits refl c.last_below-last.ensures);
-      freed =
-          ap (λ (l : List TaskId). map (λ id. Check id.0) l ++ freed_to u c.args.task.0 (last - 0)) c.new-freed.ensures.items
-          ∙ ap (λ (k : ℕ). freed_to u c.args.task.0 k) (sym all);
+      goes = begins u c.requires.plan.sound c.args.task.0 reach.Free tt t p c.in_ok-left.left.items c.requires.plan.fits refl c.in_ok-left.ensures;
+      are = all_left u c.requires.plan.sound c.args.task.0 c.in_ok-left.left.items c.in_ok-left.ensures;
+      listed =
+          ap (λ (l : List TaskId). tasks_checked l ++ freed_in u c.args.task.0 c.in_ok-left.left.items) c.new-freed.ensures.items
+          ∙ ap (freed_in u c.args.task.0) c.in_ok-left.ensures;
     }
 
 pub reach_one-requires-clause-there : goal.reach_one-requires-clause-there
@@ -36,63 +28,30 @@ reach_one-requires-clause-there c =
     let t = c.args.tables.now.tables in
     let p = c.args.plan.now in
     let u = planned t p in
-    let low = (within u.rows c.requires.there.row c.args.task.0 c.requires.there.there).0 in
-    let below = c.last_below-last.ensures in
-    let from = below.from in
-    let high = below.within in
-    let more = c.loop-done-test.true in
-    is_there u c.requires.plan.sound c.args.task.0 reach.Free tt t p c.loop-done.plan (c.last_below-last.result - c.loop-done.done) (omega arith) (omega arith) c.loop-done.invariant.goes
+    let L : List TaskId → Type 0 = λ l. AreLeft u l in
+    let G : List TaskId → Type 0 = λ l. Going u c.requires.plan.sound c.args.task.0 reach.Free tt t p c.loop-id.plan l in
+    is_there u c.requires.plan.sound c.args.task.0 reach.Free tt t p c.loop-id.plan c.pop.new.self.items c.in-Some.id (subst L c.in-Some.ensures.items c.loop-id.invariant.are) (subst G c.in-Some.ensures.items c.loop-id.invariant.goes)
 
-pub loop-done-preserved : goal.loop-done-preserved
-loop-done-preserved c =
-    let t = c.args.tables.now.tables in
-    let p = c.args.plan.now in
-    let u = planned t p in
-    let task = c.args.task.0 in
-    let mid = c.loop-done.plan in
-    let new = c.reach_one.new.plan in
-    let last = c.last_below-last.result in
-    let low = (within u.rows c.requires.there.row task c.requires.there.there).0 in
-    let below = c.last_below-last.ensures in
-    let from = below.from in
-    let high = below.within in
-    let more = c.loop-done-test.true in
-    let j = last - (c.loop-done.done + 1) in
-    let is : last - c.loop-done.done ≡ suc j = omega arith in
-    let P : ℕ → Type 0 = λ k. Going u c.requires.plan.sound task reach.Free tt t p mid k in
-    let R : ℕ → Type 0 = λ k. Reaches t mid new task reach.Free k in
-    let going = subst P is c.loop-done.invariant.goes in
-    let old = c.loop-done.freed.items in
-    let id : TaskId = record { 0 = last - c.loop-done.done } in
-    let test : option_map_or (is_freed u.rows task) (task_row u id.0) false ≡ c.in_ok-reach_one.field-0 =
-    ap (λ (k : ℕ). option_map_or (is_freed u.rows task) (task_row u k) false) is
-    ∙ sym (changes_yet u c.requires.plan.sound task reach.Free tt t p mid j (omega arith) going)
-    ∙ ap (λ (k : ℕ). option_map_or (changes reach.Free (planned t mid).rows task) (task_row (planned t mid) k) false) (sym is)
-    ∙ sym c.in_ok-reach_one.ensures.changes in
-    let if_so : Bool → List TaskId = λ b. old ++ (if b then id ∷ [] else []) in
-    let listed : c.if-branch.freed.items ≡ if_so (option_map_or (is_freed u.rows task) (task_row u id.0) false) =
-    elim c.if-branch.branch [
-      | then-branch+in_ok-push w ↦ ap (λ v. v.items) w.freed-is ∙ w.in_ok-push.ensures.items ∙ ap if_so (sym (test ∙ w.if-branch.true))
-      | else-branch w ↦ ap (λ v. v.items) w.freed-is ∙ sym (append-nil old) ∙ ap if_so (sym (test ∙ w.if-branch.false))
-    ] in
-    let before = ap (λ (k : ℕ). map (λ id. Check id.0) old ++ freed_to u task k) (sym is) ∙ c.loop-done.invariant.freed in
-    record {
-      goes = goes_further u c.requires.plan.sound task reach.Free tt t p mid new j (omega arith) going (subst R is c.in_ok-reach_one.ensures.reaches);
-      freed = one_further u c.requires.plan.sound task old c.if-branch.freed.items id j last is (omega arith) listed before;
-    }
+pub loop-id-preserved : goal.loop-id-preserved
+loop-id-preserved c =
+    let freed = c.loop-id.freed.items in
+    let listed : freed ≡ freed ++ (if c.in_ok-reach_one.field-0 then c.in-Some.id ∷ [] else []) = sym (append-nil freed) ∙ ap (λ (b : Bool). freed ++ (if b then c.in-Some.id ∷ [] else [])) (sym c.if-branch.false) in
+    frees_next c.args.tables.now.tables c.args.plan.now c.loop-id.plan c.reach_one.new.plan c.args.task.0 c.loop-id.left.items c.pop.new.self.items c.in-Some.id freed freed c.in_ok-reach_one.field-0 c.requires.plan.sound c.in-Some.ensures.items c.loop-id.invariant c.in_ok-reach_one.ensures.reaches c.in_ok-reach_one.ensures.changes listed
+
+pub loop-id-preserved-in-Continue-branch-3 : goal.loop-id-preserved-in-Continue-branch-3
+loop-id-preserved-in-Continue-branch-3 c =
+    let freed = c.loop-id.freed.items in
+    let listed : c.push.new.self.items ≡ freed ++ (if c.in_ok-reach_one.field-0 then c.in-Some.id ∷ [] else []) = c.in_ok-push.ensures.items ∙ ap (λ (b : Bool). freed ++ (if b then c.in-Some.id ∷ [] else [])) (sym c.if-branch.true) in
+    frees_next c.args.tables.now.tables c.args.plan.now c.loop-id.plan c.reach_one.new.plan c.args.task.0 c.loop-id.left.items c.pop.new.self.items c.in-Some.id freed c.push.new.self.items c.in_ok-reach_one.field-0 c.requires.plan.sound c.in-Some.ensures.items c.loop-id.invariant c.in_ok-reach_one.ensures.reaches c.in_ok-reach_one.ensures.changes listed
 
 pub returns-clause-goes : goal.returns-clause-goes
 returns-clause-goes c =
     let t = c.args.tables.now.tables in
     let p = c.args.plan.now in
     let u = planned t p in
-    let low = (within u.rows c.requires.there.row c.args.task.0 c.requires.there.there).0 in
-    let from = c.last_below-last.ensures.from in
-    let over = c.loop-done-test.false in
-    let within_end = c.loop-done.auto.done-end in
-    let is : c.last_below-last.result - c.loop-done.done ≡ c.args.task.0 - 1 = omega arith in
-    let P : ℕ → Type 0 = λ k. Going u c.requires.plan.sound c.args.task.0 reach.Free tt t p c.loop-done.plan k in
-    done u c.requires.plan.sound c.args.task.0 reach.Free tt t p c.loop-done.plan (omega arith) (subst P is c.loop-done.invariant.goes)
+    let none = nil_from_length c.loop-id.left.items (sym c.loop-id.left.ok.0 ∙ c.in_default.ensures.cases.0) in
+    let G : List TaskId → Type 0 = λ l. Going u c.requires.plan.sound c.args.task.0 reach.Free tt t p c.loop-id.plan l in
+    done u c.requires.plan.sound c.args.task.0 reach.Free tt t p c.loop-id.plan (subst G none c.loop-id.invariant.goes)
 
 pub returns-clause-sound : goal.returns-clause-sound
 returns-clause-sound c =
@@ -103,10 +62,5 @@ returns-clause-sound c =
 pub returns-clause-freed : goal.returns-clause-freed
 returns-clause-freed c =
     let u = planned c.args.tables.now.tables c.args.plan.now in
-    let place = within u.rows c.requires.there.row c.args.task.0 c.requires.there.there in
-    let low = place.0 in
-    let high = place.1 in
-    let from = c.last_below-last.ensures.from in
-    let over = c.loop-done-test.false in
-    let within_end = c.loop-done.auto.done-end in
-    all_freed u c.requires.plan.sound c.args.task.0 c.loop-done.freed.items (c.last_below-last.result - c.loop-done.done) c.last_below-last.result c.last_below-last.ensures (omega arith) (omega arith) c.loop-done.invariant.freed
+    let none = nil_from_length c.loop-id.left.items (sym c.loop-id.left.ok.0 ∙ c.in_default.ensures.cases.0) in
+    all_freed u c.requires.plan.sound c.args.task.0 c.loop-id.freed.items (ap (λ (l : List TaskId). tasks_checked c.loop-id.freed.items ++ freed_in u c.args.task.0 l) (sym none) ∙ c.loop-id.invariant.listed)

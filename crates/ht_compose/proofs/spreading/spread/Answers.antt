@@ -1,68 +1,56 @@
-use Rattle.std.proofs.Common.{◌≡◌, ℕ, ◌+◌, ◌-◌, suc, refl, subst, sym, arith}
-use Rattle.ht_compose.specs.Reaching.{Reaches}
+use Rattle.std.proofs.Common.{List, refl, subst, sym, ◌∙◌}
+use Rattle.std.proofs.lemmas.List.{nil_from_length}
+use Rattle.ht_base.specs.declared.task_id.TaskId.{TaskId}
 use Rattle.ht_compose.proofs.Reached.{all_sound}
-use Rattle.ht_compose.proofs.Spread.{Going, begins, done, goes_further, is_there}
+use Rattle.ht_compose.proofs.Spread.{AreLeft, Going, all_left, begins, done, front_left, goes_further, is_there}
 use Rattle.ht_compose.proofs.spreading.spread.Goals as goal
 use Rattle.ht_tree.specs.Plans.{planned}
 use Rattle.ht_tree.specs.Soundness.{IsSound}
 use Rattle.ht_tree.specs.Tables.{TablesOf}
-use Rattle.ht_tree.proofs.PublicLaws.{within}
 
-pub loop-done-init : goal.loop-done-init
-loop-done-init c =
+pub loop-id-init : goal.loop-id-init
+loop-id-init c =
     let t = c.args.tables.now.tables in
     let p = c.args.plan.now in
-    let last = c.last_below-last.result in
-    let all : last ≡ last - 0 = omega arith in
-    let P : ℕ → Type 0 = λ k. Going (planned t p) c.requires.plan.sound c.args.task.0 c.args.reach c.requires.ends t p p k in
-    subst P all (begins (planned t p) c.requires.plan.sound c.args.task.0 c.args.reach c.requires.ends t p last c.requires.plan.fits refl c.last_below-last.ensures)
+    let u = planned t p in
+    record {
+      goes = begins u c.requires.plan.sound c.args.task.0 c.args.reach c.requires.ends t p c.in_ok-left.left.items c.requires.plan.fits refl c.in_ok-left.ensures;
+      left = all_left u c.requires.plan.sound c.args.task.0 c.in_ok-left.left.items c.in_ok-left.ensures;
+    }
 
 pub reach_one-requires-clause-there : goal.reach_one-requires-clause-there
 reach_one-requires-clause-there c =
     let t = c.args.tables.now.tables in
     let p = c.args.plan.now in
     let u = planned t p in
-    let low = (within u.rows c.requires.there.row c.args.task.0 c.requires.there.there).0 in
-    let below = c.last_below-last.ensures in
-    let from = below.from in
-    let high = below.within in
-    let more = c.loop-done-test.true in
-    is_there u c.requires.plan.sound c.args.task.0 c.args.reach c.requires.ends t p c.loop-done.plan (c.last_below-last.result - c.loop-done.done) (omega arith) (omega arith) c.loop-done.invariant
+    let L : List TaskId → Type 0 = λ l. AreLeft u l in
+    let G : List TaskId → Type 0 = λ l. Going u c.requires.plan.sound c.args.task.0 c.args.reach c.requires.ends t p c.loop-id.plan l in
+    is_there u c.requires.plan.sound c.args.task.0 c.args.reach c.requires.ends t p c.loop-id.plan c.pop.new.self.items c.in-Some.id (subst L c.in-Some.ensures.items c.loop-id.invariant.left) (subst G c.in-Some.ensures.items c.loop-id.invariant.goes)
 
-pub loop-done-preserved : goal.loop-done-preserved
-loop-done-preserved c =
+pub loop-id-preserved : goal.loop-id-preserved
+loop-id-preserved c =
     let t = c.args.tables.now.tables in
     let p = c.args.plan.now in
     let u = planned t p in
-    let mid = c.loop-done.plan in
-    let new = c.reach_one.new.plan in
-    let low = (within u.rows c.requires.there.row c.args.task.0 c.requires.there.there).0 in
-    let below = c.last_below-last.ensures in
-    let from = below.from in
-    let high = below.within in
-    let more = c.loop-done-test.true in
-    let j = c.last_below-last.result - (c.loop-done.done + 1) in
-    let is : c.last_below-last.result - c.loop-done.done ≡ suc j = omega arith in
-    let P : ℕ → Type 0 = λ k. Going u c.requires.plan.sound c.args.task.0 c.args.reach c.requires.ends t p mid k in
-    let R : ℕ → Type 0 = λ k. Reaches t mid new c.args.task.0 c.args.reach k in
-    goes_further u c.requires.plan.sound c.args.task.0 c.args.reach c.requires.ends t p mid new j (omega arith) (subst P is c.loop-done.invariant) (subst R is c.in_ok-reach_one.ensures.reaches)
+    let L : List TaskId → Type 0 = λ l. AreLeft u l in
+    let G : List TaskId → Type 0 = λ l. Going u c.requires.plan.sound c.args.task.0 c.args.reach c.requires.ends t p c.loop-id.plan l in
+    let left = subst L c.in-Some.ensures.items c.loop-id.invariant.left in
+    record {
+      goes = goes_further u c.requires.plan.sound c.args.task.0 c.args.reach c.requires.ends t p c.loop-id.plan c.reach_one.new.plan c.pop.new.self.items c.in-Some.id left (subst G c.in-Some.ensures.items c.loop-id.invariant.goes) c.in_ok-reach_one.ensures.reaches;
+      left = front_left u c.pop.new.self.items c.in-Some.id left;
+    }
 
 pub returns-clause-reaches : goal.returns-clause-reaches
 returns-clause-reaches c =
     let t = c.args.tables.now.tables in
     let p = c.args.plan.now in
     let u = planned t p in
-    let low = (within u.rows c.requires.there.row c.args.task.0 c.requires.there.there).0 in
-    let from = c.last_below-last.ensures.from in
-    let over = c.loop-done-test.false in
-    let within_end = c.loop-done.auto.done-end in
-    let is : c.last_below-last.result - c.loop-done.done ≡ c.args.task.0 - 1 = omega arith in
-    let P : ℕ → Type 0 = λ k. Going u c.requires.plan.sound c.args.task.0 c.args.reach c.requires.ends t p c.loop-done.plan k in
-    done u c.requires.plan.sound c.args.task.0 c.args.reach c.requires.ends t p c.loop-done.plan (omega arith) (subst P is c.loop-done.invariant)
+    let none = nil_from_length c.loop-id.left.items (sym c.loop-id.left.ok.0 ∙ c.in_default.ensures.cases.0) in
+    let G : List TaskId → Type 0 = λ l. Going u c.requires.plan.sound c.args.task.0 c.args.reach c.requires.ends t p c.loop-id.plan l in
+    done u c.requires.plan.sound c.args.task.0 c.args.reach c.requires.ends t p c.loop-id.plan (subst G none c.loop-id.invariant.goes)
 
 pub returns-clause-sound : goal.returns-clause-sound
 returns-clause-sound c =
-    let t = c.args.tables.now.tables in
-    let u = planned t c.args.plan.now in
+    let u = planned c.args.tables.now.tables c.args.plan.now in
     let P : TablesOf → Type 0 = λ v. IsSound v in
     subst P (sym (returns-clause-reaches c).to) (all_sound u c.requires.plan.sound c.args.task.0 c.args.reach c.requires.ends)
