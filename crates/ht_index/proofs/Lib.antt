@@ -3,3 +3,4 @@ mod Places
 pub mod PublicLaws
 mod Settling
 mod Slots
+mod Splitting

@@ -1,6 +1,6 @@
 -- Where a task stands in an ascending list.
-use Rattle.std.proofs.Common.{◌≡◌, ℕ, ◌+◌, ◌<◌, ◌≤◌, ◌==◌, zero, suc, Bool, true, false, List, [], ◌∷◌, length, get_or, slice_get, slice_set, Some, None, Result, Ok, Err, IfOk, IfErr, Ordering, Less, Equal, Greater, refl, ap, sym, ◌∙◌, arith, eq-eqb}
-use Rattle.std.specs.List.{AllByRecursion, remove}
+use Rattle.std.proofs.Common.{◌≡◌, ℕ, ◌+◌, ◌<◌, ◌≤◌, ◌==◌, zero, suc, Bool, true, false, List, [], ◌∷◌, ◌++◌, length, get_or, slice_get, slice_set, Some, None, Result, Ok, Err, IfOk, IfErr, Ordering, Less, Equal, Greater, refl, ap, sym, ◌∙◌, arith, eq-eqb}
+use Rattle.std.specs.List.{AllByRecursion, insert, remove}
 use Rattle.std.specs.List.Sorted.{IsBinarySearchResult, IsSearchInRange}
 use Rattle.std.specs.Ordering.{nat_cmp}
 use Rattle.std.specs.Cmp.{nat_cmp_is}
@@ -92,7 +92,7 @@ search_missed task xs (Err i) up within at = belongs task xs i (searched_by numb
 
 -- ---- behind all
 
-not_later : (xs : List TaskId) (x y : TaskId) (k i : ℕ) → Ascends xs → slice_get xs k ≡ Some x → slice_get xs i ≡ Some y → k ≤ i → x.0 ≤ y.0
+pub not_later : (xs : List TaskId) (x y : TaskId) (k i : ℕ) → Ascends xs → slice_get xs k ≡ Some x → slice_get xs i ≡ Some y → k ≤ i → x.0 ≤ y.0
 not_later [] x y k i up at also low = cc
 not_later (z ∷ xs) x y zero zero up at also low = let e : x ≡ y = cc in let n : x.0 ≡ y.0 = ap (λ (t : TaskId). t.0) e in omega arith
 not_later (z ∷ xs) x y zero (suc i) up at also low =
@@ -139,3 +139,10 @@ ascends_without task (x ∷ xs) up = at (x.0 == task.0) refl (ascends_without ta
     at : (b : Bool) → (x.0 == task.0) ≡ b → Ascends (without_task task xs) → Ascends (without_task task (x ∷ xs))
     at true is rest = rw is rest
     at false is rest = rw is (before_kept task x.0 xs up.0, rest)
+
+pub put_last : (task : TaskId) (xs : List TaskId) → BelongsAt task xs (length xs) → xs ++ task ∷ [] ≡ with_task task xs
+put_last task xs at = sym (inserted xs) ∙ at.put
+  where
+    inserted : (ys : List TaskId) → insert ys (length ys) task ≡ ys ++ task ∷ []
+    inserted [] = refl
+    inserted (y ∷ ys) = ap (λ l. y ∷ l) (inserted ys)

@@ -10,12 +10,12 @@ use Rattle.ht_index.specs.Kept.{coming_by, list_at, spare_at}
 use Rattle.ht_index.specs.Listed.{ListedOf}
 use Rattle.ht_index.proofs.Places.{apart}
 
-at_same : {A : Type 0} (xs : List A) (p : ℕ) (x : A) → p < length xs → slice_get (slice_set xs p x) p ≡ Some x
+pub at_same : {A : Type 0} (xs : List A) (p : ℕ) (x : A) → p < length xs → slice_get (slice_set xs p x) p ≡ Some x
 at_same [] p x l = absurd (omega arith)
 at_same (y ∷ xs) zero x l = refl
 at_same (y ∷ xs) (suc p) x l = at_same xs p x (omega arith)
 
-at_other : {A : Type 0} (xs : List A) (i p : ℕ) (x : A) → (i ≡ p → ⊥) → slice_get (slice_set xs p x) i ≡ slice_get xs i
+pub at_other : {A : Type 0} (xs : List A) (i p : ℕ) (x : A) → (i ≡ p → ⊥) → slice_get (slice_set xs p x) i ≡ slice_get xs i
 at_other [] i p x other = refl
 at_other (y ∷ xs) zero zero x other = absurd (other refl)
 at_other (y ∷ xs) zero (suc p) x other = refl

@@ -41,16 +41,20 @@ fn give_back(lists: &mut Vec<Listed>, one: Move)
 }
 
 // Asks for room for one task more in the list of a key.
+#[inline(always)]
 fn ask(lists: &mut Vec<Listed>, key: u32) -> Result<(), Memory>
     ensures lists { (k : ℕ) → list_at k lists.new.items ≡ list_at k lists.old.items }
     ensures kept { (k : ℕ) → spare_at k lists.old.items ≤ spare_at k lists.new.items }
     ensures more { OnOk result (spare_at key lists.old.items + 1 ≤ spare_at key lists.new.items) }
 {
-    grow(lists, key)?;
+    if key as usize >= lists.len() {
+        grow(lists, key)?;
+    }
     lists[key as usize].ask()
 }
 
 // Makes lists up to that of a key.
+#[inline(never)]
 fn grow(lists: &mut Vec<Listed>, key: u32) -> Result<(), Memory>
     ensures lists { (k : ℕ) → list_at k lists.new.items ≡ list_at k lists.old.items }
     ensures spare { (k : ℕ) → spare_at k lists.new.items ≡ spare_at k lists.old.items }
@@ -71,7 +75,8 @@ pub(crate) fn replace_at(
 ) -> Result<(), Memory>
     requires { Ascends tasks.items }
     ensures here { OnOk result (list_at key lists.new.items ≡ tasks.items) }
-    ensures refused { OnErr result ((k : ℕ) → list_at k lists.new.items ≡ list_at k lists.old.items) }
+    ensures refused { OnErr result
+        ((k : ℕ) → list_at k lists.new.items ≡ list_at k lists.old.items) }
     ensures others { (k : ℕ) → (k ≡ key → ⊥)
         → list_at k lists.new.items ≡ list_at k lists.old.items }
     ensures spare { (k : ℕ) → spare_at k lists.new.items ≡ spare_at k lists.old.items }

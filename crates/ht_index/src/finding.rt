@@ -18,7 +18,8 @@ pub fn put_task(tasks: &mut Vec<TaskId>, task: TaskId) -> Result<(), Memory>
     Ok(())
 }
 
-// Puts a task in its place, if it isn't there. It takes no memory.
+// Puts a task in its place, if it isn't there. It takes no memory. Most tasks that come are the newest.
+#[inline(always)]
 #[tactic(auto, using(crate::proofs::Places::ascends_with))]
 pub(crate) fn put_in(tasks: &mut Vec<TaskId>, task: TaskId)
     requires ascends { Ascends tasks.old.items }
@@ -28,7 +29,24 @@ pub(crate) fn put_in(tasks: &mut Vec<TaskId>, task: TaskId)
     ensures len { vec_len tasks.new ≤ vec_len tasks.old + 1 }
     ensures capacity { vec_capacity tasks.new ≡ vec_capacity tasks.old }
 {
-    if let Err(place) = place_of(tasks, task) {
+    if is_behind_all(tasks, task) {
+        tasks.push_reserved(task);
+    } else {
+        put_among(tasks, task);
+    }
+}
+
+#[inline(never)]
+#[tactic(auto, using(crate::proofs::Places::ascends_with))]
+fn put_among(tasks: &mut Vec<TaskId>, task: TaskId)
+    requires ascends { Ascends tasks.old.items }
+    requires room { vec_len tasks.old < vec_capacity tasks.old }
+    ensures tasks { tasks.new.items ≡ with_task task tasks.old.items }
+    ensures ascends { Ascends tasks.new.items }
+    ensures len { vec_len tasks.new ≤ vec_len tasks.old + 1 }
+    ensures capacity { vec_capacity tasks.new ≡ vec_capacity tasks.old }
+{
+    if let Err(place) = search(tasks, task) {
         let _ = tasks.insert(place, task);
     }
 }
@@ -42,24 +60,12 @@ pub(crate) fn take_out(tasks: &mut Vec<TaskId>, task: TaskId)
     ensures len { vec_len tasks.new ≤ vec_len tasks.old }
     ensures capacity { vec_capacity tasks.new ≡ vec_capacity tasks.old }
 {
-    if let Ok(place) = place_of(tasks, task) {
+    if let Ok(place) = search(tasks, task) {
         let _ = tasks.remove(place);
     }
 }
 
-// Where a task stands, or else where it would.
-fn place_of(tasks: &[TaskId], task: TaskId) -> Result<usize, usize>
-    requires { Ascends tasks.now }
-    ensures found { IfOk result (StandsAt task tasks.now) }
-    ensures missed { IfErr result (BelongsAt task tasks.now) }
-{
-    if is_behind_all(tasks, task) {
-        return Err(tasks.len());
-    }
-    search(tasks, task)
-}
-
-// Most tasks that come are the newest.
+#[inline(always)]
 fn is_behind_all(tasks: &[TaskId], task: TaskId) -> bool
     requires { Ascends tasks.now }
     ensures { IsTrue result → BelongsAt task tasks.now (length tasks.now) }
@@ -67,6 +73,7 @@ fn is_behind_all(tasks: &[TaskId], task: TaskId) -> bool
     tasks.is_empty() || tasks[tasks.len() - 1].0 < task.0
 }
 
+// Where a task stands, or else where it would.
 fn search(tasks: &[TaskId], task: TaskId) -> Result<usize, usize>
     requires { Ascends tasks.now }
     ensures found { IfOk result (StandsAt task tasks.now) }

@@ -52,14 +52,6 @@ impl Index {
         }
     }
 
-    /// Whether the next task that comes to a list takes memory. Nothing else hangs on it.
-    pub fn is_full(&self, key: u32) -> bool {
-        match self.lists.get(key as usize) {
-            Some(list) => list.is_full(),
-            None => true,
-        }
-    }
-
     /// Puts a list in the place of that of a key.
     pub fn replace(&mut self, key: u32, tasks: Vec<TaskId>) -> Result<(), Memory>
         requires { Ascends tasks.items }
@@ -71,13 +63,23 @@ impl Index {
         replace_at(&mut self.lists, key, tasks)
     }
 
-    /// Makes room for these moves, in the place of those that were prepared before.
-    pub fn prepare(&mut self, moves: Vec<Move>) -> Result<(), Memory>
+    /// No moves are prepared any more, and their room is free.
+    pub fn forget(&mut self)
         ensures lists { (key : ℕ) → list_of key self.new ≡ list_of key self.old }
-        ensures moves { OnOk result (self.new.moves ≡ moves.items) }
+        ensures moves { self.new.moves ≡ [] }
     {
         give_all_back(&mut self.lists, &self.moves);
         self.moves.clear();
+    }
+
+    /// Makes room for these moves, in the place of those that were prepared before. Where it is refused
+    /// none are prepared.
+    pub fn prepare(&mut self, moves: Vec<Move>) -> Result<(), Memory>
+        ensures lists { (key : ℕ) → list_of key self.new ≡ list_of key self.old }
+        ensures moves { OnOk result (self.new.moves ≡ moves.items) }
+        ensures refused { OnErr result (self.new.moves ≡ []) }
+    {
+        self.forget();
         ask_all(&mut self.lists, &moves)?;
         self.moves = moves;
         Ok(())

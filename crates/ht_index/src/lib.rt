@@ -3,12 +3,15 @@
 #![tactic(auto)]
 
 mod asking;
+mod bounds;
 mod finding;
 mod index;
 mod listed;
 mod moves;
 mod moving;
+mod short_index;
 
 pub use finding::put_task;
 pub use index::Index;
 pub use moves::Move;
+pub use short_index::ShortIndex;

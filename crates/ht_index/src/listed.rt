@@ -41,10 +41,6 @@ impl Listed {
         &self.tasks
     }
 
-    pub(crate) fn is_full(&self) -> bool {
-        self.tasks.len() == self.tasks.capacity()
-    }
-
     /// Puts these in the place of all, with the same room.
     pub(crate) fn replace(&mut self, tasks: Vec<TaskId>) -> Result<(), Memory>
         requires { Ascends tasks.items }
@@ -59,6 +55,7 @@ impl Listed {
     }
 
     /// Asks for room for one more.
+    #[inline(always)]
     pub(crate) fn ask(&mut self) -> Result<(), Memory>
         ensures tasks { self.new.tasks ≡ self.old.tasks }
         ensures kept { self.old.spare ≤ self.new.spare }
@@ -82,6 +79,7 @@ impl Listed {
     }
 
     /// Puts a task in its place, if it isn't there. It takes no memory.
+    #[inline(always)]
     pub(crate) fn put(&mut self, task: TaskId)
         requires { 1 ≤ self.old.spare }
         ensures tasks { self.new.tasks ≡ with_task task self.old.tasks }

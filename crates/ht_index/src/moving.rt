@@ -16,6 +16,7 @@ pub(crate) fn move_all(lists: &mut Vec<Listed>, moves: &[Move])
     }
 }
 
+#[inline(always)]
 fn make(lists: &mut Vec<Listed>, one: Move)
     requires { (key : ℕ) → coming_by key one ≤ spare_at key lists.old.items }
     ensures lists { (key : ℕ) → list_at key lists.new.items

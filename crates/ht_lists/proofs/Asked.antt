@@ -1,6 +1,7 @@
 -- The tasks that are listed are found among those in which the person has a role.
-use Rattle.std.proofs.Common.{◌≡◌, ℕ, ◌+◌, ◌<◌, ◌≤◌, suc, Bool, true, false, cond, ◌&&◌, ◌||◌, not, List, [], ◌∷◌, ◌++◌, filter, fold, length, map, slice_get, take, Option, Some, None, refl, ap, sym, subst, ◌∙◌, arith}
+use Rattle.std.proofs.Common.{◌≡◌, ℕ, ◌+◌, ◌-◌, ◌<◌, ◌≤◌, suc, Bool, true, false, cond, ◌&&◌, ◌||◌, not, List, [], ◌∷◌, ◌++◌, drop, filter, fold, length, map, slice_get, take, Option, Some, None, refl, ap, sym, subst, ◌∙◌, arith}
 use Rattle.std.specs.List.{AllByRecursion, filter_map}
+use Rattle.std.proofs.lemmas.List.{length-drop, take-append-drop, take_all}
 use Rattle.std.proofs.lemmas.List.Elements.{All-filter, filter-append, filter_map-append, recursion_from_All}
 use Rattle.std.proofs.lemmas.List.Sums.{fold-append}
 use Rattle.ht_base.specs.declared.task_id.TaskId.{TaskId}
@@ -19,8 +20,8 @@ use Rattle.ht_base.specs.State.{contains_state, is_final}
 use Rattle.ht_rules.specs.Sets.{states_of}
 use Rattle.ht_lists.specs.Keys.{key_of}
 use Rattle.ht_lists.specs.Lists.{has_task_role, is_listed, is_shown}
-use Rattle.ht_lists.specs.Offering.{asked_keys, is_asked, is_operator, is_live}
-use Rattle.ht_tree.specs.ListedBy.{has_task_role as has_role, live_rows_of, rows_of}
+use Rattle.ht_lists.specs.Offering.{asked_keys, is_asked, is_operator, is_owner, is_live}
+use Rattle.ht_tree.specs.ListedBy.{has_task_role as has_role, ids_by, is_person, live_rows_of, owned_by, rows_of}
 use Rattle.ht_tree.specs.Open.{is_live_task}
 use Rattle.ht_tree.specs.declared.row.Row.{Row}
 use Rattle.ht_tree.specs.Roles.{roles_in}
@@ -208,8 +209,37 @@ pub one_asked : (t : TablesOf) (person : ℕ) (role : Option Role) (which : Whic
     → asked_keys t person role which (record { 0 = task } ∷ []) ≡ map key_of (filter (is_asked t person role which) (row ∷ []))
 one_asked t person role which task row at = rw at refl
 
-pub offered_more : (b : BestOf) (xs ys zs : List Key) → zs ≡ xs ++ ys → fold with_key (fold with_key b xs) ys ≡ fold with_key b zs
-offered_more b xs ys zs is = sym (fold-append with_key b xs ys) ∙ ap (fold with_key b) (sym is)
+-- behind those that were offered came more
+pub walked_on : (b : BestOf) {c d : BestOf} (xs ys : List Key) {zs : List Key} → d ≡ fold with_key c ys → c ≡ fold with_key b xs → zs ≡ xs ++ ys → d ≡ fold with_key b zs
+walked_on b xs ys on so_far is =
+    on ∙ ap (λ e. fold with_key e ys) so_far ∙ sym (fold-append with_key b xs ys) ∙ ap (fold with_key b) (sym is)
+
+-- ---- some tasks of a list were passed, and then one was offered
+
+all_behind : (m n : ℕ) (ids : List TaskId) → m ≡ length ids - n → take m (drop n ids) ≡ drop n ids
+all_behind m n ids is = take_all m (drop n ids) (omega (arith, length-drop n ids, is))
+
+pub fewer_behind : (m n : ℕ) (ids later : List TaskId) (id : TaskId) → m ≡ length ids - n → take m (drop n ids) ≡ id ∷ later → n + (length later + 1) ≡ length ids
+fewer_behind m n ids later id is behind =
+    let sizes = ap length (sym (all_behind m n ids is) ∙ behind) in
+    omega (arith, sizes, length-drop n ids)
+
+module _ (t : TablesOf) (person : ℕ) (role : Option Role) (which : Which) where
+  abbrev keys : List TaskId → List Key
+  keys ids = asked_keys t person role which ids
+
+  joined : (a b : BestOf) (xs ys : List TaskId) → b ≡ fold with_key a (keys xs) → fold with_key b (keys ys) ≡ fold with_key a (keys (xs ++ ys))
+  joined a b xs ys is =
+      ap (λ e. fold with_key e (keys ys)) is ∙ sym (fold-append with_key a (keys xs) (keys ys)) ∙ ap (fold with_key a) (sym (asked_append t person role which xs ys))
+
+  pub passed_on : (a : BestOf) {b c : BestOf} (m n : ℕ) (ids later : List TaskId) (id : TaskId) → m ≡ length ids - n → take m (drop n ids) ≡ id ∷ later
+      → b ≡ fold with_key a (asked_keys t person role which (take n ids)) → c ≡ fold with_key b (asked_keys t person role which (id ∷ []))
+      → fold with_key c (asked_keys t person role which later) ≡ fold with_key a (asked_keys t person role which ids)
+  passed_on a {b} {c} m n ids later id is behind passed one =
+      joined b c (id ∷ []) later one
+      ∙ ap (λ l. fold with_key b (keys l)) (sym behind ∙ all_behind m n ids is)
+      ∙ joined a b (take n ids) (drop n ids) passed
+      ∙ ap (λ l. fold with_key a (keys l)) (take-append-drop n ids)
 
 -- the row behind so many is one more
 pub asked_row : (t : TablesOf) (person : ℕ) (role : Option Role) (which : Which) (i : ℕ) → i < length t.rows
@@ -231,3 +261,51 @@ asked_row t person role which i low = at (there_is t.rows i low)
 
 pub few_rows : (person : ℕ) (rows : List Row) → length (rows_of person rows) ≤ length rows
 few_rows person rows = omega (arith, length-map {A = Row} (λ r. r.task) (filter (has_role person) rows), few_of (has_role person) rows)
+
+few_ids : (test : Row → Bool) (rows : List Row) → length (ids_by test rows) ≤ length rows
+few_ids test rows = omega (arith, length-map {A = Row} (λ r. r.task) (filter test rows), few_of test rows)
+
+pub few_owned : (person : ℕ) (rows : List Row) → length (owned_by person rows) ≤ length rows
+few_owned person rows = few_ids (λ row. is_person person row.owner) rows
+
+-- ---- those that the person owns
+
+-- whom a task is owned by is its actual owner
+pub owned_asked : (t : TablesOf) (person : ℕ) (role : Option Role) (which : Which) → IsSound t → is_owner role ≡ true
+    → asked_keys t person role which (owned_by person t.rows) ≡ map key_of (filter (is_listed t person role which) t.rows)
+owned_asked t person None which sound own = no (sym own)
+owned_asked t person (Some Initiator) which sound own = no (sym own)
+owned_asked t person (Some Stakeholder) which sound own = no (sym own)
+owned_asked t person (Some PotentialOwner) which sound own = no (sym own)
+owned_asked t person (Some Administrator) which sound own = no (sym own)
+owned_asked t person (Some Operator) which sound own = no (sym own)
+owned_asked t person (Some ActualOwner) which sound own =
+    ap (map key_of) (among t (λ row. is_person person row.owner) (is_asked t person (Some ActualOwner) which) (is_listed t person (Some ActualOwner) which) sound
+    (λ row. implied (is_person person row.owner) (is_shown which row.state && is_person person row.owner) (second (is_shown which row.state) (is_person person row.owner))))
+  where
+    second : (a b : Bool) → (a && b) ≡ true → b ≡ true
+    second true b e = e
+    second false b e = no (sym e)
+
+-- ---- how many
+
+total_of : (b : BestOf) (keys : List Key) → (fold with_key b keys).total ≡ b.total + length keys
+total_of b [] = omega arith
+total_of b (k ∷ keys) = let rest = total_of (with_key b k) keys in omega arith
+
+few_found : (t : TablesOf) (ids : List TaskId) → length (filter_map (λ id. task_row t id.0) ids) ≤ length ids
+few_found t [] = omega arith
+few_found t (id ∷ ids) = at (task_row t id.0) refl (few_found t ids)
+  where
+    at : (o : Option Row) → task_row t id.0 ≡ o → length (filter_map (λ i. task_row t i.0) ids) ≤ length ids → length (filter_map (λ i. task_row t i.0) (id ∷ ids)) ≤ suc (length ids)
+    at None e few = rw e (omega arith)
+    at (Some row) e few = rw e (omega arith)
+
+pub few_offered : (t : TablesOf) (person : ℕ) (role : Option Role) (which : Which) (ids : List TaskId) (b c : BestOf) → c ≡ fold with_key b (asked_keys t person role which ids) → c.total ≤ b.total + length ids
+few_offered t person role which ids b c is =
+    let rows = filter_map (λ (id : TaskId). task_row t id.0) ids in
+    let total = ap (λ (d : BestOf). d.total) is ∙ total_of b (asked_keys t person role which ids) in
+    let asked = length-map key_of (filter (is_asked t person role which) rows) in
+    let few = few_of (is_asked t person role which) rows in
+    let found = few_found t ids in
+    omega arith

@@ -18,7 +18,7 @@ all_fewer P zero xs a = tt
 all_fewer P (suc n) [] a = tt
 all_fewer P (suc n) (x ∷ xs) a = (a.0, all_fewer P n xs a.1)
 
-all_take : {A : Type 0} (P : A → Type 0) (n : ℕ) (xs : List A) → AllByRecursion P xs → AllByRecursion P (take n xs)
+pub all_take : {A : Type 0} (P : A → Type 0) (n : ℕ) (xs : List A) → AllByRecursion P xs → AllByRecursion P (take n xs)
 all_take P zero xs a = tt
 all_take P (suc n) [] a = tt
 all_take P (suc n) (x ∷ xs) a = (a.0, all_take P n xs a.1)
@@ -30,11 +30,6 @@ all_at P [] i x a at = absurd (no at)
     no e = cc
 all_at P (y ∷ ys) zero x a at = let same : y ≡ x = cc in subst P same a.0
 all_at P (y ∷ ys) (suc i) x a at = all_at P ys i x a.1 at
-
-pub take_full : {A : Type 0} (n : ℕ) (xs : List A) → n ≤ length xs → n ≤ length (take n xs)
-take_full zero xs full = omega arith
-take_full (suc n) [] full = full
-take_full (suc n) (x ∷ xs) full = let rest = take_full n xs (omega arith) in omega (arith, rest)
 
 module _ {A : Type 0} (cmp : A → A → Ordering) where
   -- ---- sorting loses none and adds none

@@ -3,7 +3,7 @@ use Rattle.std.specs.Prelude.{ℕ, Bool, true, false, not, List, filter, filter_
 use Rattle.ht_base.specs.declared.query.Which.{Which}
 use Rattle.ht_base.specs.declared.query.Which.TheVariants as which
 use Rattle.ht_base.specs.declared.role.Role.{Role}
-use Rattle.ht_base.specs.declared.role.Role.TheVariants.{Operator}
+use Rattle.ht_base.specs.declared.role.Role.TheVariants.{ActualOwner, Operator}
 use Rattle.ht_base.specs.declared.task_id.TaskId.{TaskId}
 use Rattle.ht_base.specs.State.{is_final}
 use Rattle.ht_lists.specs.declared.keys.Key.{Key}
@@ -16,6 +16,11 @@ use Rattle.ht_tree.specs.Tables.{TablesOf, task_row}
 abbrev pub is_operator : Option Role → Bool
 is_operator (Some Operator) = true
 is_operator _ = false
+
+-- the role whose tasks are listed by themselves
+abbrev pub is_owner : Option Role → Bool
+is_owner (Some ActualOwner) = true
+is_owner _ = false
 
 -- no task that is final is asked for
 abbrev pub is_live : Which → Bool

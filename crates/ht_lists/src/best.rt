@@ -1,11 +1,14 @@
-ghost use Rattle.std.specs.Prelude.{◌≡◌, ◌+◌, ◌-◌, ◌^◌, ◌<◌, IfOk, IfSome, OnErr, OnOk, false, length, take};
+ghost use Rattle.std.specs.Prelude.{◌≡◌, ◌+◌, ◌-◌, ◌^◌, ◌<◌, ◌≤◌, IfOk, IfSome, OnErr, OnOk, Some, false, length, take, true};
 ghost use Rattle.ht_lists.specs.Best as spec;
-ghost use Rattle.ht_lists.specs.Best.{IsBounded, first_of, none_of, room_for, with_key};
+ghost use Rattle.ht_lists.specs.Best.{Bounds, first_of, none_of, room_for, told, with_held, with_key};
+ghost use Rattle.ht_lists.specs.Keys as key;
 ghost use Rattle.ht_lists.specs.Keys.{compare_keys};
 ghost use Rattle.ht_lists.specs.Sorted.{put_by};
+ghost use Rattle.ht_tree.specs.Tables.{task_row};
 
-use crate::keys::{Key, in_order};
-use ht_base::Memory;
+use crate::keys::{Key, in_order, key_of};
+use ht_base::{Memory, Moment, TaskId};
+use ht_tree::{Row, Tables};
 use std::alloc::Global;
 use std::marker::Model;
 
@@ -20,8 +23,8 @@ pub(crate) struct Best {
     // Of those that were offered at least the first so many.
     keys: Vec<Key>,
     total: u32,
-    // A key that doesn't come before it isn't one of the first.
-    bound: Option<Key>,
+    // A key that doesn't come before it isn't one of the first, unless it comes behind all keys.
+    bound: Key,
 }
 
 impl Model for Best {
@@ -35,6 +38,13 @@ impl Model for Best {
     ghost invariant = { IsHeld };
 }
 
+/// What is at hand while many are offered, in registers: a bound, and how many were offered so far.
+#[derive(Clone, Copy)]
+pub(crate) struct Offers {
+    bound: Key,
+    total: u32,
+}
+
 impl Best {
     /// None are offered yet, and the first `from` and `count` are wanted.
     pub(crate) fn new(alloc: Global, from: u32, count: u32) -> Best
@@ -44,22 +54,102 @@ impl Best {
             limit: from as usize + count as usize,
             keys: Vec::new(alloc),
             total: 0,
-            bound: None,
+            bound: Key {
+                created: Moment(0),
+                task: TaskId(0),
+                priority: u8::MAX,
+            },
         }
     }
 
-    /// One key more.
+    /// Before many are offered.
     #[inline(always)]
-    pub(crate) fn offer(&mut self, key: Key) -> Result<(), Memory>
-        requires { self.old.total < 2 ^ 32 - 1 }
-        ensures { OnOk result (self.new ≡ with_key self.old key) }
+    pub(crate) fn offers(&self) -> Offers
+        ensures total { result.total ≡ self.now.total }
+        ensures bounds { Bounds self.now.limit self.now.keys result.bound }
     {
-        self.total += 1;
+        Offers {
+            bound: self.bound(),
+            total: self.total,
+        }
+    }
+
+    /// Whether a task is seen not to be one of the first. Then it is counted.
+    #[inline(always)]
+    pub(crate) fn passes(&self, row: &Row, offers: &mut Offers) -> bool
+        requires few { offers.old.total < 2 ^ 32 - 1 }
+        requires priority { row.now.priority < 255 }
+        requires bounds { Bounds self.now.limit self.now.keys offers.old.bound }
+        ensures offered { result ≡ true → told self.now offers.new.total
+            ≡ with_key (told self.now offers.old.total) (key.key_of row.now) }
+        ensures left { result ≡ false → offers.new.total ≡ offers.old.total }
+        ensures few { offers.new.total ≤ offers.old.total + 1 }
+        ensures bound { offers.new.bound ≡ offers.old.bound }
+    {
+        if is_plainly_behind(row, &offers.bound) {
+            offers.total += 1;
+            true
+        } else {
+            false
+        }
+    }
+
+    /// One task more. The number of those that were offered is left as it is.
+    #[inline(always)]
+    pub(crate) fn offer(
+        &mut self,
+        tables: &Tables,
+        id: TaskId,
+        row: &Row,
+        offers: &mut Offers,
+    ) -> Result<(), Memory>
+        requires few { offers.old.total < 2 ^ 32 - 1 }
+        requires row { task_row tables.now.tables id.0 ≡ Some row.now }
+        requires priority { row.now.priority < 255 }
+        requires bounds { Bounds self.old.limit self.old.keys offers.old.bound }
+        ensures offered { OnOk result (told self.new offers.new.total
+            ≡ with_key (told self.old offers.old.total) (key.key_of row.now)) }
+        ensures bounds { OnOk result (Bounds self.new.limit self.new.keys offers.new.bound) }
+    {
+        offers.total += 1;
+        if is_plainly_behind(row, &offers.bound) {
+            return Ok(());
+        }
+        self.look_at(tables, id)?;
+        offers.bound = self.bound();
+        Ok(())
+    }
+
+    /// So many were offered.
+    pub(crate) fn tell(&mut self, offers: Offers)
+        ensures { self.new ≡ told self.old offers.total }
+    {
+        self.total = offers.total;
+    }
+
+    // Holds the key of one task more, if it is one of the first. Of many tasks few are looked at here.
+    #[cold]
+    #[inline(never)]
+    fn look_at(&mut self, tables: &Tables, id: TaskId) -> Result<(), Memory>
+        ensures { OnOk result (IfSome (task_row tables.now.tables id.0)
+            (λ row. self.new ≡ with_held self.old (key.key_of row))) }
+    {
+        let Some(row) = tables.row(id) else {
+            return Ok(());
+        };
+        let key = key_of(row);
         if is_behind(&key, &self.bound) {
             return Ok(());
         }
         self.bound = hold(&mut self.keys, self.limit, self.bound, key)?;
         Ok(())
+    }
+
+    #[inline(always)]
+    fn bound(&self) -> Key
+        ensures { Bounds self.now.limit self.now.keys result }
+    {
+        self.bound
     }
 
     /// How many were offered.
@@ -80,32 +170,30 @@ impl Best {
     }
 }
 
+// Whether nothing in the key of the row comes before what the bound has. As tasks are numbered by their
+// moments, that is so of nearly all that are behind, and three comparisons without an order tell it.
 #[inline(always)]
-fn is_behind(key: &Key, bound: &Option<Key>) -> bool
+fn is_plainly_behind(row: &Row, bound: &Key) -> bool
+    ensures { result ≡ true → spec.is_behind (key.key_of row.now) bound.now ≡ true }
+{
+    row.priority >= bound.priority && row.created.0 >= bound.created.0 && row.task.0 >= bound.task.0
+}
+
+fn is_behind(key: &Key, bound: &Key) -> bool
     ensures { result ≡ spec.is_behind key.now bound.now }
 {
-    match bound {
-        Some(bound) => key >= bound,
-        None => false,
-    }
+    key >= bound
 }
 
 // Holds one key more, and gives the bound from then on.
-#[inline(never)]
-fn hold(
-    keys: &mut Vec<Key>,
-    limit: usize,
-    bound: Option<Key>,
-    key: Key,
-) -> Result<Option<Key>, Memory>
+fn hold(keys: &mut Vec<Key>, limit: usize, bound: Key, key: Key) -> Result<Key, Memory>
     requires few { length keys.old.items < room_for limit }
     requires small { limit < 2 ^ 33 }
-    requires bounded { IfSome bound (λ b. IsBounded limit keys.old.items b) }
-    requires before { spec.is_behind key bound ≡ false }
-    ensures first { OnOk result
-        (first_of limit keys.new.items ≡ take limit (put_by compare_keys (first_of limit keys.old.items) key)) }
+    requires bounds { Bounds limit (first_of limit keys.old.items) bound }
+    ensures first { OnOk result (first_of limit keys.new.items
+        ≡ take limit (put_by compare_keys (first_of limit keys.old.items) key)) }
     ensures few { OnOk result (length keys.new.items < room_for limit) }
-    ensures bounded { IfOk result (λ new. IfSome new (λ b. IsBounded limit keys.new.items b)) }
+    ensures bounds { IfOk result (λ b. Bounds limit (first_of limit keys.new.items) b) }
     ensures refused { OnErr result (keys.new.items ≡ keys.old.items) }
 {
     keys.push(key)?;
@@ -113,7 +201,7 @@ fn hold(
         return Ok(bound);
     }
     cut(keys, limit);
-    Ok(keys.last().copied())
+    Ok(keys.last().copied().unwrap_or(bound))
 }
 
 // Keeps the first so many, in order.

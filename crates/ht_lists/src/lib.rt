@@ -2,6 +2,7 @@
 //! that were sent to the person, and the sheet of a task.
 #![tactic(auto)]
 
+mod asking;
 mod best;
 mod keys;
 mod listing;

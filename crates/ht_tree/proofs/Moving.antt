@@ -4,14 +4,13 @@ use Rattle.std.specs.List.{AllByRecursion, list_any}
 use Rattle.std.proofs.lemmas.Bool.{cases_eq}
 use Rattle.std.proofs.lemmas.Bool.Decides.{nat_tests}
 use Rattle.std.proofs.lemmas.List.{append_assoc, take_more}
-use Rattle.std.specs.Option.{option_map_or}
 use Rattle.ht_base.specs.Persons.{has}
 use Rattle.ht_base.specs.declared.task_id.TaskId.{TaskId}
 use Rattle.ht_index.specs.declared.moves.Move.{Move}
 use Rattle.ht_index.specs.Indexes.{is_of}
 use Rattle.ht_tree.specs.declared.listed_by.ListedBy.{ListedBy}
 use Rattle.ht_tree.specs.declared.row.Row.{Row}
-use Rattle.ht_tree.specs.ListedBy.{Adds, AddsOf, AreMoves, AreMovesOf, HaveSameLists, has_task_role, is_in_lists, is_listed, is_of_key, stands_under}
+use Rattle.ht_tree.specs.ListedBy.{Adds, AddsOf, AreMoves, AreMovesOf, HaveSameLists, has_task_role, is_in_lists, is_listed, is_of_key, is_person, stands_under}
 use Rattle.ht_tree.specs.Rows.{row_at}
 
 -- ---- any moves
@@ -67,14 +66,14 @@ adds_then task comes some more all others a b c is first then_ = record {
     at key true e on gone also = first.whole key e gone
     at key false e on gone also = then_.whole key (sym (ap (λ x. x || more key) e) ∙ on) also
 
--- one by one: those who are there now and weren't, and then those who were and aren't
-pub adds_both : (task : TaskId) (was is : ℕ → Bool) (a b c : List Move) → AddsOf task true is was a b → AddsOf task false was is b c → Adds task was is a c
-adds_both task was is a b c come go = record {
+-- those come who are there now and aren't held, and those go who were and aren't
+pub adds_held : (task : TaskId) (was is held : ℕ → Bool) (a b c : List Move) → ((key : ℕ) → held key ≡ true → was key ≡ true) → AddsOf task true is held a b → AddsOf task false was is b c → Adds task was is a c
+adds_held task was is held a b c stood come go = record {
   news = come.news ++ go.news;
   more = go.more ∙ ap (λ l. l ++ go.news) come.more ∙ append_assoc a come.news go.news;
   right =
       all_append (λ m. (m.task ≡ task) × (m.comes ≡ is m.key)) come.news go.news
-      (all_of (λ m. (m.task ≡ task) × (m.comes ≡ true) × (is m.key ≡ true) × (was m.key ≡ false)) (λ m. (m.task ≡ task) × (m.comes ≡ is m.key)) come.news (λ m r. (r.0, r.1 ∙ sym r.2)) come.right)
+      (all_of (λ m. (m.task ≡ task) × (m.comes ≡ true) × (is m.key ≡ true) × (held m.key ≡ false)) (λ m. (m.task ≡ task) × (m.comes ≡ is m.key)) come.news (λ m r. (r.0, r.1 ∙ sym r.2)) come.right)
       (all_of (λ m. (m.task ≡ task) × (m.comes ≡ false) × (was m.key ≡ true) × (is m.key ≡ false)) (λ m. (m.task ≡ task) × (m.comes ≡ is m.key)) go.news (λ m r. (r.0, r.1 ∙ sym r.3)) go.right);
   whole = λ key none.
       let apart = none_of_both (is_of_key key) come.news go.news none in
@@ -83,37 +82,27 @@ adds_both task was is a b c come go = record {
   where
     at : (key : ℕ) (x y : Bool) → was key ≡ x → is key ≡ y → list_any (is_of_key key) come.news ≡ false → list_any (is_of_key key) go.news ≡ false → was key ≡ is key
     at key true y e f gone also = e ∙ sym (go.whole key e also)
-    at key false true e f gone also = come.whole key f gone ∙ sym f
+    at key false true e f gone also = let no : false ≡ true = sym e ∙ stood key (come.whole key f gone) in absurd cc
     at key false false e f gone also = e ∙ sym f
 
--- where only one of both is there
-pub adds_came : (task : TaskId) (was is : ℕ → Bool) (a b : List Move) → ((key : ℕ) → was key ≡ false) → AddsOf task true is was a b → Adds task was is a b
-adds_came task was is a b none come = adds_both task was is a b b come (adds_none task false was is b (λ key on. let no : true ≡ false = sym on ∙ none key in absurd cc))
-
-pub adds_went : (task : TaskId) (was is : ℕ → Bool) (a b : List Move) → ((key : ℕ) → is key ≡ false) → AddsOf task false was is a b → Adds task was is a b
-adds_went task was is a b none go = adds_both task was is a a b (adds_none task true is was a (λ key on. let no : true ≡ false = sym on ∙ none key in absurd cc)) go
-
-pub adds_nothing : (task : TaskId) (was is : ℕ → Bool) (a : List Move) → ((key : ℕ) → was key ≡ is key) → Adds task was is a a
-adds_nothing task was is a same = record { news = []; more = sym (append-nil a); right = tt; whole = λ key none. same key }
+-- of the same keys, said in another way
+pub same_adds_of : (task : TaskId) (comes : Bool) (some others some_too others_too : ℕ → Bool) (a b : List Move) → ((key : ℕ) → some key ≡ some_too key) → ((key : ℕ) → others key ≡ others_too key) → AddsOf task comes some others a b → AddsOf task comes some_too others_too a b
+same_adds_of task comes some others some_too others_too a b one two adds = record {
+  news = adds.news;
+  more = adds.more;
+  right = all_of (λ m. (m.task ≡ task) × (m.comes ≡ comes) × (some m.key ≡ true) × (others m.key ≡ false)) (λ m. (m.task ≡ task) × (m.comes ≡ comes) × (some_too m.key ≡ true) × (others_too m.key ≡ false)) adds.news (λ m r. (r.0, r.1, sym (one m.key) ∙ r.2, sym (two m.key) ∙ r.3)) adds.right;
+  whole = λ key on none. sym (two key) ∙ adds.whole key (one key ∙ on) none;
+}
 
 pub on_ok : {A E : Type 0} {P Q : Type 0} (r : Result A E) → (P → Q) → OnOk r P → OnOk r Q
 on_ok (Ok a) f p = f p
 on_ok (Err e) f p = tt
 
--- with whoever was and is, said in another way
-pub same_adds : (task : TaskId) (was is was_too is_too : ℕ → Bool) (a b : List Move) → ((key : ℕ) → was key ≡ was_too key) → ((key : ℕ) → is key ≡ is_too key) → Adds task was is a b → Adds task was_too is_too a b
-same_adds task was is was_too is_too a b before after adds = record {
-  news = adds.news;
-  more = adds.more;
-  right = all_of (λ m. (m.task ≡ task) × (m.comes ≡ is m.key)) (λ m. (m.task ≡ task) × (m.comes ≡ is_too m.key)) adds.news (λ m r. (r.0, r.1 ∙ after m.key)) adds.right;
-  whole = λ key none. sym (before key) ∙ adds.whole key none ∙ after key;
-}
-
 -- ---- persons
 
 -- the owner stands last
-pub role_parts : (key : ℕ) (row : Row) → has_task_role key row ≡ (is_in_lists key row || option_map_or (λ owner. owner == key) row.owner false)
-role_parts key row = at (row.initiator == key) (has key row.stakeholders) (has key row.potential_owners) (option_map_or (λ owner. owner == key) row.owner false) (has key row.administrators)
+pub role_parts : (key : ℕ) (row : Row) → has_task_role key row ≡ (is_in_lists key row || is_person key row.owner)
+role_parts key row = at (row.initiator == key) (has key row.stakeholders) (has key row.potential_owners) (is_person key row.owner) (has key row.administrators)
   where
     or_true : (x : Bool) → (x || true) ≡ true
     or_true true = refl
@@ -132,7 +121,7 @@ role_parts key row = at (row.initiator == key) (has key row.stakeholders) (has k
 
 pub same_lists : (row other : Row) → HaveSameLists row other → (key : ℕ) → is_in_lists key row ≡ true → has_task_role key other ≡ true
 same_lists row other same key in_ =
-    at (other.initiator == key) (has key other.stakeholders) (has key other.potential_owners) (option_map_or (λ owner. owner == key) other.owner false) (has key other.administrators)
+    at (other.initiator == key) (has key other.stakeholders) (has key other.potential_owners) (is_person key other.owner) (has key other.administrators)
     (ap (λ n. (other.initiator == key) || (has key other.stakeholders || (has key other.potential_owners || has key n))) (sym same.administrators)
     ∙ ap (λ n. (other.initiator == key) || (has key other.stakeholders || (has key n || has key row.administrators))) (sym same.potential_owners)
     ∙ ap (λ n. (other.initiator == key) || (has key n || (has key row.potential_owners || has key row.administrators))) (sym same.stakeholders)

@@ -1,5 +1,5 @@
 -- How tasks move between the lists without those that ended long ago, put together task by task.
-use Rattle.std.proofs.Common.{◌≡◌, ℕ, ◌==◌, ◌&&◌, not, Bool, true, false, List, [], ◌∷◌, ◌++◌, Option, Some, None, refl, sym, ap, subst, ◌∙◌, inl, inr, append-nil}
+use Rattle.std.proofs.Common.{◌≡◌, ℕ, ◌==◌, ◌&&◌, not, Bool, true, false, List, [], ◌∷◌, ◌++◌, Option, Some, None, refl, sym, ap, subst, ◌∙◌, inl, inr}
 use Rattle.std.specs.List.{AllByRecursion, list_any}
 use Rattle.std.proofs.lemmas.Bool.{cases_eq}
 use Rattle.std.proofs.lemmas.List.{append_assoc}
@@ -10,31 +10,22 @@ use Rattle.ht_tree.specs.declared.listed_by.ListedBy.TheVariants as by
 use Rattle.ht_base.specs.State.{is_final}
 use Rattle.ht_tree.specs.declared.row.Row.{Row}
 use Rattle.ht_tree.specs.ListedBy.{AddsOf, has_task_role, is_listed, is_of_key, stands_under}
-use Rattle.ht_tree.specs.Moves.{lives_with}
+use Rattle.ht_tree.specs.Moves.{is_over, lives_with}
 use Rattle.ht_tree.specs.Open.{AddsOpen, AreOpenMoves, AreOpenMovesOf, is_live_at}
 use Rattle.ht_tree.specs.Rows.{row_at}
 use Rattle.ht_tree.proofs.Moving.{all_append, all_of, none_of_both, of_one_key, put_earlier}
 
--- those who have one that isn't final come, and those who had one and have none go
-pub adds_open : (task : TaskId) (was is live_was live_is : ℕ → Bool) (a b c : List Move) → ((key : ℕ) → live_is key ≡ true → is key ≡ true) → AddsOf task true live_is live_was a b → AddsOf task false was is b c → AddsOpen task was is live_was live_is a c
-adds_open task was is live_was live_is a b c live come go = record {
+-- those come who have a role in it and aren't held, and those go who had one and have none
+pub adds_open : (task : TaskId) (was is held live_was live_is : ℕ → Bool) (a b c : List Move) → ((key : ℕ) → live_is key ≡ true → is key ≡ true) → ((key : ℕ) → held key ≡ true → live_is key ≡ true → live_was key ≡ true) → AddsOf task true is held a b → AddsOf task false was is b c → AddsOpen task was is live_was live_is a c
+adds_open task was is held live_was live_is a b c live lived come go = record {
   news = come.news ++ go.news;
   more = go.more ∙ ap (λ l. l ++ go.news) come.more ∙ append_assoc a come.news go.news;
   right =
       all_append (λ m. (m.task ≡ task) × (m.comes ≡ is m.key)) come.news go.news
-      (all_of (λ m. (m.task ≡ task) × (m.comes ≡ true) × (live_is m.key ≡ true) × (live_was m.key ≡ false)) (λ m. (m.task ≡ task) × (m.comes ≡ is m.key)) come.news (λ m r. (r.0, r.1 ∙ sym (live m.key r.2))) come.right)
+      (all_of (λ m. (m.task ≡ task) × (m.comes ≡ true) × (is m.key ≡ true) × (held m.key ≡ false)) (λ m. (m.task ≡ task) × (m.comes ≡ is m.key)) come.news (λ m r. (r.0, r.1 ∙ sym r.2)) come.right)
       (all_of (λ m. (m.task ≡ task) × (m.comes ≡ false) × (was m.key ≡ true) × (is m.key ≡ false)) (λ m. (m.task ≡ task) × (m.comes ≡ is m.key)) go.news (λ m r. (r.0, r.1 ∙ sym r.3)) go.right);
   stays = λ key none on. let apart = none_of_both (is_of_key key) come.news go.news none in go.whole key on apart.1;
-  lives = λ key none on. let apart = none_of_both (is_of_key key) come.news go.news none in come.whole key on apart.0;
-}
-
--- of the same keys, said in another way
-pub same_adds_of : (task : TaskId) (comes : Bool) (some others some_too others_too : ℕ → Bool) (a b : List Move) → ((key : ℕ) → some key ≡ some_too key) → ((key : ℕ) → others key ≡ others_too key) → AddsOf task comes some others a b → AddsOf task comes some_too others_too a b
-same_adds_of task comes some others some_too others_too a b one two adds = record {
-  news = adds.news;
-  more = adds.more;
-  right = all_of (λ m. (m.task ≡ task) × (m.comes ≡ comes) × (some m.key ≡ true) × (others m.key ≡ false)) (λ m. (m.task ≡ task) × (m.comes ≡ comes) × (some_too m.key ≡ true) × (others_too m.key ≡ false)) adds.news (λ m r. (r.0, r.1, sym (one m.key) ∙ r.2, sym (two m.key) ∙ r.3)) adds.right;
-  whole = λ key on none. sym (two key) ∙ adds.whole key (one key ∙ on) none;
+  lives = λ key none on. let apart = none_of_both (is_of_key key) come.news go.news none in lived key (come.whole key (live key on) apart.0) on;
 }
 
 -- who has a role in one that isn't final has a role in it
@@ -46,14 +37,15 @@ lives_listed key (Some r) e = second (not (is_final r.state)) (has_task_role key
     second true b f = f
     second false b f = absurd cc
 
-pub adds_no_open : (task : TaskId) (was is live_was live_is : ℕ → Bool) (a : List Move) → ((key : ℕ) → was key ≡ is key) → ((key : ℕ) → live_was key ≡ live_is key) → AddsOpen task was is live_was live_is a a
-adds_no_open task was is live_was live_is a same live = record {
-  news = [];
-  more = sym (append-nil a);
-  right = tt;
-  stays = λ key none on. sym (same key) ∙ on;
-  lives = λ key none on. live key ∙ on;
-}
+-- who is held where a task hasn't come back has it as before
+pub held_lives : (key : ℕ) (old : Row) (is : Option Row) → (is_over (Some old) && not (is_over is)) ≡ false → has_task_role key old ≡ true → lives_with key is ≡ true → lives_with key (Some old) ≡ true
+held_lives key old None stays role live = let no : false ≡ true = live in absurd cc
+held_lives key old (Some new) stays role live = at (is_final old.state) (is_final new.state) refl refl stays live
+  where
+    at : (a b : Bool) → is_final old.state ≡ a → is_final new.state ≡ b → (a && not b) ≡ false → (not b && has_task_role key new) ≡ true → (not (is_final old.state) && has_task_role key old) ≡ true
+    at true true e f stays live = let no : false ≡ true = live in absurd cc
+    at true false e f stays live = let no : true ≡ false = stays in absurd cc
+    at false b e f stays live = ap (λ c. not c && has_task_role key old) e ∙ role
 
 module _ (old new : List Row) where
   pub more_open : (rows : List Row) (row : Row) (task : TaskId) (a b : List Move) (was is live_was live_is : ℕ → Bool) → row.task ≡ task → ((key : ℕ) → was key ≡ is_listed by.Person key task.0 old) → ((key : ℕ) → is key ≡ is_listed by.Person key task.0 new) → ((key : ℕ) → live_was key ≡ is_live_at key task.0 old) → ((key : ℕ) → live_is key ≡ is_live_at key task.0 new) → AreOpenMovesOf old new rows a → AddsOpen task was is live_was live_is a b → AreOpenMovesOf old new (rows ++ row ∷ []) b

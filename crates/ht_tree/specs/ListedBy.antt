@@ -1,5 +1,5 @@
--- The lists of tasks that are kept beside the rows: the sub tasks of a task, and the tasks in which a
--- person has a role.
+-- The lists of tasks that are kept beside the rows: the sub tasks of a task, the tasks in which a person
+-- has a role, and those that a person owns.
 use Rattle.std.specs.Prelude.{◌≡◌, ℕ, ◌==◌, ◌&&◌, ◌||◌, not, Bool, true, false, List, ◌++◌, filter, map, Option, None, Some}
 use Rattle.std.specs.List.{AllByRecursion, list_any}
 use Rattle.std.specs.Option.{option_map_or}
@@ -16,9 +16,13 @@ use Rattle.ht_tree.specs.Rows.{row_at}
 
 -- ---- which tasks
 
+-- someone is there, and is this person
+abbrev pub is_person : ℕ → Option ℕ → Bool
+is_person person someone = option_map_or (λ p. p == person) someone false
+
 -- The person is its initiator, a stakeholder, a potential owner, its actual owner or a business administrator.
 abbrev pub has_task_role : ℕ → Row → Bool
-has_task_role person row = (row.initiator == person) || (has person row.stakeholders || (has person row.potential_owners || (option_map_or (λ owner. owner == person) row.owner false || has person row.administrators)))
+has_task_role person row = (row.initiator == person) || (has person row.stakeholders || (has person row.potential_owners || (is_person person row.owner || has person row.administrators)))
 
 -- the same, but for its actual owner
 abbrev pub is_in_lists : ℕ → Row → Bool
@@ -47,12 +51,17 @@ rows_of person rows = ids_by (has_task_role person) rows
 abbrev pub live_rows_of : ℕ → List Row → List TaskId
 live_rows_of person rows = ids_by (is_live_of person) rows
 
+-- those of which the person is the actual owner
+abbrev pub owned_by : ℕ → List Row → List TaskId
+owned_by person rows = ids_by (λ row. is_person person row.owner) rows
+
 -- ---- how they are kept
 
 -- the row is listed under a key: a task's number, or a person
 abbrev pub is_under : ListedBy → ℕ → Row → Bool
 is_under by.Parent key row = is_sub_of key row
 is_under by.Person key row = has_task_role key row
+is_under by.Owner key row = is_person key row.owner
 
 abbrev pub AreInStep : ListedBy → List Row → IndexOf → Type 0
 AreInStep kind rows index = (key : ℕ) → list_of key index ≡ ids_by (is_under kind key) rows

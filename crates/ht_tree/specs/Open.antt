@@ -5,7 +5,7 @@ use Rattle.std.specs.Option.{option_map_or}
 use Rattle.ht_base.specs.declared.task_id.TaskId.{TaskId}
 use Rattle.ht_base.specs.State.{is_final}
 use Rattle.ht_index.specs.declared.moves.Move.{Move}
-use Rattle.ht_index.specs.Indexes.{Ascends, IndexOf, has, is_of, list_of}
+use Rattle.ht_index.specs.Indexes.{Ascends, has, is_of}
 use Rattle.ht_tree.specs.declared.listed_by.ListedBy.TheVariants as by
 use Rattle.ht_tree.specs.declared.row.Row.{Row}
 use Rattle.ht_tree.specs.ListedBy.{is_listed, is_live_of, is_of_key}
@@ -19,10 +19,10 @@ is_live_task rows id = option_map_or (λ row. not (is_final row.state)) (row_at 
 abbrev pub is_live_at : ℕ → ℕ → List Row → Bool
 is_live_at person task rows = option_map_or (is_live_of person) (row_at task rows) false
 
-pub record AreOpen (rows : List Row) (recent : IndexOf) : Type 0 where
-  pub ascends : (person : ℕ) → Ascends (list_of person recent)
-  pub listed : (person task : ℕ) → has task (list_of person recent) ≡ true → is_listed by.Person person task rows ≡ true
-  pub whole : (person task : ℕ) → is_live_at person task rows ≡ true → has task (list_of person recent) ≡ true
+pub record AreOpen (rows : List Row) (recent : ℕ → List TaskId) : Type 0 where
+  pub ascends : (person : ℕ) → Ascends (recent person)
+  pub listed : (person task : ℕ) → has task (recent person) ≡ true → is_listed by.Person person task rows ≡ true
+  pub whole : (person task : ℕ) → is_live_at person task rows ≡ true → has task (recent person) ≡ true
 
 -- ---- how they change with rows
 

@@ -155,7 +155,8 @@ pub record AreDuesPrepared (t : RoomyTables) (p : PlanOf) : Type 0 where
 pub record AreListsPrepared (t : RoomyTables) (p : PlanOf) : Type 0 where
   pub subs : AreMoves by.Parent (t.tables).rows (planned t.tables p).rows t.sub_moves
   pub persons : AreMoves by.Person (t.tables).rows (planned t.tables p).rows t.person_moves
-  pub recent : AreOpenMoves (t.tables).rows (planned t.tables p).rows t.open_moves
+  pub recent : AreOpenMoves (t.tables).rows (planned t.tables p).rows t.person_moves
+  pub owners : AreMoves by.Owner (t.tables).rows (planned t.tables p).rows t.owner_moves
 
 -- The tables have all the memory that the plan's commit takes, and know what it changes of the dues and of
 -- the lists of tasks. Crates above hand this on, and look at no part of it.

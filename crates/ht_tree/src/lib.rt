@@ -5,6 +5,7 @@
 mod activating;
 mod assigning;
 mod changed_dues;
+mod clearing;
 mod comments;
 mod creating;
 mod exchanging;
@@ -14,6 +15,7 @@ mod least_dues;
 mod listed_by;
 mod moves;
 mod notice;
+mod owner_moves;
 mod person_moves;
 mod plan;
 mod puts;

@@ -5,4 +5,6 @@ pub(crate) enum ListedBy {
     Parent,
     /// A task by each person with a generic human role in it (WS-HumanTask 1.1, 3.1).
     Person,
+    /// A task by its actual owner.
+    Owner,
 }

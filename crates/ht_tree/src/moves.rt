@@ -4,19 +4,19 @@ ghost use Rattle.ht_tree.specs.Moves.{AddEach, LeadOn, StaysListed};
 ghost use Rattle.ht_tree.specs.Plans.{IsPlanOf, planned};
 ghost use Rattle.ht_tree.specs.declared.listed_by.ListedBy.TheVariants as by;
 
-use crate::person_moves::{add_open, add_persons, stays};
+use crate::owner_moves::add_owners;
+use crate::person_moves::{add_persons, stays};
 use crate::{Plan, Row, Tables};
 use ht_base::{Memory, TaskId};
 use ht_index::Move;
 use std::alloc::Global;
 
-/// How the lists of tasks change: those by parent, those by person, and those by person without the tasks
-/// that ended long ago.
+/// How the lists of tasks change: those by parent, those by person, and those by actual owner.
 #[derive(Drop)]
 pub(crate) struct Moves {
     pub(crate) subs: Vec<Move>,
     pub(crate) persons: Vec<Move>,
-    pub(crate) recent: Vec<Move>,
+    pub(crate) owners: Vec<Move>,
 }
 
 /// How they change with a plan.
@@ -28,7 +28,7 @@ pub(crate) fn moves_of(alloc: Global, tables: &Tables, plan: &Plan) -> Result<Mo
     let mut moves = Moves {
         subs: Vec::new(alloc),
         persons: Vec::new(alloc),
-        recent: Vec::new(alloc),
+        owners: Vec::new(alloc),
     };
     for put in plan.puts() {
         let was = tables.row(put.task);
@@ -54,7 +54,7 @@ fn add_moves(
     }
     add_parent(task, was, is, &mut moves.subs)?;
     add_persons(task, was, is, &mut moves.persons)?;
-    add_open(task, was, is, &mut moves.recent)
+    add_owners(task, was, is, &mut moves.owners)
 }
 
 fn stays_listed(was: Option<&Row>, is: Option<&Row>) -> bool

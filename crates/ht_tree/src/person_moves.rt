@@ -1,8 +1,8 @@
-ghost use Rattle.std.specs.Prelude.{ℕ, ◌≡◌, ◌==◌, false, true, IsTrue, OnOk, Some, option_map};
+ghost use Rattle.std.specs.Prelude.{ℕ, ◌≡◌, ◌==◌, ◌&&◌, not, false, true, IsTrue, OnOk, Some, option_map};
 ghost use Rattle.std.specs.Option.{option_map_or};
 ghost use Rattle.ht_base.specs.Persons.{has};
 ghost use Rattle.ht_tree.specs.ListedBy as spec;
-ghost use Rattle.ht_tree.specs.Moves.{StaysListed, lives_with};
+ghost use Rattle.ht_tree.specs.Moves.{IsHeld, StaysListed, is_over, lives_with};
 ghost use Rattle.ht_tree.specs.Open.{AddsOpen};
 ghost use Rattle.ht_tree.specs.ListedBy.{Adds, AddsOf, HaveSameLists, stands_under};
 ghost use Rattle.ht_tree.specs.declared.listed_by.ListedBy.TheVariants as by;
@@ -11,55 +11,47 @@ use crate::Row;
 use ht_base::{Memory, Person, Persons, TaskId};
 use ht_index::Move;
 
-/// The moves of a task between the lists of persons, as they had a role in it and as they have.
+/// The moves of a task between the lists of persons, as they had a role in it and as they have. They
+/// lead on those without the tasks that ended long ago too: one that ends stays there.
 pub(crate) fn add_persons(
     task: TaskId,
     was: Option<&Row>,
     is: Option<&Row>,
     moves: &mut Vec<Move>,
 ) -> Result<(), Memory>
-    ensures { OnOk result (Adds task
+    ensures all { OnOk result (Adds task
         (λ key. stands_under by.Person key (option_map (λ r. r.now) was.entry))
         (λ key. stands_under by.Person key (option_map (λ r. r.now) is.entry))
         moves.old.items moves.new.items) }
-{
-    add_those_of(task, is, was, true, moves)?;
-    add_those_of(task, was, is, false, moves)
-}
-
-/// The same between the lists without the tasks that ended long ago: one that ends stays there.
-pub(crate) fn add_open(
-    task: TaskId,
-    was: Option<&Row>,
-    is: Option<&Row>,
-    moves: &mut Vec<Move>,
-) -> Result<(), Memory>
-    ensures { OnOk result (AddsOpen task
+    ensures open_ { OnOk result (AddsOpen task
         (λ key. stands_under by.Person key (option_map (λ r. r.now) was.entry))
         (λ key. stands_under by.Person key (option_map (λ r. r.now) is.entry))
         (λ key. lives_with key (option_map (λ r. r.now) was.entry))
         (λ key. lives_with key (option_map (λ r. r.now) is.entry))
         moves.old.items moves.new.items) }
 {
-    add_those_of(task, live(is), live(was), true, moves)?;
+    add_those_of(task, is, held(was, is), true, moves)?;
     add_those_of(task, was, is, false, moves)
 }
 
-// A row that isn't final.
-fn live(row: Option<&Row>) -> Option<&Row>
-    ensures { (key : ℕ)
-        → stands_under by.Person key (option_map (λ r. r.now) result)
-        ≡ lives_with key (option_map (λ r. r.now) row.entry) }
+// The row as it was, where those who had a role in it have the task among those that haven't ended.
+fn held<'a>(was: Option<&'a Row>, is: Option<&Row>) -> Option<&'a Row>
+    ensures { IsHeld (option_map (λ r. r.now) was.entry) (option_map (λ r. r.now) is.entry)
+        (option_map (λ r. r.now) result) }
 {
-    match row {
-        Some(one) => {
-            if one.state.is_final() {
-                None
-            } else {
-                Some(one)
-            }
-        }
+    match was {
+        Some(old) => { if comes_back(old, is) { None } else { Some(old) } }
         None => None,
+    }
+}
+
+// Whether the task had ended and hasn't.
+fn comes_back(old: &Row, is: Option<&Row>) -> bool
+    ensures { result ≡ is_over (Some old.now) && not (is_over (option_map (λ r. r.now) is.entry)) }
+{
+    match is {
+        Some(new) => old.state.is_final() && !new.state.is_final(),
+        None => old.state.is_final(),
     }
 }
 
@@ -111,6 +103,7 @@ fn add_listed(
     if are_in_other(row, other) {
         return Ok(());
     }
+    moves.reserve(row.potential_owners.as_slice().len() + 1)?;
     add(task, row.initiator, other, comes, moves)?;
     add_each(task, &row.stakeholders, other, comes, moves)?;
     add_each(task, &row.potential_owners, other, comes, moves)?;
@@ -124,7 +117,7 @@ fn add_owner(
     comes: bool,
     moves: &mut Vec<Move>,
 ) -> Result<(), Memory>
-    ensures { OnOk result (AddsOf task comes (λ key. option_map_or (λ person. person == key) owner false)
+    ensures { OnOk result (AddsOf task comes (λ key. spec.is_person key owner)
         (λ key. stands_under by.Person key (option_map (λ r. r.now) other.entry))
         moves.old.items moves.new.items) }
 {
@@ -221,28 +214,10 @@ pub(crate) fn stays(old: &Row, new: &Row) -> bool
     requires { new.now.parent ≡ old.now.parent }
     ensures { IsTrue result → StaysListed (Some old.now) (Some new.now) }
 {
-    if old.state.is_final() != new.state.is_final() {
+    if old.state.is_final() && !new.state.is_final() {
         return false;
     }
-    if !have_same_lists(old, new) {
-        return false;
-    }
-    is_in_lists(old.owner, new) && is_in_lists(new.owner, old)
-}
-
-// Whether the owner, if there is one, has a role in the task by its lists.
-fn is_in_lists(owner: Option<Person>, row: &Row) -> bool
-    ensures { result ≡ option_map_or (λ person. spec.is_in_lists person row.now) owner true }
-{
-    match owner {
-        Some(person) => {
-            row.initiator == person
-                || row.stakeholders.contains(person)
-                || row.potential_owners.contains(person)
-                || row.administrators.contains(person)
-        }
-        None => true,
-    }
+    old.owner == new.owner && have_same_lists(old, new)
 }
 
 /// Whether a person is the initiator, a stakeholder, a potential owner, the actual owner or a business

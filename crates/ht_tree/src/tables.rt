@@ -1,4 +1,4 @@
-ghost use Rattle.std.specs.Prelude.{◌≡◌, ◌≤◌, ◌<◌, ◌+◌, ◌++◌, IfOk, IfSome, filter, fold, OnOk, Some, length, option_map, vec_capacity, vec_len};
+ghost use Rattle.std.specs.Prelude.{◌≡◌, ◌≤◌, ◌<◌, ◌+◌, ◌++◌, [], IfOk, IfSome, filter, fold, OnOk, Some, length, option_map, vec_capacity, vec_len};
 ghost use Rattle.ht_tree.specs.declared.row.Row.{Row};
 ghost use Rattle.ht_tree.specs.Puts.{CanPut};
 ghost use Rattle.ht_tree.specs.ListedBy as lists;
@@ -11,13 +11,14 @@ ghost use Rattle.ht_tree.specs.Soundness.{IsSound, IsSoundRow};
 ghost use Rattle.ht_tree.specs.Tables.{device_slot, directory, empty_tables, notice_at, task_row};
 
 use crate::changed_dues::{dues_after, dues_before};
+use crate::clearing::{FEW, allow, count_ends, is_used_up, live_of, may_end};
 use crate::exchanging::exchange;
 use crate::moves::{Moves, moves_of};
 use crate::slot::{put_slot, slot_of};
 use crate::{Notice, Plan, Row, Slot};
 use ht_base::{Memory, Moment, Person, TaskId};
 use ht_due::{Due, DueQueue};
-use ht_index::{Index, Move};
+use ht_index::{Index, ShortIndex};
 use ht_models::Models;
 use ht_people::Directory;
 use std::alloc::Global;
@@ -27,7 +28,7 @@ use std::marker::Model;
 /// command of each device. A contract also sees in `room`, `notice_room`, `slot_room` and `due_room` how
 /// many more tasks, notifications, devices and dues they take without memory, in `gone` and `news` the
 /// dues that go and come with the plan that was prepared last, and in `sub_moves`, `person_moves` and
-/// `open_moves` the tasks that move with it between the lists of tasks.
+/// `owner_moves` the tasks that move with it between the lists of tasks.
 #[derive(Drop)]
 pub struct Tables {
     models: Models,
@@ -47,8 +48,11 @@ pub struct Tables {
     // The sub tasks of each task.
     subs: Index,
     // The tasks in which each person has a role, and the same without those that ended long ago.
-    persons: Index,
-    recent: Index,
+    persons: ShortIndex,
+    // The tasks that each person owns.
+    owners: Index,
+    // How many tasks of each person may still end before they are left out of the shorter list.
+    left: Vec<u32>,
 }
 
 impl Model for Tables {
@@ -72,6 +76,7 @@ impl Tables {
     pub fn new(alloc: Global, models: Models, people: Directory) -> Result<Tables, Memory>
         ensures { IfOk result (λ t. t.tables ≡ empty_tables models people) }
     {
+        let left = vec![in alloc; FEW; people.persons() as usize]?;
         Ok(Tables {
             models,
             people,
@@ -84,8 +89,9 @@ impl Tables {
             gone: Vec::new(alloc),
             news: Vec::new(alloc),
             subs: Index::new(alloc),
-            persons: Index::new(alloc),
-            recent: Index::new(alloc),
+            persons: ShortIndex::new(alloc),
+            owners: Index::new(alloc),
+            left,
         })
     }
 
@@ -177,14 +183,23 @@ impl Tables {
         self.persons.list(person.0)
     }
 
-    /// Each of them that isn't final, and maybe some that ended not long ago.
-    pub fn open_rows_of(&self, person: Person) -> &[TaskId]
-        ensures live { filter (is_live_task self.now.tables.rows) result.now
+    /// Each of them that isn't final, and maybe some that ended not long ago, in two parts.
+    pub fn open_rows_of(&self, person: Person) -> (&[TaskId], &[TaskId])
+        ensures live { filter (is_live_task self.now.tables.rows) (result.0.now ++ result.1.now)
             ≡ lists.live_rows_of person self.now.tables.rows }
-        ensures few { length result.now ≤ length self.now.tables.rows }
+        ensures few { length result.0.now + length result.1.now
+            ≤ length self.now.tables.rows }
         ensures sound { IsSound self.now.tables }
     {
-        self.recent.list(person.0)
+        self.persons.short(person.0)
+    }
+
+    /// The tasks of which a person is the actual owner (WS-HumanTask 1.1, 3.1), ascending by number.
+    pub fn owned_by(&self, person: Person) -> &[TaskId]
+        ensures value { result.now ≡ lists.owned_by person self.now.tables.rows }
+        ensures sound { IsSound self.now.tables }
+    {
+        self.owners.list(person.0)
     }
 
     /// The tasks of the trees of all top tasks.
@@ -245,26 +260,38 @@ impl Tables {
         ensures news { self.new.news ≡ self.old.news }
     {
         let alloc = *self.rows.allocator();
+        self.persons.forget();
+        count_ends(alloc, self, plan)?;
         let Moves {
             subs,
             persons,
-            recent,
+            owners,
         } = moves_of(alloc, self, plan)?;
-        sweep_full(alloc, self, &recent)?;
         self.subs.prepare(subs)?;
         self.persons.prepare(persons)?;
-        self.recent.prepare(recent)
+        self.owners.prepare(owners)
     }
 
-    // Takes the tasks that ended out of a person's list, before it takes memory for more.
-    fn sweep(&mut self, alloc: Global, person: u32) -> Result<(), Memory>
+    /// One task more of a person ends. Where so many have that may, they are left out of the shorter list.
+    pub(crate) fn count_end(&mut self, alloc: Global, person: Person) -> Result<(), Memory>
+        requires { self.old.person_moves ≡ [] }
         ensures { self.new ≡ self.old }
     {
-        if !self.recent.is_full(person) {
-            return Ok(());
+        if is_used_up(&mut self.left, person) {
+            return self.clear(alloc, person.0);
         }
+        Ok(())
+    }
+
+    fn clear(&mut self, alloc: Global, person: u32) -> Result<(), Memory>
+        requires { self.old.person_moves ≡ [] }
+        ensures { self.new ≡ self.old }
+    {
         let live = live_of(alloc, self, Person(person))?;
-        self.recent.replace(person, live)
+        let more = may_end(live.len());
+        self.persons.shorten(person, live)?;
+        allow(&mut self.left, person, more);
+        Ok(())
     }
 
     /// Makes the planned change. It can't be refused, and takes no memory.
@@ -280,7 +307,7 @@ impl Tables {
         exchange(&mut self.queue, &self.gone, &self.news);
         self.subs.make_moves();
         self.persons.make_moves();
-        self.recent.make_moves();
+        self.owners.make_moves();
         let (rows, notices, slot) = plan.into_changes();
         tell(&mut self.notices, notices);
         put_all(&mut self.rows, rows);
@@ -290,49 +317,10 @@ impl Tables {
     }
 }
 
-// Sweeps the lists to which tasks come.
-fn sweep_full(alloc: Global, tables: &mut Tables, moves: &[Move]) -> Result<(), Memory>
-    ensures { tables.new ≡ tables.old }
-{
-    for one in moves {
-        if one.comes {
-            tables.sweep(alloc, one.key)?;
-        }
-    }
-    Ok(())
-}
-
-// The tasks of a person that aren't final.
-fn live_of(alloc: Global, tables: &Tables, person: Person) -> Result<Vec<TaskId>, Memory>
-    ensures live { IfOk result
-        (λ ids. ids.items ≡ lists.live_rows_of person tables.now.tables.rows) }
-    ensures sound { IsSound tables.now.tables }
-{
-    let mut live = Vec::new(alloc);
-    for id in tables.open_rows_of(person) {
-        if is_live(tables, *id) {
-            live.push(*id)?;
-        }
-    }
-    Ok(live)
-}
-
-fn is_live(tables: &Tables, id: TaskId) -> bool
-    ensures { result ≡ is_live_task tables.now.tables.rows id }
-{
-    match tables.row(id) {
-        Some(row) => !row.state.is_final(),
-        None => false,
-    }
-}
-
 fn row_in(rows: &[Row], id: TaskId) -> Option<&Row>
     ensures { option_map (λ r. r.now) result ≡ row_at id.0 rows.now }
 {
-    if id.0 == 0 {
-        return None;
-    }
-    rows.get(id.0 as usize - 1)
+    rows.get((id.0 as usize).wrapping_sub(1))
 }
 
 fn notice_in(notices: &[Notice], number: u32) -> Option<&Notice>

@@ -43,13 +43,14 @@ loop-put-preserved c =
       subs = more by.Parent old.subs.items new.subs.items before.subs adds.subs;
       persons = more by.Person old.persons.items new.persons.items before.persons adds.persons;
       recent =
-          more_open t.rows u (take i puts) row put.task old.recent.items new.recent.items (λ key. stands_under by.Person key (option_map (λ r. r.now) c.row-was.result)) (λ key. stands_under by.Person key (option_map (λ r. r.now) c.row-is.result)) (λ key. lives_with key (option_map (λ r. r.now) c.row-was.result)) (λ key. lives_with key (option_map (λ r. r.now) c.row-is.result))
+          more_open t.rows u (take i puts) row put.task old.persons.items new.persons.items (λ key. stands_under by.Person key (option_map (λ r. r.now) c.row-was.result)) (λ key. stands_under by.Person key (option_map (λ r. r.now) c.row-is.result)) (λ key. lives_with key (option_map (λ r. r.now) c.row-was.result)) (λ key. lives_with key (option_map (λ r. r.now) c.row-is.result))
           (ap (λ (r : Row). r.task) (sym is))
           (λ key. ap (λ o. stands_under by.Person key o) c.row-was.ensures.value)
           (λ key. ap (λ o. stands_under by.Person key o) c.row-is.ensures.value)
           (λ key. ap (λ o. lives_with key o) c.row-was.ensures.value)
           (λ key. ap (λ o. lives_with key o) c.row-is.ensures.value)
           before.recent adds.recent;
+      owners = more by.Owner old.owners.items new.owners.items before.owners adds.owners;
     })
 
 pub returns : goal.returns
@@ -67,5 +68,6 @@ returns c =
     record {
       subs = all by.Parent (c.loop-put.moves).subs.items are.subs;
       persons = all by.Person (c.loop-put.moves).persons.items are.persons;
-      recent = all_open t.rows u puts (c.loop-put.moves).recent.items (λ task none. not_put t t.rows puts c.requires.changes_fit task none) are.recent;
+      owners = all by.Owner (c.loop-put.moves).owners.items are.owners;
+      recent = all_open t.rows u puts (c.loop-put.moves).persons.items (λ task none. not_put t t.rows puts c.requires.changes_fit task none) are.recent;
     }

@@ -5,16 +5,18 @@ use Rattle.ht_index.proofs.index.Index.prepare.Goals as goal
 
 pub returns-in_err-ask_all-clause-lists : goal.returns-in_err-ask_all-clause-lists
 returns-in_err-ask_all-clause-lists c = λ k.
-    seen k c.ask_all.new.lists.items c.clear.new.self.items
+    let i = c.self.inside in
+    seen k c.ask_all.new.lists.items i.moves.items
     ∙ c.ask_all.ensures.lists k
-    ∙ c.give_all_back.ensures.lists k
-    ∙ sym (seen k c.self.inside.lists.items c.self.inside.moves.items)
-    ∙ ap (λ (i : IndexOf). list_of k i) c.self.view_is
+    ∙ sym (seen k i.lists.items i.moves.items)
+    ∙ ap (λ (it : IndexOf). list_of k it) c.self.view_is
+    ∙ c.forget.ensures.lists k
 
 pub returns-clause-lists : goal.returns-clause-lists
 returns-clause-lists c = λ k.
+    let i = c.self.inside in
     seen k c.ask_all.new.lists.items c.args.moves.items
     ∙ c.ask_all.ensures.lists k
-    ∙ c.give_all_back.ensures.lists k
-    ∙ sym (seen k c.self.inside.lists.items c.self.inside.moves.items)
-    ∙ ap (λ (i : IndexOf). list_of k i) c.self.view_is
+    ∙ sym (seen k i.lists.items i.moves.items)
+    ∙ ap (λ (it : IndexOf). list_of k it) c.self.view_is
+    ∙ c.forget.ensures.lists k

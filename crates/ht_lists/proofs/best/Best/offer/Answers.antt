@@ -1,9 +1,11 @@
-use Rattle.std.proofs.Common.{◌+◌, sym, ◌∙◌}
+use Rattle.std.proofs.Common.{◌+◌, sym}
+use Rattle.ht_lists.specs.Keys.{key_of}
 use Rattle.ht_lists.proofs.BestKeys.{behind_is}
 use Rattle.ht_lists.proofs.best.Best.offer.Goals as goal
 
-pub returns-then-is_behind : goal.returns-then-is_behind
-returns-then-is_behind c =
-    let b = c.self.inside in
-    let same = behind_is b.limit b.keys.items c.args.key b.bound (sym c.is_behind.ensures ∙ c.if-is_behind.true) c.self.invariant.bounded in
-    rw (← c.self.view_is) (λ i. record { limit = b.limit; keys = same i; total = b.total + 1 })
+pub returns-then-is_plainly_behind-clause-offered : goal.returns-then-is_plainly_behind-clause-offered
+returns-then-is_plainly_behind-clause-offered c =
+    let b = c.args.self.now in
+    let behind = c.is_plainly_behind.ensures c.if-is_plainly_behind.true in
+    let same = behind_is b.limit b.keys (key_of c.args.row.now) c.args.offers.now.bound behind c.requires.priority c.requires.bounds in
+    λ i. record { limit = b.limit; keys = sym same i; total = c.args.offers.now.total + 1 }

@@ -18,8 +18,9 @@ invariant_of-result c = record {
   subs = rw c.new.ensures.items c.new-7.ensures.lists;
   persons = rw c.new.ensures.items c.new-8.ensures.lists;
   recent = record {
-    ascends = λ k. subst Ascends (sym (c.new-9.ensures.lists k)) tt;
-    listed = λ k n e. let no : false ≡ true = sym (ap (has n) (c.new-9.ensures.lists k)) ∙ e in absurd cc;
+    ascends = λ k. subst Ascends (sym (c.new-8.ensures.short k)) tt;
+    listed = λ k n e. let no : false ≡ true = sym (ap (has n) (c.new-8.ensures.short k)) ∙ e in absurd cc;
     whole = λ k n e. let no : false ≡ true = sym (ap (λ (l : List Row). is_live_at k n l) c.new.ensures.items ∙ none k n) ∙ e in absurd cc;
   };
+  owners = rw c.new.ensures.items c.new-9.ensures.lists;
 }
