@@ -28,6 +28,15 @@ impl Names {
         }
     }
 
+    /// No names. It takes memory for this many.
+    pub fn with_capacity(alloc: Global, count: usize) -> Result<Names, Memory>
+        ensures { IfOk result (λ names. names ≡ []) }
+    {
+        Ok(Names {
+            items: Vec::with_capacity(alloc, count)?,
+        })
+    }
+
     pub fn copy(&self, alloc: Global) -> Result<Names, Memory>
         ensures { IfOk result (λ n. n ≡ self.now) }
     {

@@ -124,7 +124,7 @@ fn periods_are_read(rt: HostRuntime) -> Result<(), Fail> {
 }
 
 fn two_names(alloc: Global) -> Result<Names, Fail> {
-    let mut names = Names::new(alloc);
+    let mut names = Names::with_capacity(alloc, 2)?;
     names.push(Name::of(b"anna").ok_or("a name")?)?;
     names.push(Name::of(b"ben").ok_or("a name")?)?;
     Ok(names)

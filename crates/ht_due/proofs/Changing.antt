@@ -86,7 +86,7 @@ over_blocks due last bs n b f blocks is at made long =
       apart = over_apart last bs n b f blocks at long;
     }
 
-pub over_room : (due last : Due) (bs : List (List Due)) (n all : ℕ) (b f : List Due) → AreBlocks bs → IsIn due bs n (n + 1) → slice_get bs n ≡ Some b → f ++ last ∷ [] ≡ put_due b due → length f ≡ 128 → has due (joined bs) ≡ false → 2 * length (joined bs) + 130 ≤ 128 * all → length (pushed_on (n + 1) last (slice_set bs n f)) ≤ all
+pub over_room : (due last : Due) (bs : List (List Due)) (n all : ℕ) (b f : List Due) → AreBlocks bs → IsIn due bs n (n + 1) → slice_get bs n ≡ Some b → f ++ last ∷ [] ≡ put_due b due → length f ≡ 128 → has due (joined bs) ≡ false → 2 * length (joined bs) + 128 + 2 ≤ 128 * all → length (pushed_on (n + 1) last (slice_set bs n f)) ≤ all
 over_room due last bs n all b f blocks is at made long none enough =
     let new = pushed_on (n + 1) last (slice_set bs n f) in
     let few : 128 * length new ≤ 2 * length (joined new) + 128 = not_many new (over_apart last bs n b f blocks at long) in

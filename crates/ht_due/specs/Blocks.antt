@@ -2,6 +2,7 @@
 use Rattle.std.specs.Prelude.{◌≡◌, ℕ, ◌+◌, ◌<◌, ◌≤◌, zero, suc, if◌then◌else◌, List, [], ◌∷◌, ◌++◌, drop, length, nat_le, nat_lt, take}
 use Rattle.std.specs.List.{AllByRecursion}
 use Rattle.std.specs.declared.cmp.Ordering.TheVariants.{Less}
+use Rattle.ht_due.specs.declared.block.TheConstants.{MOST}
 use Rattle.ht_due.specs.declared.due.Due.{Due}
 use Rattle.ht_due.specs.Dues.{Ascends, compare_dues}
 
@@ -12,12 +13,12 @@ joined (block ∷ blocks) = block ++ joined blocks
 
 -- no block has more dues than it may
 abbrev pub AreFew : List (List Due) → Type 0
-AreFew blocks = AllByRecursion (λ block. length block ≤ 128) blocks
+AreFew blocks = AllByRecursion (λ block. length block ≤ MOST) blocks
 
 -- this one and the next don't fit in one
 abbrev pub IsApart : List Due → List (List Due) → Type 0
 IsApart block [] = Unit {0}
-IsApart block (next ∷ blocks) = 128 < length block + length next
+IsApart block (next ∷ blocks) = MOST < length block + length next
 
 -- no two neighbours fit in one block, so there are no more than twice as many blocks as are needed, and one
 abbrev pub AreApart : List (List Due) → Type 0
@@ -40,7 +41,7 @@ pub record IsIn (due : Due) (blocks : List (List Due)) (low high : ℕ) : Type 0
 -- a due is put in front of a block's dues, or into a new block where this one is full or not there
 abbrev pub pushed_on : ℕ → Due → List (List Due) → List (List Due)
 pushed_on zero due [] = (due ∷ []) ∷ []
-pushed_on zero due (block ∷ blocks) = if nat_lt (length block) 128 then (due ∷ block) ∷ blocks else (due ∷ []) ∷ block ∷ blocks
+pushed_on zero due (block ∷ blocks) = if nat_lt (length block) MOST then (due ∷ block) ∷ blocks else (due ∷ []) ∷ block ∷ blocks
 pushed_on (suc place) due [] = []
 pushed_on (suc place) due (block ∷ blocks) = block ∷ pushed_on place due blocks
 
@@ -48,7 +49,7 @@ pushed_on (suc place) due (block ∷ blocks) = block ∷ pushed_on place due blo
 abbrev pub joined_at : ℕ → List (List Due) → List (List Due)
 joined_at place [] = []
 joined_at zero (block ∷ []) = block ∷ []
-joined_at zero (block ∷ next ∷ blocks) = if nat_le (length block + length next) 128 then (block ++ next) ∷ blocks else block ∷ next ∷ blocks
+joined_at zero (block ∷ next ∷ blocks) = if nat_le (length block + length next) MOST then (block ++ next) ∷ blocks else block ∷ next ∷ blocks
 joined_at (suc place) (block ∷ blocks) = block ∷ joined_at place blocks
 
 -- a block that lost a due takes in the next one, and then the one before takes it in

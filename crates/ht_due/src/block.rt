@@ -1,4 +1,5 @@
 ghost use Rattle.std.specs.Prelude.{◌≡◌, ◌+◌, ◌≤◌, ◌++◌, ◌∷◌, [], false, IfNone, IfOk, IfSome, length, slice_get};
+ghost use Rattle.ht_due.specs.declared.block.TheConstants.{MOST};
 ghost use Rattle.ht_due.specs.Dues.{Ascends, has, next_after, put_due, without};
 
 use crate::Due;
@@ -18,14 +19,15 @@ pub(crate) struct Block {
 }
 
 impl Model for Block {
-    ghost use Rattle.std.specs.Prelude.{◌≤◌, List, vec_capacity};
+    ghost use Rattle.std.specs.Prelude.{◌<◌, List, vec_capacity};
+    ghost use Rattle.ht_due.specs.declared.block.TheConstants.{MOST};
     ghost use Rattle.ht_due.specs.declared.due.Due.{Due};
 
     ghost Value = { List Due };
 
     ghost view = { λ b. b.dues.items };
 
-    ghost invariant = { λ b. 129 ≤ vec_capacity b.dues };
+    ghost invariant = { λ b. MOST < vec_capacity b.dues };
 }
 
 impl Block {
@@ -62,12 +64,13 @@ impl Block {
     /// Puts a due in its place. Where that makes too many, the last one goes.
     pub(crate) fn put(&mut self, due: Due) -> Option<Due>
         requires ascend { Ascends self.old }
-        requires few { length self.old ≤ 128 }
+        requires few { length self.old ≤ MOST }
         requires absent { has due self.old ≡ false }
         ensures none { IfNone result (self.new ≡ put_due self.old due) }
-        ensures few { IfNone result ((length self.old ≤ length self.new) × (length self.new ≤ 128)) }
+        ensures few { IfNone result
+            ((length self.old ≤ length self.new) × (length self.new ≤ MOST)) }
         ensures last { IfSome result (λ last. self.new ++ last ∷ [] ≡ put_due self.old due) }
-        ensures full { IfSome result (λ _. length self.new ≡ 128) }
+        ensures full { IfSome result (λ _. length self.new ≡ MOST) }
     {
         match find(&self.dues, due) {
             Ok(_) => unreachable!(),
@@ -82,7 +85,7 @@ impl Block {
     }
 
     pub(crate) fn put_first(&mut self, due: Due)
-        requires { length self.old ≤ 128 }
+        requires { length self.old ≤ MOST }
         ensures { self.new ≡ due ∷ self.old }
     {
         let _ = self.dues.insert(0, due);
@@ -111,7 +114,7 @@ impl Block {
     }
 
     pub(crate) fn take_all(&mut self, other: &mut Block)
-        requires { length self.old + length other.old ≤ 128 }
+        requires { length self.old + length other.old ≤ MOST }
         ensures { self.new ≡ self.old ++ other.old }
     {
         let _ = self.dues.append(&mut other.dues);

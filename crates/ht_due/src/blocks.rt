@@ -2,6 +2,7 @@ ghost use Rattle.std.specs.Prelude.{◌≡◌, ◌+◌, ◌*◌, false, ◌<◌,
 ghost use Rattle.std.specs.Option.{option_and_then};
 ghost use Rattle.std.specs.Ordering.{is_gt};
 ghost use Rattle.ht_due.specs.Blocks.{AreBlocks, AreFew, IsIn, joined, joined_at, pushed_on, tidied};
+ghost use Rattle.ht_due.specs.declared.block.TheConstants.{MOST};
 ghost use Rattle.ht_due.specs.Dues.{compare_dues, has, next_after, put_due, without};
 
 use crate::Due;
@@ -41,7 +42,8 @@ fn narrowed(blocks: &[Block], due: Due, low: usize, high: usize) -> (usize, usiz
 
 fn begins_behind(block: &Block, due: Due) -> bool
     requires { 1 ≤ length block.now }
-    ensures { (first : Due) → slice_get block.now 0 ≡ Some first → result ≡ is_gt (compare_dues first due) }
+    ensures { (first : Due) → slice_get block.now 0 ≡ Some first
+        → result ≡ is_gt (compare_dues first due) }
 {
     match block.first() {
         Some(first) => first > due,
@@ -77,7 +79,8 @@ pub(crate) fn make(alloc: Global, free: &mut Vec<Block>, more: usize) -> Result<
 pub(crate) fn put(blocks: &mut Vec<Block>, free: &mut Vec<Block>, due: Due)
     requires blocks { AreBlocks blocks.old.items }
     requires absent { has due (joined blocks.old.items) ≡ false }
-    requires room { 2 * length (joined blocks.old.items) + 130 ≤ 128 * (vec_len blocks.old + vec_len free.old) }
+    requires room { 2 * length (joined blocks.old.items) + MOST + 2
+        ≤ MOST * (vec_len blocks.old + vec_len free.old) }
     requires capacity { vec_len blocks.old + vec_len free.old ≤ vec_capacity blocks.old }
     ensures dues { joined blocks.new.items ≡ put_due (joined blocks.old.items) due }
     ensures blocks { AreBlocks blocks.new.items }
@@ -133,7 +136,8 @@ pub(crate) fn after(blocks: &[Block], due: Due) -> Option<Due>
 // Puts a due into a block in front of the others, or into a new one there where this is full.
 fn push_on(blocks: &mut Vec<Block>, free: &mut Vec<Block>, place: usize, due: Due)
     requires place { place ≤ length blocks.old.items }
-    requires room { length (pushed_on place due blocks.old.items) ≤ vec_len blocks.old + vec_len free.old }
+    requires room { length (pushed_on place due blocks.old.items)
+        ≤ vec_len blocks.old + vec_len free.old }
     requires capacity { vec_len blocks.old + vec_len free.old ≤ vec_capacity blocks.old }
     ensures blocks { blocks.new.items ≡ pushed_on place due blocks.old.items }
     ensures all { vec_len blocks.new + vec_len free.new ≡ vec_len blocks.old + vec_len free.old }
