@@ -2,7 +2,7 @@
 use Rattle.std.specs.Prelude.{◌≡◌, ℕ, ◌+◌, ◌<◌, Bool, false, not, List, [], length, max, take}
 use Rattle.std.specs.List.{AllByRecursion}
 use Rattle.std.specs.Ordering.{is_lt}
-use Rattle.ht_lists.specs.declared.best.TheConstants.{SPARE}
+use Rattle.ht_lists.specs.declared.best.TheConstants.{BEHIND_ALL, SPARE}
 use Rattle.ht_lists.specs.declared.keys.Key.{Key}
 use Rattle.ht_lists.specs.Keys.{compare_keys}
 use Rattle.ht_lists.specs.Sorted.{put_by, sorted_by}
@@ -45,7 +45,7 @@ pub record IsBounded (limit : ℕ) (first : List Key) (bound : Key) : Type 0 whe
 
 -- a key that comes behind those of all tasks says nothing of them
 abbrev pub Bounds : ℕ → List Key → Key → Type 0
-Bounds limit first bound = bound.priority < 255 → IsBounded limit first bound
+Bounds limit first bound = bound.priority < BEHIND_ALL → IsBounded limit first bound
 
 -- the key doesn't come before the bound
 abbrev pub is_behind : Key → Key → Bool

@@ -1,4 +1,5 @@
 ghost use Rattle.std.specs.Prelude.{◌≡◌, ◌+◌, ◌-◌, ◌^◌, ◌<◌, ◌≤◌, IfOk, IfSome, OnErr, OnOk, Some, false, length, take, true};
+ghost use Rattle.ht_lists.specs.declared.best.TheConstants.{BEHIND_ALL};
 ghost use Rattle.ht_lists.specs.Best as spec;
 ghost use Rattle.ht_lists.specs.Best.{Bounds, first_of, none_of, room_for, told, with_held, with_key};
 ghost use Rattle.ht_lists.specs.Keys as key;
@@ -14,6 +15,9 @@ use std::marker::Model;
 
 /// So many keys more than twice the wanted ones are held where few are wanted.
 const SPARE: usize = 64;
+
+/// The priority of a key that comes behind those of all tasks.
+const BEHIND_ALL: u8 = u8::MAX;
 
 /// The first of the keys that are offered, in order, as many as are wanted, and how many were offered.
 /// At most twice as many as are wanted are held at a time, or 64 more than are wanted.
@@ -57,7 +61,7 @@ impl Best {
             bound: Key {
                 created: Moment(0),
                 task: TaskId(0),
-                priority: u8::MAX,
+                priority: BEHIND_ALL,
             },
         }
     }
@@ -78,7 +82,7 @@ impl Best {
     #[inline(always)]
     pub(crate) fn passes(&self, row: &Row, offers: &mut Offers) -> bool
         requires few { offers.old.total < 2 ^ 32 - 1 }
-        requires priority { row.now.priority < 255 }
+        requires priority { row.now.priority < BEHIND_ALL }
         requires bounds { Bounds self.now.limit self.now.keys offers.old.bound }
         ensures offered { result ≡ true → told self.now offers.new.total
             ≡ with_key (told self.now offers.old.total) (key.key_of row.now) }
@@ -105,7 +109,7 @@ impl Best {
     ) -> Result<(), Memory>
         requires few { offers.old.total < 2 ^ 32 - 1 }
         requires row { task_row tables.now.tables id.0 ≡ Some row.now }
-        requires priority { row.now.priority < 255 }
+        requires priority { row.now.priority < BEHIND_ALL }
         requires bounds { Bounds self.old.limit self.old.keys offers.old.bound }
         ensures offered { OnOk result (told self.new offers.new.total
             ≡ with_key (told self.old offers.old.total) (key.key_of row.now)) }
@@ -170,13 +174,17 @@ impl Best {
     }
 }
 
-// Whether nothing in the key of the row comes before what the bound has. As tasks are numbered by their
-// moments, that is so of nearly all that are behind, and three comparisons without an order tell it.
+// Whether the row is of no higher priority than the bound has, and later. That is so of nearly all that are
+// behind, and two comparisons tell it of most.
 #[inline(always)]
 fn is_plainly_behind(row: &Row, bound: &Key) -> bool
     ensures { result ≡ true → spec.is_behind (key.key_of row.now) bound.now ≡ true }
 {
-    row.priority >= bound.priority && row.created.0 >= bound.created.0 && row.task.0 >= bound.task.0
+    if row.priority < bound.priority {
+        return false;
+    }
+    row.created.0 > bound.created.0
+        || (row.created.0 == bound.created.0 && row.task.0 >= bound.task.0)
 }
 
 fn is_behind(key: &Key, bound: &Key) -> bool

@@ -23,8 +23,9 @@ pub(crate) fn names_of(
     requires { AllBelow (length people.now.persons) persons.now }
     ensures { IfOk result (λ names. names ≡ spec.names_of people.now persons.now) }
 {
-    let mut names = Names::new(alloc);
-    for person in persons.as_slice() {
+    let persons = persons.as_slice();
+    let mut names = Names::with_capacity(alloc, persons.len())?;
+    for person in persons {
         names.push(people.name(*person))?;
     }
     Ok(names)

@@ -131,6 +131,15 @@ drop_all [] (suc n) low = refl
 drop_all (r ∷ rows) zero low = absurd (omega arith)
 drop_all (r ∷ rows) (suc n) low = drop_all rows n (omega arith)
 
+-- with one more row, the tasks behind the first few have one more, where these are full
+pub more_tasks : (rows : List Row) (row : Row) → 4 ≤ length rows → tasks_of (drop 4 rows) ++ row.task.0 ∷ [] ≡ tasks_of (drop 4 (rows ++ row ∷ []))
+more_tasks rows row full = sym (ap (λ (l : List Row). tasks_of l) (drop_push rows 4 row full) ∙ map_push (λ (r : Row). r.task.0) (drop 4 rows) row)
+
+pub no_tasks : (rows : List Row) (row : Row) → length rows < 4 → tasks_of (drop 4 rows) ≡ tasks_of (drop 4 (rows ++ row ∷ []))
+no_tasks rows row few =
+    let long = length-append rows (row ∷ []) in
+    ap (λ (l : List Row). tasks_of l) (drop_all rows 4 (omega arith) ∙ sym (drop_all (rows ++ row ∷ []) 4 (omega arith)))
+
 tasks_drop : (rows : List Row) (n : ℕ) → tasks_of (drop n rows) ≡ drop n (tasks_of rows)
 tasks_drop [] zero = refl
 tasks_drop [] (suc n) = refl
@@ -181,3 +190,46 @@ popped_tasks front row rows is others kept o left told = elim (cases_lt (length 
         let one = length-append (tasks_of (drop 4 front)) (row.task.0 ∷ []) in
         absurd (omega arith)
     here_more more (Some t) told = (snoc_same left (tasks_of (drop 4 front)) t.0 row.task.0 (sym told ∙ some more)).0
+
+-- ---- the last row, and the tasks behind the highest
+
+-- a task whose row stands last has its last place there
+pub last_put : (rows : List Row) (i task : ℕ) → i + 1 ≡ length rows → option_map (λ r. r.task.0) (slice_get rows i) ≡ Some task → last_place task (tasks_of rows) ≡ Some i
+last_put [] i task long at = cc
+last_put (r ∷ []) zero task long at =
+    let same : r.task.0 ≡ task = cc in
+    let own : (r.task.0 == task) ≡ true = grind (arith, nat_tests, same) in
+    rw own refl
+last_put (r ∷ []) (suc i) task long at = absurd (omega arith)
+last_put (r ∷ s ∷ rows) zero task long at = absurd (omega arith)
+last_put (r ∷ s ∷ rows) (suc i) task long at =
+    let rest = last_put (s ∷ rows) i task (omega arith) at in
+    ap (λ (o : Option ℕ). option_or (option_map suc o) (if r.task.0 == task then Some 0 else None)) rest
+
+-- none of these tasks is behind this one
+abbrev pub NoneBehind : ℕ → List ℕ → Type 0
+NoneBehind highest tasks = (task : ℕ) → highest < task → last_place task tasks ≡ None
+
+pub none_of_more : (highest more : ℕ) (rows : List Row) (row : Row) → highest ≤ more → row.task.0 ≤ more → NoneBehind highest (tasks_of rows) → NoneBehind more (tasks_of (rows ++ row ∷ []))
+none_of_more highest more rows row low own none task behind =
+    let other : (row.task.0 == task) ≡ false = grind (arith, nat_tests, own, behind) in
+    ap (λ l. last_place task l) (map_push (λ (r : Row). r.task.0) rows row)
+    ∙ last_push task (tasks_of rows) row.task.0
+    ∙ ap (λ (b : Bool). cond b (Some (length (tasks_of rows))) (last_place task (tasks_of rows))) other
+    ∙ none task (omega arith)
+
+pub none_of_other : (highest : ℕ) (rows : List Row) (i : ℕ) (row : Row) → option_map (λ r. r.task.0) (slice_get rows i) ≡ Some row.task.0 → NoneBehind highest (tasks_of rows) → NoneBehind highest (tasks_of (slice_set rows i row))
+none_of_other highest rows i row same none task behind = ap (λ l. last_place task l) (tasks_set rows i row same) ∙ none task behind
+
+pub none_of_fewer : (highest : ℕ) (front : List Row) (row : Row) (rows : List Row) → rows ≡ front ++ row ∷ [] → NoneBehind highest (tasks_of rows) → NoneBehind highest (tasks_of front)
+none_of_fewer highest front row rows is none task behind =
+    at (row.task.0 == task) (last_place task (tasks_of front))
+    (sym (
+    ap (λ (l : List Row). last_place task (tasks_of l)) is
+    ∙ ap (λ l. last_place task l) (map_push (λ (r : Row). r.task.0) front row)
+    ∙ last_push task (tasks_of front) row.task.0)
+    ∙ none task behind)
+  where
+    at : (b : Bool) (o : Option ℕ) → cond b (Some (length (tasks_of front))) o ≡ None → o ≡ None
+    at true o e = cc
+    at false o e = e

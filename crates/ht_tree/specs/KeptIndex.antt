@@ -1,5 +1,5 @@
 -- How rows that are put are kept, and the index of their tasks.
-use Rattle.std.specs.Prelude.{◌≡◌, ℕ, List, [], ◌∷◌, ◌++◌, drop, map, Option}
+use Rattle.std.specs.Prelude.{◌≡◌, ◌<◌, ℕ, List, [], ◌∷◌, ◌++◌, drop, map, Option, None}
 use Rattle.std.specs.Ordering.{nat_cmp}
 use Rattle.std.specs.BTreeMap as tree
 use Rattle.ht_tree.specs.declared.index.Index.TheInside.{Inside}
@@ -32,5 +32,7 @@ IsIndexed x = Indexes x.last x.puts.items
 abbrev pub puts_in : PutsInside → List Row
 puts_in p = p.rows.items
 
-abbrev pub AreIndexed : PutsInside → Type 0
-AreIndexed p = p.others ≡ tasks_of (drop 4 p.rows.items)
+pub record AreIndexed (p : PutsInside) : Type 0 where
+  pub others : p.others ≡ tasks_of (drop 4 p.rows.items)
+  -- no row is of a task behind the highest
+  pub highest : (task : ℕ) → p.highest < task → last_place task (tasks_of p.rows.items) ≡ None

@@ -7,8 +7,26 @@ use crate::{Plan, Row, Tables};
 use ht_base::{Memory, Person, Persons, TaskId};
 use std::alloc::Global;
 
-/// So many tasks that ended may stand in a list of few.
-pub(crate) const FEW: u32 = 16;
+// So many tasks that ended may stand in a list of few.
+const FEW: u32 = 16;
+
+/// How many tasks of a person ended since they were left out of the shorter list, and how many may until
+/// that list is looked at.
+#[derive(Clone, Copy)]
+pub(crate) struct Ended {
+    since: u32,
+    until: u32,
+}
+
+impl Ended {
+    /// None, and a few may.
+    pub(crate) fn new() -> Ended {
+        Ended {
+            since: 0,
+            until: FEW,
+        }
+    }
+}
 
 /// Counts the tasks that end with a plan, for each person with a role in them.
 pub(crate) fn count_ends(alloc: Global, tables: &mut Tables, plan: &Plan) -> Result<(), Memory>
@@ -46,26 +64,37 @@ fn count_each(alloc: Global, tables: &mut Tables, persons: &Persons) -> Result<(
     Ok(())
 }
 
-/// Counts one more of a person's, and tells whether no more may end.
+/// Counts one more of a person's, and tells whether the list is to be looked at.
 #[inline(always)]
-pub(crate) fn is_used_up(left: &mut [u32], person: Person) -> bool {
-    let Some(left) = left.get_mut(person.0 as usize) else {
+pub(crate) fn are_many(ended: &mut [Ended], person: Person) -> bool {
+    let Some(ended) = ended.get_mut(person.0 as usize) else {
         return false;
     };
-    *left = left.saturating_sub(1);
-    *left == 0
+    ended.since = ended.since.saturating_add(1);
+    ended.since >= ended.until
 }
 
-/// Lets so many more of a person's tasks end.
-pub(crate) fn allow(left: &mut [u32], person: u32, more: u32) {
-    if let Some(left) = left.get_mut(person as usize) {
-        *left = more;
+/// Whether half of a list of so many tasks may have ended. It is looked at again where they may.
+pub(crate) fn are_half(ended: &mut [Ended], person: Person, tasks: usize) -> bool {
+    let Some(ended) = ended.get_mut(person.0 as usize) else {
+        return false;
+    };
+    ended.until = half_of(tasks);
+    ended.since >= ended.until
+}
+
+/// Counts a person's anew, where so many tasks haven't ended.
+pub(crate) fn begin_anew(ended: &mut [Ended], person: u32, tasks: usize) {
+    if let Some(ended) = ended.get_mut(person as usize) {
+        *ended = Ended {
+            since: 0,
+            until: half_of(tasks),
+        };
     }
 }
 
-/// How many tasks may end before they are left out, where so many haven't ended.
-pub(crate) fn may_end(live: usize) -> u32 {
-    u32::try_from(live / 2)
+fn half_of(tasks: usize) -> u32 {
+    u32::try_from(tasks / 2)
         .unwrap_or(u32::MAX)
         .saturating_add(FEW)
 }

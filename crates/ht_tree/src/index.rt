@@ -55,9 +55,8 @@ impl Index {
         ensures ok { OnOk result (self.new ≡ self.old ++ task.0 ∷ []) }
         ensures err { OnErr result (self.new ≡ self.old) }
     {
-        let before = self.place(task);
         self.puts.reserve(1)?;
-        self.last.insert(task.0, self.puts.len())?;
+        let before = self.last.insert(task.0, self.puts.len())?;
         let task = task.0;
         self.puts.push_reserved(Put { task, before });
         Ok(())

@@ -16,10 +16,13 @@ use std::mem;
 const FEW: usize = 4;
 
 /// Rows that are put one after another: the first few are looked through, and the others have an index.
+/// Most are of the task that was put last, or of one behind all.
 #[derive(Drop)]
 pub(crate) struct Puts {
     rows: Vec<Row>,
     others: Index,
+    // No row is of a task behind it.
+    highest: u32,
 }
 
 impl Model for Puts {
@@ -42,6 +45,7 @@ impl Puts {
         Puts {
             rows: Vec::new(alloc),
             others: Index::new(alloc),
+            highest: 0,
         }
     }
 
@@ -76,6 +80,18 @@ impl Puts {
 
     // The place of the last row of a task.
     fn place(&self, task: TaskId) -> Option<usize>
+        ensures { result ≡ last_place task.0 (tasks_of self.now) }
+    {
+        if task.0 > self.highest {
+            return None;
+        }
+        match self.rows.last() {
+            Some(last) if last.task == task => Some(self.rows.len() - 1),
+            _ => self.search(task),
+        }
+    }
+
+    fn search(&self, task: TaskId) -> Option<usize>
         ensures { result ≡ last_place task.0 (tasks_of self.now) }
     {
         if self.rows.len() <= FEW {
@@ -117,6 +133,7 @@ impl Puts {
         if self.rows.len() >= FEW {
             self.others.push(row.task)?;
         }
+        self.highest = self.highest.max(row.task.0);
         self.rows.push_reserved(row);
         Ok(())
     }

@@ -11,7 +11,7 @@ ghost use Rattle.ht_tree.specs.Soundness.{IsSound, IsSoundRow};
 ghost use Rattle.ht_tree.specs.Tables.{device_slot, directory, empty_tables, notice_at, task_row};
 
 use crate::changed_dues::{dues_after, dues_before};
-use crate::clearing::{FEW, allow, count_ends, is_used_up, live_of, may_end};
+use crate::clearing::{Ended, are_half, are_many, begin_anew, count_ends, live_of};
 use crate::exchanging::exchange;
 use crate::moves::{Moves, moves_of};
 use crate::slot::{put_slot, slot_of};
@@ -51,8 +51,8 @@ pub struct Tables {
     persons: ShortIndex,
     // The tasks that each person owns.
     owners: Index,
-    // How many tasks of each person may still end before they are left out of the shorter list.
-    left: Vec<u32>,
+    // How many tasks of each person ended since they were left out of the shorter list.
+    ended: Vec<Ended>,
 }
 
 impl Model for Tables {
@@ -76,7 +76,7 @@ impl Tables {
     pub fn new(alloc: Global, models: Models, people: Directory) -> Result<Tables, Memory>
         ensures { IfOk result (λ t. t.tables ≡ empty_tables models people) }
     {
-        let left = vec![in alloc; FEW; people.persons() as usize]?;
+        let ended = vec![in alloc; Ended::new(); people.persons() as usize]?;
         Ok(Tables {
             models,
             people,
@@ -91,7 +91,7 @@ impl Tables {
             subs: Index::new(alloc),
             persons: ShortIndex::new(alloc),
             owners: Index::new(alloc),
-            left,
+            ended,
         })
     }
 
@@ -272,12 +272,24 @@ impl Tables {
         self.owners.prepare(owners)
     }
 
-    /// One task more of a person ends. Where so many have that may, they are left out of the shorter list.
+    /// One task more of a person ends. Where half of the shorter list may have, they are left out of it.
     pub(crate) fn count_end(&mut self, alloc: Global, person: Person) -> Result<(), Memory>
         requires { self.old.person_moves ≡ [] }
         ensures { self.new ≡ self.old }
     {
-        if is_used_up(&mut self.left, person) {
+        if are_many(&mut self.ended, person) {
+            return self.clear_half(alloc, person);
+        }
+        Ok(())
+    }
+
+    fn clear_half(&mut self, alloc: Global, person: Person) -> Result<(), Memory>
+        requires { self.old.person_moves ≡ [] }
+        ensures { self.new ≡ self.old }
+    {
+        let (front, rest) = self.open_rows_of(person);
+        let tasks = front.len() + rest.len();
+        if are_half(&mut self.ended, person, tasks) {
             return self.clear(alloc, person.0);
         }
         Ok(())
@@ -288,9 +300,9 @@ impl Tables {
         ensures { self.new ≡ self.old }
     {
         let live = live_of(alloc, self, Person(person))?;
-        let more = may_end(live.len());
+        let tasks = live.len();
         self.persons.shorten(person, live)?;
-        allow(&mut self.left, person, more);
+        begin_anew(&mut self.ended, person, tasks);
         Ok(())
     }
 

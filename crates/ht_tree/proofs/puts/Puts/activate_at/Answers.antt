@@ -2,8 +2,8 @@ use Rattle.std.proofs.Common.{List, drop, length, slice_get, slice_set, Option, 
 use Rattle.std.proofs.lemmas.Option.{slice_get_read}
 use Rattle.ht_tree.specs.declared.row.Row.{Row}
 use Rattle.ht_tree.specs.Activation.{activated_to}
-use Rattle.ht_tree.specs.Places.{tasks_of}
-use Rattle.ht_tree.proofs.Places.{drop_set}
+use Rattle.ht_tree.specs.Places.{last_place, tasks_of}
+use Rattle.ht_tree.proofs.Places.{drop_set, none_of_other}
 use Rattle.ht_tree.proofs.puts.Puts.activate_at.Goals as goal
 
 pub invariant_of-self : goal.invariant_of-self
@@ -12,9 +12,14 @@ invariant_of-self c =
     let low = ap (λ (l : List Row). length l) c.self.view_is in
     let there = slice_get_read rows (length rows) c.args.place c.index_mut.result.now refl (rw low c.requires) c.index_mut.ensures.value in
     let row = activated_to c.args.state c.args.owner c.index_mut.result.now in
-    c.self.invariant
-    ∙ sym (drop_set rows 4 c.args.place row (ap (λ (o : Option Row). option_map (λ r. r.task.0) o) there))
-    ∙ ap (λ (r : Row). tasks_of (drop 4 (slice_set rows c.args.place r))) (sym c.activate_row.ensures)
+    let own = ap (λ (o : Option Row). option_map (λ r. r.task.0) o) there in
+    record {
+      others =
+          c.self.invariant.others
+          ∙ sym (drop_set rows 4 c.args.place row own)
+          ∙ ap (λ (r : Row). tasks_of (drop 4 (slice_set rows c.args.place r))) (sym c.activate_row.ensures);
+      highest = λ task behind. ap (λ (r : Row). last_place task (tasks_of (slice_set rows c.args.place r))) c.activate_row.ensures ∙ none_of_other c.self.inside.highest rows c.args.place row own c.self.invariant.highest task behind;
+    }
 
 pub returns : goal.returns
 returns c =
