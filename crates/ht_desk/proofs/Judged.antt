@@ -1,5 +1,5 @@
 -- What is decided of a record's event: it is applied, or never is.
-use Rattle.std.proofs.Common.{◌≡◌, ◌≤◌, inl, inr, IfSome, Some, ap, sym, subst}
+use Rattle.std.proofs.Common.{◌≡◌, ◌≤◌, inl, inr, Some, ap, sym, subst}
 use Rattle.ht_base.specs.declared.event.Event.{Event}
 use Rattle.ht_base.specs.declared.event.Event.TheVariants.{Ask, Read, Turn}
 use Rattle.ht_base.specs.declared.moment.Moment.{Moment}

@@ -9,7 +9,7 @@ use crate::entry::{Entry, Staged};
 use crate::{DeskState, Doubt};
 use ht_base::{Event, Memory, Record};
 use ht_codec::write;
-use ht_machine::{Decision, decide, moment_behind};
+use ht_machine::{Decision, decide, moment_behind, read};
 use ht_tree::Tables;
 use std::alloc::Global;
 
@@ -27,6 +27,22 @@ impl DeskState {
 }
 
 fn stage(alloc: Global, tables: &mut Tables, event: &Event) -> Result<Staged, Memory>
+    requires { IsValid event.now }
+    ensures tables { tables.new.tables ≡ tables.old.tables }
+    ensures staged { IfOk result (IsStaged tables.new event.now) }
+    ensures not_store { IfOk result (λ staged. staged.reply.answer ≢ store_reply.answer) }
+{
+    // A read plans nothing, and asks for no room in the tables.
+    if let Event::Read { caller, query } = event {
+        let reply = read(alloc, tables, *caller, query)?;
+        return Ok(Staged { reply, entry: None });
+    }
+    stage_change(alloc, tables, event)
+}
+
+// Apart from the reads, for each of which its locals would be cleared too.
+#[inline(never)]
+fn stage_change(alloc: Global, tables: &mut Tables, event: &Event) -> Result<Staged, Memory>
     requires { IsValid event.now }
     ensures tables { tables.new.tables ≡ tables.old.tables }
     ensures staged { IfOk result (IsStaged tables.new event.now) }

@@ -93,8 +93,8 @@ fn plan_event(
             turn_then_ask(alloc, tables, plan, &asked)
         }
         Event::Read { caller, query } => {
-            let answer = read(alloc, tables, *caller, query)?;
-            Ok((Left::Nothing, Reply { taken: 0, answer }))
+            let reply = read(alloc, tables, *caller, query)?;
+            Ok((Left::Nothing, reply))
         }
     }
 }

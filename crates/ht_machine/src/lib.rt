@@ -29,4 +29,5 @@ pub use laws::{
     the_machine_refuses_by_the_tables, the_timer_changes_no_answer, what_is_left_is_of_its_moment,
 };
 pub use leaving::{last_behind, moment_behind};
+pub use reading::read;
 pub use turning::turn;

@@ -5,20 +5,25 @@ ghost use Rattle.ht_machine.specs.Gate as gates;
 ghost use Rattle.ht_tree.specs.Tables.{directory};
 
 use crate::gating::refusal_at_gate;
-use ht_base::{Answer, BoxedSheet, Memory, Name, Op, Person, Query, Refusal, TaskId};
+use ht_base::{Answer, BoxedSheet, Memory, Name, Op, Person, Query, Refusal, Reply, TaskId};
 use ht_lists::{my_tasks, notices, sheet};
 use ht_tree::{Plan, Tables};
 use std::alloc::Global;
 
-/// What a caller, who must be a person, asks of the tables as they stand.
+/// Answers what a caller, who must be a person, asks of the tables as they stand: as
+/// [`decide`](crate::decide) does, which plans and leaves nothing then.
 // Apart from the commands, for each of which its locals would be cleared too.
 #[inline(never)]
-pub(crate) fn read(
-    alloc: Global,
-    tables: &Tables,
-    caller: Name,
-    query: &Query,
-) -> Result<Answer, Memory>
+pub fn read(alloc: Global, tables: &Tables, caller: Name, query: &Query) -> Result<Reply, Memory>
+    ensures { IfOk result (λ reply.
+        reply ≡ spec.reply_of (spec.shown_to tables.now.tables query.now
+        (find caller (directory tables.now.tables)))) }
+{
+    let answer = shown(alloc, tables, caller, query)?;
+    Ok(Reply { taken: 0, answer })
+}
+
+fn shown(alloc: Global, tables: &Tables, caller: Name, query: &Query) -> Result<Answer, Memory>
     ensures { IfOk result (λ answer.
         answer ≡ spec.shown_to tables.now.tables query.now
         (find caller (directory tables.now.tables))) }

@@ -4,9 +4,10 @@ ghost use Rattle.ht_base.specs.Moment.{last_moment};
 ghost use Rattle.ht_machine.specs.History.{event_of};
 
 use ht_base::{
-    Answer, Command, End, Event, LAST, Moment, Name, Parts, Person, Record, Refusal, TaskId,
+    Answer, Command, End, Event, LAST, Moment, Name, Parts, Person, Query, Record, Refusal, State,
+    TaskId,
 };
-use ht_machine::{Decision, apply, decide, last_behind, turn};
+use ht_machine::{Decision, apply, decide, last_behind, read, turn};
 use ht_models::Models;
 use ht_people::Directory;
 use ht_samples::{MODELS, PEOPLE};
@@ -239,6 +240,20 @@ fn a_turn_is_planned(rt: HostRuntime) -> Result<(), Fail> {
     outcome_of(rt.alloc(), &mut tables, "1000 dan create timed")?;
     let mut plan = Plan::begin(rt.alloc())?;
     assert_eq!(rt; turn(rt.alloc(), &tables, &mut plan, Moment(11_000))?, 2);
+    Ok(())
+}
+
+#[test]
+fn a_sheet_is_read(rt: HostRuntime) -> Result<(), Fail> {
+    let mut tables = tables_of(rt.alloc())?;
+    outcome_of(rt.alloc(), &mut tables, "1000 dan create solo")?;
+    let dan = Name::of(b"dan").ok_or("a name")?;
+    let reply = read(rt.alloc(), &tables, dan, &Query::Sheet(TaskId(1)))?;
+    let Answer::Sheet(sheet) = &reply.answer else {
+        return Err(Fail::from("another answer"));
+    };
+    let sheet = sheet.as_sheet();
+    assert!(rt; reply.taken == 0 && sheet.task == TaskId(1) && sheet.state == State::Reserved);
     Ok(())
 }
 

@@ -3,7 +3,7 @@ use Rattle.ht_base.specs.Moment.{last_moment}
 use Rattle.ht_tree.specs.Tables.{TablesOf}
 use Rattle.ht_desk.proofs.Judged.{left_valid}
 use Rattle.ht_desk.proofs.Staged.{not_of_a_disk, staged_by}
-use Rattle.ht_desk.proofs.staging.stage.Goals as goal
+use Rattle.ht_desk.proofs.staging.stage_change.Goals as goal
 
 pub write-requires : goal.write-requires
 write-requires c =

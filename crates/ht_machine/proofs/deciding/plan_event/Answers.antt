@@ -13,13 +13,12 @@ use Rattle.ht_machine.proofs.deciding.plan_event.Goals as goal
 use Rattle.ht_tree.specs.Soundness.{IsSound}
 use Rattle.ht_tree.specs.Tables.{TablesOf}
 
-pub returns-in_ok-answer-in-Read : goal.returns-in_ok-answer-in-Read
-returns-in_ok-answer-in-Read c =
+pub returns-in_ok-reply-in-Read : goal.returns-in_ok-reply-in-Read
+returns-in_ok-reply-in-Read c =
     let t = c.args.tables.now.tables in
-    let reply : Reply = record { taken = 0; answer = c.in_ok-answer-in-Read.answer } in
-    let D : Event → Type 0 = λ e. Decides t e None reply t in
+    let D : Event → Type 0 = λ e. Decides t e None c.in_ok-reply-in-Read.reply t in
     record {
       after = t;
-      decides = subst D (sym c.in-Read.is) ((refl, refl), ap reply_of c.in_ok-answer-in-Read.ensures);
+      decides = subst D (sym c.in-Read.is) ((refl, refl), c.in_ok-reply-in-Read.ensures);
       leaves = read_leaves t c.args.plan.now c.requires.plan c.last-last.ensures.sound;
     }
