@@ -1,6 +1,6 @@
 -- What writes behind a closed gate and over it leave, whole or torn.
-use Rattle.std.proofs.Common.{◌≡◌, ◌≢◌, ◌⊎◌, inl, inr, ⊎_elim, ℕ, suc, ◌+◌, ◌≤◌, List, [], ◌∷◌, ◌++◌, length, take, drop, get_or, refl, sym, ◌∙◌, ap, arith, append_assoc, length-append, take-append-drop}
-use Rattle.std.proofs.lemmas.List.{take_at, drop_at, drop_more}
+use Rattle.std.proofs.Common.{◌≡◌, ◌≢◌, ◌⊎◌, inl, inr, ⊎_elim, ℕ, suc, ◌+◌, ◌≤◌, List, [], ◌∷◌, ◌++◌, length, take, drop, get_or, min, replicate, ◌-◌, refl, sym, ◌∙◌, ap, arith, append_assoc, length-append, take-append-drop}
+use Rattle.std.proofs.lemmas.List.{take_at, drop_at, drop_more, length-take-le, length-replicate, take-append-le, take-take}
 use Rattle.std.proofs.lemmas.Bool.{cases_eq}
 use Rattle.ht_outside.proofs.TornWrites.{Holds-within, Torn-within}
 use Rattle.ht_outside.specs.Disks.{Holds, Torn}
@@ -18,7 +18,31 @@ front_stays xs gate rest d c at place split before =
 pub reaches : (xs : List ℕ) (gate : ℕ) (rest d : List ℕ) → d ≡ xs ++ gate ∷ rest → length xs + 1 ≤ length d
 reaches xs gate rest d split = omega (arith, ap length split ∙ length-append xs (gate ∷ rest))
 
--- a write behind the closed gate, in any torn form, leaves the bodies. So does what lengthens the file
+-- a write somewhere behind the closed gate, in any torn form, leaves the bodies
+pub torn_past : (xs : List (List ℕ)) (d c : List ℕ) (at n : ℕ) → length (front xs) + 1 ≤ at → Rests xs d → Torn at n d c → Rests xs c
+torn_past xs d c at n past r torn =
+    let from : ℕ = length (front xs) + 1 in
+    let first : from ≤ min at (length d) = omega (arith, reaches (front xs) r.gate r.rest d r.split, past) in
+    let before : take from c ≡ take from d =
+    sym (take-take from (min at (length d)) c first) ∙ ap (take from) torn.before ∙ take-take from (min at (length d)) d first in
+    record { gate = r.gate; rest = drop from c; split = front_stays (front xs) r.gate r.rest d c from refl r.split before; closed = r.closed }
+
+-- what lengthens the file leaves the bodies
+pub lengthened : (xs : List (List ℕ)) (d c : List ℕ) (at : ℕ) → length (front xs) + 1 ≤ at → Rests xs d → Holds at [] d c → Rests xs c
+lengthened xs d c at past r holds =
+    let from : ℕ = length (front xs) + 1 in
+    let filler : List ℕ = replicate (at - length d) 0 in
+    let within : from ≤ length d = reaches (front xs) r.gate r.rest d r.split in
+    let long : at ≤ length (d ++ filler) = omega (arith, length-append d filler, length-replicate {A = ℕ} (at - length d) 0) in
+    let start : List ℕ = take at (d ++ filler) in
+    let size : length start ≡ at = length-take-le at (d ++ filler) long in
+    let is : c ≡ (start ++ []) ++ drop (at + 0) d = holds in
+    let before : take from c ≡ take from d =
+    ap (take from) is ∙ take-append-le from (start ++ []) (drop (at + 0) d) (omega (arith, length-append start [], size, past))
+    ∙ take-append-le from start [] (omega (arith, size, past)) ∙ take-take from at (d ++ filler) past ∙ take-append-le from d filler within in
+    record { gate = r.gate; rest = drop from c; split = front_stays (front xs) r.gate r.rest d c from refl r.split before; closed = r.closed }
+
+-- a write right behind it, in any torn form, leaves the bodies. So does what lengthens the file
 pub torn_behind : (xs : List (List ℕ)) (d c : List ℕ) (at n : ℕ) → at ≡ length (front xs) + 1 → Rests xs d → Torn at n d c → Rests xs c
 torn_behind xs d c at n place r torn =
     let within : at ≤ length d = omega (arith, reaches (front xs) r.gate r.rest d r.split, place) in

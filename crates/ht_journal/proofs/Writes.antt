@@ -4,7 +4,7 @@ use Rattle.std.specs.List.{AllByRecursion}
 use Rattle.std.proofs.lemmas.List.{length_push, take_at, drop_at, drop-take, take-take, set_at}
 use Rattle.ht_outside.specs.Disks.{Both, Holds, Torn, Follows, Only, written}
 use Rattle.ht_journal.specs.declared.limits.TheConstants.{LONGEST_BODY}
-use Rattle.ht_journal.specs.Files.{IsAppended, frame, front, Fit, Rests, Doubts, length_bytes}
+use Rattle.ht_journal.specs.Files.{IsPut, frame, front, Fit, Rests, Doubts, length_bytes}
 use Rattle.ht_journal.specs.Parts.{Stands, Reads}
 use Rattle.ht_journal.proofs.Frames.{contents_rests, length-front_push, length-length_bytes, length-frame}
 use Rattle.ht_journal.proofs.Tearing.{torn_behind, held_behind, torn_gate, held_gate, either}
@@ -94,11 +94,11 @@ module _ (xs : List (List ℕ)) (body : List ℕ) (at : ℕ) (place : at ≡ len
   pub file_opened : (old new : Option (List ℕ)) → IfSome old (Doubts xs body []) → Both (Holds at (1 ∷ [])) old new → IfSome new (Rests (xs ++ body ∷ []))
   file_opened old new told both = both_told _ old new (Doubts xs body []) (Rests (xs ++ body ∷ [])) both told (λ d c r holds. held_gate xs body [] d c at place r holds)
 
--- both writes of an append
-pub appended : (at : ℕ) (body piece : List ℕ) (o m n : Option (List ℕ)) → piece ≡ frame body ++ 0 ∷ [] → Both (Holds at piece) o m → Both (Holds (at - 1) (1 ∷ [])) m n → Both (IsAppended at body) o n
-appended at body piece None None None is a b = tt
-appended at body piece None None (Some new) is a b = b
-appended at body piece None (Some mid) n is a b = absurd a
-appended at body piece (Some old) None n is a b = absurd a
-appended at body piece (Some old) (Some mid) None is a b = b
-appended at body piece (Some old) (Some mid) (Some new) is a b = b ∙ ap (written (at - 1) (1 ∷ [])) (a ∙ ap (λ (p : List ℕ). written at p old) is)
+-- both writes of a body
+pub put : (at : ℕ) (body piece : List ℕ) (o m n : Option (List ℕ)) → piece ≡ frame body ++ 0 ∷ [] → Both (Holds at piece) o m → Both (Holds (at - 1) (1 ∷ [])) m n → Both (IsPut at body) o n
+put at body piece None None None is a b = tt
+put at body piece None None (Some new) is a b = b
+put at body piece None (Some mid) n is a b = absurd a
+put at body piece (Some old) None n is a b = absurd a
+put at body piece (Some old) (Some mid) None is a b = b
+put at body piece (Some old) (Some mid) (Some new) is a b = b ∙ ap (written (at - 1) (1 ∷ [])) (a ∙ ap (λ (p : List ℕ). written at p old) is)

@@ -1,5 +1,6 @@
 -- Worked examples of the definitions. A wrong reading of one fails the check.
-use Rattle.std.specs.Prelude.{◌≡◌, [], ◌∷◌, ◌++◌, replicate, Ok, Err, refl}
+use Rattle.std.specs.Prelude.{◌≡◌, [], ◌∷◌, ◌++◌, replicate, Ok, Err, None, Some, refl}
+use Rattle.ht_journal.specs.Ahead.{far, reached}
 use Rattle.ht_journal.specs.Files.{header, length_bytes, length_at, bodies_from, contents, journal_length}
 
 -- a file of nine bytes has no body, whatever it holds
@@ -62,3 +63,23 @@ one_body_of_26_bytes = refl
 
 one_body_of_437_bytes : journal_length (replicate 437 0 ∷ []) ≡ 451
 one_body_of_437_bytes = refl
+
+-- a file is lengthened by 64 KiB more than a body needs, and not for those that stay within that
+the_first_body_ahead : far (Some 0) 4000000 15 ≡ 65551
+the_first_body_ahead = refl
+
+reached_for_the_first : reached (Some 0) 4000000 15 ≡ Some 65551
+reached_for_the_first = refl
+
+a_body_that_ends_where_the_file_does : far (Some 65551) 4000000 65551 ≡ 0
+a_body_that_ends_where_the_file_does = refl
+
+a_body_that_ends_behind : far (Some 65551) 4000000 65552 ≡ 131088
+a_body_that_ends_behind = refl
+
+-- never past the limit
+ahead_to_the_limit : far (Some 0) 1000 15 ≡ 1000
+ahead_to_the_limit = refl
+
+not_ahead : far None 4000000 15 ≡ 0
+not_ahead = refl

@@ -87,7 +87,11 @@ pub record Doubts (bodies : List (List ℕ)) (body : List ℕ) (more : List (Lis
   pub rest : List ℕ
   pub split : file ≡ front bodies ++ gate ∷ (frame body ++ (frames more ++ 0 ∷ rest))
 
--- A body was appended behind the closed gate of a journal of this length: its frame stands there, with a gate 0 behind, and the
+-- A body was put behind the closed gate of a journal of this length: its frame stands there, with a gate 0 behind, and the
 -- gate holds 1. No other byte changed
-abbrev pub IsAppended : ℕ → List ℕ → List ℕ → List ℕ → Type 0
-IsAppended place body old new = new ≡ written (place - 1) (1 ∷ []) (written place (frame body ++ 0 ∷ []) old)
+abbrev pub IsPut : ℕ → List ℕ → List ℕ → List ℕ → Type 0
+IsPut place body old new = new ≡ written (place - 1) (1 ∷ []) (written place (frame body ++ 0 ∷ []) old)
+
+-- It was appended: the file was lengthened so far by zeros, where it was shorter, and the body was put
+abbrev pub IsAppended : ℕ → ℕ → List ℕ → List ℕ → List ℕ → Type 0
+IsAppended far place body old new = IsPut place body (written far [] old) new

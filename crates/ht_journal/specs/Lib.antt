@@ -1,3 +1,4 @@
+pub mod Ahead
 pub mod Bodies
 pub mod Examples
 pub mod Files

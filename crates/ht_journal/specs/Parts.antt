@@ -7,7 +7,7 @@
 --   a sync                                        the same                                   the same
 --
 -- A failure in one of the last two parts leaves a doubt, since the gate may hold 1 or may not. One in the first two
--- leaves none.
+-- leaves none. Where the file is lengthened before (Ahead.antt), that is a part more, as the first two are.
 use Rattle.std.specs.Prelude.{◌≡◌, ◌⊎◌, ℕ, List, [], ◌∷◌, ◌++◌, Option, Some, None, Ok}
 use Rattle.ht_journal.specs.Files.{Doubts, Rests, contents}
 

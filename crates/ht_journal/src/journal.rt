@@ -2,6 +2,7 @@ ghost use Rattle.std.specs.Prelude.{◌≡◌, ◌≢◌, ◌+◌, ◌-◌, ◌^
 ghost use Rattle.ht_outside.specs.Causes.{Rose};
 ghost use Rattle.ht_outside.specs.Disks.{Both};
 ghost use Rattle.ht_outside.specs.Moments.{LeavesOnly};
+ghost use Rattle.ht_journal.specs.Ahead.{far, reached};
 ghost use Rattle.ht_journal.specs.Bodies.{IsNth};
 ghost use Rattle.ht_journal.specs.Files.{IsAppended, contents};
 ghost use Rattle.ht_journal.specs.Keeping.{IsKept, doubt_of};
@@ -124,8 +125,11 @@ impl<'a, D: Disk> JournalOver<'a, D, JournalState> {
             × IsKept D.Disk bodies self.new.state self.new.disk.now }
         ensures doubt { IfSome (doubt_of self.new.state)
             (λ doubt. (doubt ≡ body.now) × (result ≡ Err AppendRefusal.Store)) }
-        ensures written { OnOk result (Both (IsAppended self.old.state.length body.now)
+        ensures written { OnOk result (Both (IsAppended (far self.old.state.ahead self.old.state.limit
+            (self.old.state.length + 5 + length body.now)) self.old.state.length body.now)
             (D.gives self.old.disk.now) (D.gives self.new.disk.now)) }
+        ensures ahead { OnOk result (self.new.state.ahead ≡ reached self.old.state.ahead
+            self.old.state.limit (self.old.state.length + 5 + length body.now)) }
         ensures limit { self.new.state.limit ≡ self.old.state.limit }
         ensures refused { result ≢ Err AppendRefusal.Store → IsErr result
             → (self.new.state ≡ self.old.state) × (self.new.disk.now ≡ self.old.disk.now) }

@@ -201,5 +201,6 @@ pub fn open<D: Disk>(alloc: Global, disk: &mut D, limit: u64) -> Result<JournalS
         count,
         limit,
         doubt: None,
+        ahead: None,
     })
 }

@@ -32,6 +32,8 @@ pub struct JournalState {
     pub(crate) limit: u64,
     // The length of the body in doubt.
     pub(crate) doubt: Option<u32>,
+    // How far the file was lengthened, where it is lengthened ahead.
+    pub(crate) ahead: Option<u64>,
     ghost sized: { vec_len buffer ≡ LONGEST_BODY + 5 },
     ghost limited: { limit ≤ 2 ^ 32 },
     ghost reach: { length ≤ 2 ^ 32 },

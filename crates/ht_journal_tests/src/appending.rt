@@ -125,6 +125,38 @@ fn a_journal_has_a_limit(rt: HostRuntime) -> Result<(), Fail> {
     Ok(())
 }
 
+// Opens a journal whose file is lengthened ahead, and appends two bodies.
+fn append_two_ahead<D: Disk>(alloc: Global, disk: &mut D, limit: u64) -> Result<(), JournalFault>
+    requires { limit ≤ 2 ^ 32 }
+{
+    let mut journal = open(alloc, disk, limit)?;
+    journal.lengthen_ahead(disk);
+    added(&mut journal, disk, b"a");
+    added(&mut journal, disk, b"b");
+    Ok(())
+}
+
+// The calls of the disk: 1 to 4 begin the file, 5 lengthens it, 6 to 9 append.
+#[test]
+fn a_file_is_lengthened_ahead(rt: HostRuntime) -> Result<(), Fail> {
+    let alloc = rt.alloc();
+    let rows: [(u64, &[u32], &str, u64); 4] = [
+        (LIMIT, &[], "a.b.", 65_551),
+        (1_000, &[], "a.b.", 1_000),
+        (LIMIT, &[5], "b.", 65_551),
+        (LIMIT, &[6], "b.", 65_551),
+    ];
+    for (limit, failing, bodies, length) in rows {
+        let mut disk = disk(alloc, b"", failing)?;
+        if limit <= LIMIT {
+            append_two_ahead(alloc, &mut disk, limit)?;
+        }
+        assert_eq!(rt; disk.len()?, length);
+        assert_eq!(rt; found(alloc, &mut disk)?.as_slice(), bodies.as_bytes());
+    }
+    Ok(())
+}
+
 // The bytes of a disk's file, of which there are at most 64.
 pub(crate) fn bytes_of<D: Disk>(alloc: Global, disk: &mut D) -> Result<Vec<u8>, Fail> {
     let mut into = [0; 64];

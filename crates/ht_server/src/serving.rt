@@ -84,6 +84,8 @@ fn serve_at<D: Disk + Send, C: Clock + Send, L: Door + Send, K: Sink, R: Threads
     if door.listen(port).is_err() {
         return ServiceEnd::Door;
     }
+    let mut desk = desk;
+    desk.lengthen_ahead(&*disk);
     let mut ending = WorkEnd::Done;
     let machine = Machine { disk, state: desk };
     let machine = run_office(rt, alloc, crew, machine, door, clock, &mut ending);

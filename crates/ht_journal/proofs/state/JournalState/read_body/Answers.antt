@@ -1,5 +1,5 @@
-use Rattle.std.proofs.Common.{◌≡◌, ◌+◌, ◌-◌, take, drop, IfSome, ◌∙◌, ap, refl, arith}
-use Rattle.ht_journal.specs.Bodies.{HasFront, IsBehind, IsNth}
+use Rattle.std.proofs.Common.{◌≡◌, ◌+◌, ◌-◌, take, drop, ◌∙◌, ap, refl, arith}
+use Rattle.ht_journal.specs.Bodies.{HasFront, IsBehind}
 use Rattle.ht_journal.specs.Keeping.{doubt_of}
 use Rattle.ht_journal.specs.Pieces.{IsPiece, IsRead}
 use Rattle.ht_journal.proofs.Kept.{kept_on, told_piece}
