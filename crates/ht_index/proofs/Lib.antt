@@ -1,6 +1,11 @@
+mod FirstBits
+mod Gathered
+mod Marking
 mod Members
 mod Places
 pub mod PublicLaws
+mod Rooms
+mod Setting
 mod Settling
 mod Slots
-mod Splitting
+mod TasksLeft

@@ -1,5 +1,5 @@
 -- Which list there is once tasks have moved.
-use Rattle.std.proofs.Common.{◌≡◌, ℕ, ◌==◌, ◌&&◌, ◌||◌, Bool, true, false, if◌then◌else◌, List, [], ◌∷◌, fold, refl, sym, ap, subst, ◌∙◌, inl, inr, eq-eqb}
+use Rattle.std.proofs.Common.{◌≡◌, ℕ, ◌==◌, ◌&&◌, Bool, true, false, if◌then◌else◌, List, [], ◌∷◌, fold, refl, sym, ap, subst, ◌∙◌, inl, inr, eq-eqb}
 use Rattle.std.specs.List.{AllByRecursion, list_any}
 use Rattle.std.proofs.lemmas.Bool.{cases_eq, eqb-true}
 use Rattle.ht_base.specs.declared.task_id.TaskId.{TaskId}
@@ -68,31 +68,6 @@ module _ (key : ℕ) (wanted : ℕ → Bool) where
           both true false e = absurd cc
           both false b e = absurd cc
       at n false is none = other_moved n m tasks is ∙ others n (rw is none)
-
-  -- of each task: where it moved it is there if it is wanted, and else as it was
-  pub moved_parts : (moves : List Move) (tasks : List TaskId) → Ascends tasks → SayWhether key wanted moves → Ascends (fold (moved key) tasks moves) × ((n : ℕ) → list_any (is_of key n) moves ≡ true → has n (fold (moved key) tasks moves) ≡ wanted n) × ((n : ℕ) → list_any (is_of key n) moves ≡ false → has n (fold (moved key) tasks moves) ≡ has n tasks)
-  moved_parts [] tasks up say = (up, (λ n e. let no : false ≡ true = e in absurd cc), λ n e. refl)
-  moved_parts (m ∷ moves) tasks up say =
-      let rest = moved_parts moves (moved key tasks m) (ascends_moved m tasks up) say.1 in
-      (rest.0, (λ n e. came n (list_any (is_of key n) moves) (is_of key n m) refl refl e rest.1 rest.2), λ n e. let apart = parts (is_of key n m) (list_any (is_of key n) moves) e in rest.2 n apart.1 ∙ other_moved n m tasks apart.0)
-    where
-      parts : (a b : Bool) → (a || b) ≡ false → (a ≡ false) × (b ≡ false)
-      parts true b e = absurd cc
-      parts false b e = (refl, e)
-
-      both : (a b : Bool) → (a && b) ≡ true → (a ≡ true) × (b ≡ true)
-      both true true e = (refl, refl)
-      both true false e = absurd cc
-      both false b e = absurd cc
-
-      came : (n : ℕ) (later now : Bool) → list_any (is_of key n) moves ≡ later → is_of key n m ≡ now → (is_of key n m || list_any (is_of key n) moves) ≡ true → ((i : ℕ) → list_any (is_of key i) moves ≡ true → has i (fold (moved key) (moved key tasks m) moves) ≡ wanted i) → ((i : ℕ) → list_any (is_of key i) moves ≡ false → has i (fold (moved key) (moved key tasks m) moves) ≡ has i (moved key tasks m)) → has n (fold (moved key) (moved key tasks m) moves) ≡ wanted n
-      came n true now e f any first second = first n e
-      came n false true e f any first second =
-          let g = both (m.key == key) (m.task.0 == n) f in
-          let k : m.key ≡ key = eqb-true m.key key g.0 in
-          let t : m.task.0 ≡ n = eqb-true m.task.0 n g.1 in
-          second n e ∙ ap (λ i. has i (moved key tasks m)) (sym t) ∙ it_moved m tasks (sym k) (say.0 k) ∙ ap wanted t
-      came n false false e f any first second = let no : false ≡ true = sym (ap (λ b. b || list_any (is_of key n) moves) f ∙ e) ∙ any in absurd cc
 
   -- so they are the list of those that are wanted
   pub made : (moves : List Move) (tasks all : List TaskId) → Ascends tasks → Ascends all → ((n : ℕ) → has n all ≡ wanted n) → SayWhether key wanted moves → OthersStand tasks moves → fold (moved key) tasks moves ≡ all

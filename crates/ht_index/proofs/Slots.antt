@@ -22,11 +22,11 @@ at_other (y ∷ xs) zero (suc p) x other = refl
 at_other (y ∷ xs) (suc i) zero x other = refl
 at_other (y ∷ xs) (suc i) (suc p) x other = at_other xs i p x (λ e. other (ap (λ n. suc n) e))
 
-pub part_of : {B : Type 0} (f : ListedOf → B) (d : B) (lists : List ListedOf) (p : ℕ) (l : ListedOf) → slice_get lists p ≡ Some l → option_map_or f (slice_get lists p) d ≡ f l
+pub part_of : {A B : Type 0} (f : A → B) (d : B) (lists : List A) (p : ℕ) (l : A) → slice_get lists p ≡ Some l → option_map_or f (slice_get lists p) d ≡ f l
 part_of f d lists p l at = ap (λ o. option_map_or f o d) at
 
 -- a part of the list at a place, of which the list changes
-module _ {B : Type 0} (f : ListedOf → B) (d : B) (lists : List ListedOf) (p : ℕ) (l : ListedOf) where
+module _ {A B : Type 0} (f : A → B) (d : B) (lists : List A) (p : ℕ) (l : A) where
   pub part_here : (k : ℕ) → p < length lists → k ≡ p → option_map_or f (slice_get (slice_set lists p l) k) d ≡ f l
   part_here k low e = ap (λ n. option_map_or f (slice_get (slice_set lists p l) n) d) e ∙ ap (λ o. option_map_or f o d) (at_same lists p l low)
 
@@ -34,7 +34,7 @@ module _ {B : Type 0} (f : ListedOf → B) (d : B) (lists : List ListedOf) (p : 
   part_there k other = ap (λ o. option_map_or f o d) (at_other lists k p l other)
 
   -- and which stays in this
-  pub part_kept : (old : ListedOf) → slice_get lists p ≡ Some old → f l ≡ f old → p < length lists → (k : ℕ) → option_map_or f (slice_get (slice_set lists p l) k) d ≡ option_map_or f (slice_get lists k) d
+  pub part_kept : (old : A) → slice_get lists p ≡ Some old → f l ≡ f old → p < length lists → (k : ℕ) → option_map_or f (slice_get (slice_set lists p l) k) d ≡ option_map_or f (slice_get lists k) d
   part_kept old at same low k = elim (cases_eq k p) [
     | inl e ↦ part_here k low e ∙ same ∙ sym (ap (λ n. option_map_or f (slice_get lists n) d) e ∙ ap (λ o. option_map_or f o d) at)
     | inr other ↦ part_there k other
@@ -83,8 +83,11 @@ moved_here k tasks m e = ap (λ b. if b then (if m.comes then with_task m.task t
 
 -- ---- as they are seen
 
+pub seen_by : {A : Type 0} (f : A → List TaskId) (k : ℕ) (kept : List A) (moves : List Move) → list_of k (record { lists = map f kept; moves = moves }) ≡ option_map_or f (slice_get kept k) []
+seen_by f zero [] moves = refl
+seen_by f (suc k) [] moves = refl
+seen_by f zero (l ∷ kept) moves = refl
+seen_by f (suc k) (l ∷ kept) moves = seen_by f k kept moves
+
 pub seen : (k : ℕ) (lists : List ListedOf) (moves : List Move) → list_of k (record { lists = map (λ l. l.tasks) lists; moves = moves }) ≡ list_at k lists
-seen zero [] moves = refl
-seen (suc k) [] moves = refl
-seen zero (l ∷ lists) moves = refl
-seen (suc k) (l ∷ lists) moves = seen k lists moves
+seen k lists moves = seen_by (λ (l : ListedOf). l.tasks) k lists moves

@@ -1,6 +1,9 @@
 pub mod Examples
 pub mod Indexes
 pub mod Kept
-pub mod KeptShort
+pub mod KeptRests
+pub mod KeptSets
+pub mod KeptTaskSets
 pub mod Listed
-pub mod Short
+pub mod SetMoves
+pub mod Sets

@@ -66,21 +66,3 @@ fn grow(lists: &mut Vec<Listed>, key: u32) -> Result<(), Memory>
     }
     Ok(())
 }
-
-// Puts a list in the place of that of a key, with the room that was asked for there.
-pub(crate) fn replace_at(
-    lists: &mut Vec<Listed>,
-    key: u32,
-    tasks: Vec<TaskId>,
-) -> Result<(), Memory>
-    requires { Ascends tasks.items }
-    ensures here { OnOk result (list_at key lists.new.items ≡ tasks.items) }
-    ensures refused { OnErr result
-        ((k : ℕ) → list_at k lists.new.items ≡ list_at k lists.old.items) }
-    ensures others { (k : ℕ) → (k ≡ key → ⊥)
-        → list_at k lists.new.items ≡ list_at k lists.old.items }
-    ensures spare { (k : ℕ) → spare_at k lists.new.items ≡ spare_at k lists.old.items }
-{
-    grow(lists, key)?;
-    lists[key as usize].replace(tasks)
-}

@@ -2,7 +2,7 @@ ghost use Rattle.std.specs.Prelude.{ℕ, ◌≡◌, [], fold, OnErr, OnOk};
 ghost use Rattle.ht_index.specs.Indexes.{Ascends, list_of, moved};
 
 use crate::Move;
-use crate::asking::{ask_all, give_all_back, replace_at};
+use crate::asking::{ask_all, give_all_back};
 use crate::listed::Listed;
 use crate::moving::move_all;
 use ht_base::{Memory, TaskId};
@@ -50,17 +50,6 @@ impl Index {
             Some(list) => list.as_slice(),
             None => &[],
         }
-    }
-
-    /// Puts a list in the place of that of a key.
-    pub fn replace(&mut self, key: u32, tasks: Vec<TaskId>) -> Result<(), Memory>
-        requires { Ascends tasks.items }
-        ensures here { OnOk result (list_of key self.new ≡ tasks.items) }
-        ensures refused { OnErr result ((k : ℕ) → list_of k self.new ≡ list_of k self.old) }
-        ensures others { (k : ℕ) → (k ≡ key → ⊥) → list_of k self.new ≡ list_of k self.old }
-        ensures moves { self.new.moves ≡ self.old.moves }
-    {
-        replace_at(&mut self.lists, key, tasks)
     }
 
     /// No moves are prepared any more, and their room is free.

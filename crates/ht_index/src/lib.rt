@@ -1,17 +1,22 @@
 //! Which tasks stand under a key: for each key the list of them, ascending by number, which changes
-//! without memory where room was made.
+//! without memory where room was made. A list is kept as it is, or as a set of bits.
 #![tactic(auto)]
 
 mod asking;
-mod bounds;
 mod finding;
 mod index;
 mod listed;
 mod moves;
 mod moving;
-mod short_index;
+mod rest;
+mod set_moves;
+mod task_sets;
+mod tasks;
+mod words;
 
 pub use finding::put_task;
 pub use index::Index;
 pub use moves::Move;
-pub use short_index::ShortIndex;
+pub use rest::Rest;
+pub use task_sets::TaskSets;
+pub use tasks::Tasks;

@@ -41,19 +41,6 @@ impl Listed {
         &self.tasks
     }
 
-    /// Puts these in the place of all, with the same room.
-    pub(crate) fn replace(&mut self, tasks: Vec<TaskId>) -> Result<(), Memory>
-        requires { Ascends tasks.items }
-        ensures ok { OnOk result (self.new.tasks ≡ tasks.items) }
-        ensures err { OnErr result (self.new.tasks ≡ self.old.tasks) }
-        ensures spare { self.new.spare ≡ self.old.spare }
-    {
-        let mut tasks = tasks;
-        tasks.reserve(self.room as usize)?;
-        self.tasks = tasks;
-        Ok(())
-    }
-
     /// Asks for room for one more.
     #[inline(always)]
     pub(crate) fn ask(&mut self) -> Result<(), Memory>

@@ -1,7 +1,6 @@
 -- The tasks that are listed are found among those in which the person has a role.
-use Rattle.std.proofs.Common.{◌≡◌, ℕ, ◌+◌, ◌-◌, ◌<◌, ◌≤◌, suc, Bool, true, false, cond, ◌&&◌, ◌||◌, not, List, [], ◌∷◌, ◌++◌, drop, filter, fold, length, map, slice_get, take, Option, Some, None, refl, ap, sym, subst, ◌∙◌, arith}
+use Rattle.std.proofs.Common.{◌≡◌, ℕ, ◌+◌, ◌<◌, ◌≤◌, suc, Bool, true, false, cond, ◌&&◌, ◌||◌, not, List, [], ◌∷◌, ◌++◌, filter, fold, length, map, slice_get, take, Option, Some, None, refl, ap, sym, subst, ◌∙◌, arith}
 use Rattle.std.specs.List.{AllByRecursion, filter_map}
-use Rattle.std.proofs.lemmas.List.{length-drop, take-append-drop, take_all}
 use Rattle.std.proofs.lemmas.List.Elements.{All-filter, filter-append, filter_map-append, recursion_from_All}
 use Rattle.std.proofs.lemmas.List.Sums.{fold-append}
 use Rattle.ht_base.specs.declared.task_id.TaskId.{TaskId}
@@ -20,9 +19,8 @@ use Rattle.ht_base.specs.State.{contains_state, is_final}
 use Rattle.ht_rules.specs.Sets.{states_of}
 use Rattle.ht_lists.specs.Keys.{key_of}
 use Rattle.ht_lists.specs.Lists.{has_task_role, is_listed, is_shown}
-use Rattle.ht_lists.specs.Offering.{asked_keys, is_asked, is_operator, is_owner, is_live}
-use Rattle.ht_tree.specs.ListedBy.{has_task_role as has_role, ids_by, is_person, live_rows_of, owned_by, rows_of}
-use Rattle.ht_tree.specs.Open.{is_live_task}
+use Rattle.ht_lists.specs.Offering.{asked_keys, asked_of_live, is_asked, is_operator, is_owner, is_live}
+use Rattle.ht_tree.specs.ListedBy.{has_task_role as has_role, ids_by, is_live_of, is_person, live_rows_of, owned_by, rows_of}
 use Rattle.ht_tree.specs.declared.row.Row.{Row}
 use Rattle.ht_tree.specs.Roles.{roles_in}
 use Rattle.ht_tree.specs.Soundness.{IsSound}
@@ -149,51 +147,30 @@ live_is which.Live live s = implied (not (is_final s)) (not (is_final s)) (λ e.
 live_is which.All live s = no (sym live)
 live_is (which.Only one) live s = implied (not (is_final s)) (contains_state (states_of (one ∷ [])) s) (only_live one live s)
 
-live_asked : (t : TablesOf) (person : ℕ) (role : Option Role) (which : Which) → IsSound t → is_operator role ≡ false → is_live which ≡ true
-    → asked_keys t person role which (live_rows_of person t.rows) ≡ map key_of (filter (is_listed t person role which) t.rows)
+-- nor is it asked of one that isn't final
+left_is : (which : Which) → is_live which ≡ true → (s : State) → (not (is_final s) && is_shown (asked_of_live which) s) ≡ is_shown which s
+left_is which.Live live s = true_behind (not (is_final s))
+  where
+    true_behind : (a : Bool) → (a && true) ≡ a
+    true_behind true = refl
+    true_behind false = refl
+left_is which.All live s = no (sym live)
+left_is (which.Only one) live s = live_is (which.Only one) live s
+
+pub live_asked : (t : TablesOf) (person : ℕ) (role : Option Role) (which : Which) → IsSound t → is_operator role ≡ false → is_live which ≡ true
+    → asked_keys t person role (asked_of_live which) (live_rows_of person t.rows) ≡ map key_of (filter (is_listed t person role which) t.rows)
 live_asked t person role which sound given live =
-    ap (map key_of) (among t (λ row. not (is_final row.state) && has_role person row) (is_asked t person role which) (is_listed t person role which) sound (same role given))
+    ap (map key_of) (among t (λ row. not (is_final row.state) && has_role person row) (is_asked t person role (asked_of_live which)) (is_listed t person role which) sound (same role given))
   where
     same : (role : Option Role) → is_operator role ≡ false → (row : Row)
-        → ((not (is_final row.state) && has_role person row) && is_asked t person role which row) ≡ is_listed t person role which row
+        → ((not (is_final row.state) && has_role person row) && is_asked t person role (asked_of_live which) row) ≡ is_listed t person role which row
     same None given row =
-        crossed (not (is_final row.state)) (has_role person row) (is_shown which row.state)
-        ∙ ap (λ b. b && has_role person row) (live_is which live row.state)
+        crossed (not (is_final row.state)) (has_role person row) (is_shown (asked_of_live which) row.state)
+        ∙ ap (λ b. b && has_role person row) (left_is which live row.state)
     same (Some role) given row =
-        sides (not (is_final row.state)) (has_role person row) (is_shown which row.state) (contains_role (roles_in t row person) role)
-        ∙ ap (λ b. b && (has_role person row && contains_role (roles_in t row person) role)) (live_is which live row.state)
+        sides (not (is_final row.state)) (has_role person row) (is_shown (asked_of_live which) row.state) (contains_role (roles_in t row person) role)
+        ∙ ap (λ b. b && (has_role person row && contains_role (roles_in t row person) role)) (left_is which live row.state)
         ∙ ap (λ b. is_shown which row.state && b) (implied (has_role person row) (contains_role (roles_in t row person) role) (in_role (roles_in t row person) role given))
-
--- a task that is final isn't asked for
-final_unasked : (t : TablesOf) (person : ℕ) (role : Option Role) (which : Which) → is_live which ≡ true → (row : Row) → not (is_final row.state) ≡ false → is_asked t person role which row ≡ false
-final_unasked t person None which live row final = sym (live_is which live row.state) ∙ ap (λ b. b && is_shown which row.state) final
-final_unasked t person (Some role) which live row final =
-    ap (λ b. b && contains_role (roles_in t row person) role) (sym (live_is which live row.state) ∙ ap (λ b. b && is_shown which row.state) final)
-
--- so it may stand among those that are looked at
-live_alone : (t : TablesOf) (person : ℕ) (role : Option Role) (which : Which) → is_live which ≡ true → (ids : List TaskId)
-    → filter (is_asked t person role which) (filter_map (λ id. task_row t id.0) (filter (is_live_task t.rows) ids)) ≡ filter (is_asked t person role which) (filter_map (λ id. task_row t id.0) ids)
-live_alone t person role which live [] = refl
-live_alone t person role which live (id ∷ ids) = at (task_row t id.0) refl (live_alone t person role which live ids)
-  where
-    test : Row → Bool
-    test = is_asked t person role which
-
-    shown : List TaskId → List Row
-    shown l = filter test (filter_map (λ i. task_row t i.0) l)
-
-    here : (row : Row) → task_row t id.0 ≡ Some row → (b : Bool) → not (is_final row.state) ≡ b → shown (filter (is_live_task t.rows) ids) ≡ shown ids → shown (filter (is_live_task t.rows) (id ∷ ids)) ≡ shown (id ∷ ids)
-    here row e true f rest = rw (e, f) (rw e (ap (λ l. cond (test row) (row ∷ l) l) rest))
-    here row e false f rest = rw (e, f) (rest ∙ sym (ap (λ b. cond b (row ∷ shown ids) (shown ids)) (final_unasked t person role which live row f)))
-
-    at : (o : Option Row) → task_row t id.0 ≡ o → shown (filter (is_live_task t.rows) ids) ≡ shown ids → shown (filter (is_live_task t.rows) (id ∷ ids)) ≡ shown (id ∷ ids)
-    at None e rest = rw e rest
-    at (Some row) e rest = here row e (not (is_final row.state)) refl rest
-
-pub open_asked : (t : TablesOf) (person : ℕ) (role : Option Role) (which : Which) (ids : List TaskId) → IsSound t → is_operator role ≡ false → is_live which ≡ true → filter (is_live_task t.rows) ids ≡ live_rows_of person t.rows
-    → asked_keys t person role which ids ≡ map key_of (filter (is_listed t person role which) t.rows)
-open_asked t person role which ids sound given live are =
-    sym (ap (map key_of) (live_alone t person role which live ids)) ∙ ap (asked_keys t person role which) are ∙ live_asked t person role which sound given live
 
 -- ---- one more is asked
 
@@ -214,32 +191,19 @@ pub walked_on : (b : BestOf) {c d : BestOf} (xs ys : List Key) {zs : List Key} �
 walked_on b xs ys on so_far is =
     on ∙ ap (λ e. fold with_key e ys) so_far ∙ sym (fold-append with_key b xs ys) ∙ ap (fold with_key b) (sym is)
 
--- ---- some tasks of a list were passed, and then one was offered
-
-all_behind : (m n : ℕ) (ids : List TaskId) → m ≡ length ids - n → take m (drop n ids) ≡ drop n ids
-all_behind m n ids is = take_all m (drop n ids) (omega (arith, length-drop n ids, is))
-
-pub fewer_behind : (m n : ℕ) (ids later : List TaskId) (id : TaskId) → m ≡ length ids - n → take m (drop n ids) ≡ id ∷ later → n + (length later + 1) ≡ length ids
-fewer_behind m n ids later id is behind =
-    let sizes = ap length (sym (all_behind m n ids is) ∙ behind) in
-    omega (arith, sizes, length-drop n ids)
+-- ---- a task was passed or offered, before others
 
 module _ (t : TablesOf) (person : ℕ) (role : Option Role) (which : Which) where
   abbrev keys : List TaskId → List Key
   keys ids = asked_keys t person role which ids
 
-  joined : (a b : BestOf) (xs ys : List TaskId) → b ≡ fold with_key a (keys xs) → fold with_key b (keys ys) ≡ fold with_key a (keys (xs ++ ys))
-  joined a b xs ys is =
-      ap (λ e. fold with_key e (keys ys)) is ∙ sym (fold-append with_key a (keys xs) (keys ys)) ∙ ap (fold with_key a) (sym (asked_append t person role which xs ys))
+  pub one_on : (a b : BestOf) (id : TaskId) (later : List TaskId) → b ≡ fold with_key a (asked_keys t person role which (id ∷ [])) → fold with_key b (asked_keys t person role which later) ≡ fold with_key a (asked_keys t person role which (id ∷ later))
+  one_on a b id later is =
+      ap (λ e. fold with_key e (keys later)) is ∙ sym (fold-append with_key a (keys (id ∷ [])) (keys later)) ∙ ap (fold with_key a) (sym (asked_append t person role which (id ∷ []) later))
 
-  pub passed_on : (a : BestOf) {b c : BestOf} (m n : ℕ) (ids later : List TaskId) (id : TaskId) → m ≡ length ids - n → take m (drop n ids) ≡ id ∷ later
-      → b ≡ fold with_key a (asked_keys t person role which (take n ids)) → c ≡ fold with_key b (asked_keys t person role which (id ∷ []))
-      → fold with_key c (asked_keys t person role which later) ≡ fold with_key a (asked_keys t person role which ids)
-  passed_on a {b} {c} m n ids later id is behind passed one =
-      joined b c (id ∷ []) later one
-      ∙ ap (λ l. fold with_key b (keys l)) (sym behind ∙ all_behind m n ids is)
-      ∙ joined a b (take n ids) (drop n ids) passed
-      ∙ ap (λ l. fold with_key a (keys l)) (take-append-drop n ids)
+  -- nothing is asked of it
+  pub none_on : (a : BestOf) (id : TaskId) (later : List TaskId) → asked_keys t person role which (id ∷ []) ≡ [] → fold with_key a (asked_keys t person role which later) ≡ fold with_key a (asked_keys t person role which (id ∷ later))
+  none_on a id later none = one_on a a id later (ap (fold with_key a) (sym none))
 
 -- the row behind so many is one more
 pub asked_row : (t : TablesOf) (person : ℕ) (role : Option Role) (which : Which) (i : ℕ) → i < length t.rows
@@ -265,6 +229,9 @@ few_rows person rows = omega (arith, length-map {A = Row} (λ r. r.task) (filter
 few_ids : (test : Row → Bool) (rows : List Row) → length (ids_by test rows) ≤ length rows
 few_ids test rows = omega (arith, length-map {A = Row} (λ r. r.task) (filter test rows), few_of test rows)
 
+pub few_live : (person : ℕ) (rows : List Row) → length (live_rows_of person rows) ≤ length rows
+few_live person rows = few_ids (is_live_of person) rows
+
 pub few_owned : (person : ℕ) (rows : List Row) → length (owned_by person rows) ≤ length rows
 few_owned person rows = few_ids (λ row. is_person person row.owner) rows
 
@@ -286,26 +253,3 @@ owned_asked t person (Some ActualOwner) which sound own =
     second : (a b : Bool) → (a && b) ≡ true → b ≡ true
     second true b e = e
     second false b e = no (sym e)
-
--- ---- how many
-
-total_of : (b : BestOf) (keys : List Key) → (fold with_key b keys).total ≡ b.total + length keys
-total_of b [] = omega arith
-total_of b (k ∷ keys) = let rest = total_of (with_key b k) keys in omega arith
-
-few_found : (t : TablesOf) (ids : List TaskId) → length (filter_map (λ id. task_row t id.0) ids) ≤ length ids
-few_found t [] = omega arith
-few_found t (id ∷ ids) = at (task_row t id.0) refl (few_found t ids)
-  where
-    at : (o : Option Row) → task_row t id.0 ≡ o → length (filter_map (λ i. task_row t i.0) ids) ≤ length ids → length (filter_map (λ i. task_row t i.0) (id ∷ ids)) ≤ suc (length ids)
-    at None e few = rw e (omega arith)
-    at (Some row) e few = rw e (omega arith)
-
-pub few_offered : (t : TablesOf) (person : ℕ) (role : Option Role) (which : Which) (ids : List TaskId) (b c : BestOf) → c ≡ fold with_key b (asked_keys t person role which ids) → c.total ≤ b.total + length ids
-few_offered t person role which ids b c is =
-    let rows = filter_map (λ (id : TaskId). task_row t id.0) ids in
-    let total = ap (λ (d : BestOf). d.total) is ∙ total_of b (asked_keys t person role which ids) in
-    let asked = length-map key_of (filter (is_asked t person role which) rows) in
-    let few = few_of (is_asked t person role which) rows in
-    let found = few_found t ids in
-    omega arith

@@ -1,5 +1,5 @@
 -- What is still asked of tasks in which a person is known to have a role.
-use Rattle.std.specs.Prelude.{ℕ, Bool, true, false, not, List, filter, filter_map, map, Option, Some, None}
+use Rattle.std.specs.Prelude.{ℕ, Bool, true, false, not, List, ◌∷◌, filter, filter_map, map, Option, Some, None}
 use Rattle.ht_base.specs.declared.query.Which.{Which}
 use Rattle.ht_base.specs.declared.query.Which.TheVariants as which
 use Rattle.ht_base.specs.declared.role.Role.{Role}
@@ -27,6 +27,17 @@ abbrev pub is_live : Which → Bool
 is_live which.Live = true
 is_live which.All = false
 is_live (which.Only one) = not (is_final one)
+
+-- what is still asked of a task that isn't final
+abbrev pub asked_of_live : Which → Which
+asked_of_live which.Live = which.All
+asked_of_live which.All = which.All
+asked_of_live (which.Only one) = which.Only one
+
+-- a task that was found, if one was, before those that are left
+abbrev pub left : Option TaskId → List TaskId → List TaskId
+left None rest = rest
+left (Some id) rest = id ∷ rest
 
 -- a task in which the person has a role is listed
 abbrev pub is_asked : TablesOf → ℕ → Option Role → Which → Row → Bool

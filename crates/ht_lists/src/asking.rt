@@ -126,6 +126,17 @@ pub(crate) fn is_owner(role: Option<Role>) -> bool
     matches!(role, Some(Role::ActualOwner))
 }
 
+/// What is still asked of a task that isn't final.
+pub(crate) fn asked_of_live(which: Which) -> Which
+    ensures { result ≡ spec.asked_of_live which }
+{
+    match which {
+        Which::Live => Which::All,
+        Which::All => Which::All,
+        Which::Only(one) => Which::Only(one),
+    }
+}
+
 /// Whether no task that is final is asked for.
 pub(crate) fn is_live(which: Which) -> bool
     ensures { result ≡ spec.is_live which }

@@ -1,4 +1,4 @@
-ghost use Rattle.std.specs.Prelude.{◌≡◌, ◌+◌, ◌-◌, ◌^◌, ◌<◌, ◌≤◌, IfOk, IfSome, OnErr, OnOk, Some, false, length, take, true};
+ghost use Rattle.std.specs.Prelude.{ℕ, ◌≡◌, ◌+◌, ◌-◌, ◌^◌, ◌<◌, ◌≤◌, IfOk, IfSome, OnErr, OnOk, Some, false, length, take, true};
 ghost use Rattle.ht_lists.specs.declared.best.TheConstants.{BEHIND_ALL};
 ghost use Rattle.ht_lists.specs.Best as spec;
 ghost use Rattle.ht_lists.specs.Best.{Bounds, first_of, none_of, room_for, told, with_held, with_key};
@@ -49,6 +49,18 @@ pub(crate) struct Offers {
     total: u32,
 }
 
+impl Offers {
+    /// So many more were offered.
+    #[inline(always)]
+    pub(crate) fn count(&mut self, more: usize)
+        requires { self.old.total + more < 2 ^ 32 }
+        ensures total { self.new.total ≡ self.old.total + more }
+        ensures bound { self.new.bound ≡ self.old.bound }
+    {
+        self.total += more as u32;
+    }
+}
+
 impl Best {
     /// None are offered yet, and the first `from` and `count` are wanted.
     pub(crate) fn new(alloc: Global, from: u32, count: u32) -> Best
@@ -78,24 +90,15 @@ impl Best {
         }
     }
 
-    /// Whether a task is seen not to be one of the first. Then it is counted.
+    /// Whether a task is seen not to be one of the first, however many were offered. It isn't counted.
     #[inline(always)]
-    pub(crate) fn passes(&self, row: &Row, offers: &mut Offers) -> bool
-        requires few { offers.old.total < 2 ^ 32 - 1 }
+    pub(crate) fn passes(&self, row: &Row, offers: &Offers) -> bool
         requires priority { row.now.priority < BEHIND_ALL }
-        requires bounds { Bounds self.now.limit self.now.keys offers.old.bound }
-        ensures offered { result ≡ true → told self.now offers.new.total
-            ≡ with_key (told self.now offers.old.total) (key.key_of row.now) }
-        ensures left { result ≡ false → offers.new.total ≡ offers.old.total }
-        ensures few { offers.new.total ≤ offers.old.total + 1 }
-        ensures bound { offers.new.bound ≡ offers.old.bound }
+        requires bounds { Bounds self.now.limit self.now.keys offers.now.bound }
+        ensures { result ≡ true → (total : ℕ) → told self.now (total + 1)
+            ≡ with_key (told self.now total) (key.key_of row.now) }
     {
-        if is_plainly_behind(row, &offers.bound) {
-            offers.total += 1;
-            true
-        } else {
-            false
-        }
+        is_plainly_behind(row, &offers.bound)
     }
 
     /// One task more. The number of those that were offered is left as it is.

@@ -1,4 +1,4 @@
-ghost use Rattle.std.specs.Prelude.{◌≡◌, ◌+◌, ◌-◌, ◌^◌, ◌<◌, ◌≤◌, [], ◌∷◌, OnOk, false, filter, fold, length, map, take, true};
+ghost use Rattle.std.specs.Prelude.{ℕ, ◌≡◌, ◌+◌, ◌-◌, ◌^◌, ◌<◌, ◌≤◌, [], ◌∷◌, IfNone, IfSome, OnOk, false, filter, fold, length, map, take, true};
 ghost use Rattle.ht_lists.specs.Best.{Bounds, told, with_key};
 ghost use Rattle.ht_lists.specs.Keys as key;
 ghost use Rattle.ht_lists.specs.Lists.{is_listed};
@@ -6,9 +6,10 @@ ghost use Rattle.ht_lists.specs.Offering as spec;
 ghost use Rattle.ht_lists.specs.Offering.{asked_keys};
 ghost use Rattle.ht_tree.specs.Soundness.{IsSound};
 
-use crate::asking::{is_asked, is_live, is_operator, is_owner};
+use crate::asking::{asked_of_live, is_asked, is_live, is_operator, is_owner};
 use crate::best::{Best, Offers};
 use ht_base::{Memory, Person, Role, TaskId, Which};
+use ht_index::{Rest, Tasks};
 use ht_tree::Tables;
 
 // What is at hand from one task to the next: also where the person stood among those of a role.
@@ -16,6 +17,17 @@ use ht_tree::Tables;
 struct Walk {
     offers: Offers,
     place: usize,
+}
+
+// What is seen of a task by itself.
+#[derive(Clone, Copy)]
+enum Sight {
+    /// It is asked for, and isn't one of the first.
+    Behind,
+    /// It isn't asked for.
+    Unasked,
+    /// It is asked for, and may be one of the first.
+    Open,
 }
 
 /// Offers the keys of the tasks that are listed, in the order of their numbers.
@@ -38,14 +50,14 @@ pub(crate) fn offer_listed(
         return offer_each(tables, person, role, which, best);
     }
     if is_owner(role) {
-        let ids = tables.owned_by(person);
-        return offer_asked(tables, ids, person, role, which, best);
+        let tasks = tables.owned_by(person);
+        return offer_asked(tables, tasks, person, role, which, best);
     }
     if is_live(which) {
         return offer_open(tables, person, role, which, best);
     }
-    let ids = tables.rows_of(person);
-    offer_asked(tables, ids, person, role, which, best)
+    let tasks = tables.rows_of(person);
+    offer_asked(tables, tasks, person, role, which, best)
 }
 
 // Where no task that is final is asked for.
@@ -65,40 +77,53 @@ fn offer_open(
 {
     // Says that they can be counted.
     let _tasks = tables.rows();
-    let (left, rest) = tables.open_rows_of(person);
-    offer_asked(tables, left, person, role, which, best)?;
-    offer_asked(tables, rest, person, role, which, best)
+    let tasks = tables.live_rows_of(person);
+    offer_asked(tables, tasks, person, role, asked_of_live(which), best)
 }
 
 // Of these tasks, in each of which the person has a role, those of which more is true that is asked.
 // Each role has a loop of its own, so that none asks of each task which one is asked.
 fn offer_asked(
     tables: &Tables,
-    ids: &[TaskId],
+    tasks: &Tasks,
     person: Person,
     role: Option<Role>,
     which: Which,
     best: &mut Best,
 ) -> Result<(), Memory>
     requires person { person < length tables.now.tables.people.persons }
-    requires few { best.old.total + length ids.now < 2 ^ 32 }
+    requires few { best.old.total + length tasks.now.tasks < 2 ^ 32 }
     ensures { OnOk result (best.new ≡ fold with_key best.old
-        (asked_keys tables.now.tables person role which ids.now)) }
+        (asked_keys tables.now.tables person role which tasks.now.tasks)) }
 {
     let Some(role) = role else {
-        return offer_by(tables, ids, person, None, which, best);
+        return offer_by(tables, tasks, person, None, which, best);
     };
     match role {
-        Role::Initiator => offer_by(tables, ids, person, Some(Role::Initiator), which, best),
-        Role::Stakeholder => offer_by(tables, ids, person, Some(Role::Stakeholder), which, best),
+        Role::Initiator => offer_by(tables, tasks, person, Some(Role::Initiator), which, best),
+        Role::Stakeholder => offer_by(tables, tasks, person, Some(Role::Stakeholder), which, best),
         Role::PotentialOwner => {
-            offer_by(tables, ids, person, Some(Role::PotentialOwner), which, best)
+            offer_by(
+                tables,
+                tasks,
+                person,
+                Some(Role::PotentialOwner),
+                which,
+                best,
+            )
         }
-        Role::ActualOwner => offer_by(tables, ids, person, Some(Role::ActualOwner), which, best),
+        Role::ActualOwner => offer_by(tables, tasks, person, Some(Role::ActualOwner), which, best),
         Role::Administrator => {
-            offer_by(tables, ids, person, Some(Role::Administrator), which, best)
+            offer_by(
+                tables,
+                tasks,
+                person,
+                Some(Role::Administrator),
+                which,
+                best,
+            )
         }
-        Role::Operator => offer_by(tables, ids, person, Some(Role::Operator), which, best),
+        Role::Operator => offer_by(tables, tasks, person, Some(Role::Operator), which, best),
     }
 }
 
@@ -106,91 +131,93 @@ fn offer_asked(
 #[inline(always)]
 fn offer_by(
     tables: &Tables,
-    ids: &[TaskId],
+    tasks: &Tasks,
     person: Person,
     role: Option<Role>,
     which: Which,
     best: &mut Best,
 ) -> Result<(), Memory>
     requires person { person < length tables.now.tables.people.persons }
-    requires few { best.old.total + length ids.now < 2 ^ 32 }
+    requires few { best.old.total + length tasks.now.tasks < 2 ^ 32 }
     ensures { OnOk result (best.new ≡ fold with_key best.old
-        (asked_keys tables.now.tables person role which ids.now)) }
+        (asked_keys tables.now.tables person role which tasks.now.tasks)) }
 {
     match which {
-        Which::Live => offer_these(tables, ids, person, role, Which::Live, best),
-        Which::All => offer_these(tables, ids, person, role, Which::All, best),
-        Which::Only(one) => offer_these(tables, ids, person, role, Which::Only(one), best),
+        Which::Live => offer_these(tables, tasks, person, role, Which::Live, best),
+        Which::All => offer_these(tables, tasks, person, role, Which::All, best),
+        Which::Only(one) => offer_these(tables, tasks, person, role, Which::Only(one), best),
     }
 }
 
 #[inline(always)]
 fn offer_these(
     tables: &Tables,
-    ids: &[TaskId],
+    tasks: &Tasks,
     person: Person,
     role: Option<Role>,
     which: Which,
     best: &mut Best,
 ) -> Result<(), Memory>
     requires person { person < length tables.now.tables.people.persons }
-    requires few { best.old.total + length ids.now < 2 ^ 32 }
+    requires few { best.old.total + length tasks.now.tasks < 2 ^ 32 }
     ensures { OnOk result (best.new ≡ fold with_key best.old
-        (asked_keys tables.now.tables person role which ids.now)) }
+        (asked_keys tables.now.tables person role which tasks.now.tasks)) }
 {
     let mut walk = walk_of(best);
-    let mut rest = ids;
-    while !rest.is_empty() {
-        let count = passed(tables, rest, person, role, which, best, &mut walk);
-        rest = &rest[count..];
-        if let Some((id, later)) = rest.split_first() {
-            offer_one(tables, *id, person, role, which, best, &mut walk)?;
-            rest = later;
-        }
+    let mut rest = tasks.rest();
+    'found: loop {
+        let Some(id) = pass(tables, &mut rest, person, role, which, best, &mut walk) else {
+            best.tell(walk.offers);
+            return Ok(());
+        };
+        offer_one(tables, id, person, role, which, best, &mut walk)?;
     }
-    best.tell(walk.offers);
-    Ok(())
 }
 
-// How many of these tasks come before one that may be one of the first. They are counted. What the loop
-// needs of the tables stays in registers, since it is read for the first task, and nothing is changed.
+// Passes the tasks before one that may be one of the first, which is answered. They are counted.
 #[inline(always)]
-fn passed(
+fn pass(
     tables: &Tables,
-    ids: &[TaskId],
+    rest: &mut Rest<'_>,
     person: Person,
     role: Option<Role>,
     which: Which,
     best: &Best,
     walk: &mut Walk,
-) -> usize
+) -> Option<TaskId>
     requires person { person < length tables.now.tables.people.persons }
-    requires few { walk.old.offers.total + length ids.now < 2 ^ 32 }
+    requires few { walk.old.offers.total + length rest.old < 2 ^ 32 }
     requires bounds { Bounds best.now.limit best.now.keys walk.old.offers.bound }
-    ensures some { result ≤ length ids.now }
-    ensures offered { told best.now walk.new.offers.total
+    ensures none { IfNone result (rest.new ≡ []) }
+    ensures less { IfSome result (λ _. length rest.new < length rest.old) }
+    ensures offered { fold with_key (told best.now walk.new.offers.total)
+        (asked_keys tables.now.tables person role which (spec.left result rest.new))
         ≡ fold with_key (told best.now walk.old.offers.total)
-        (asked_keys tables.now.tables person role which (take result ids.now)) }
-    ensures few { walk.new.offers.total ≤ walk.old.offers.total + result }
+        (asked_keys tables.now.tables person role which rest.old) }
+    ensures few { walk.new.offers.total + length (spec.left result rest.new)
+        ≤ walk.old.offers.total + length rest.old }
     ensures bound { walk.new.offers.bound ≡ walk.old.offers.bound }
 {
-    let Some(first) = ids.first() else {
-        return 0;
-    };
-    if tables.row(*first).is_none() || !passes(tables, *first, person, role, which, best, walk) {
-        return 0;
-    }
-    for place in 1..ids.len() {
-        if !passes(tables, ids[place], person, role, which, best, walk) {
-            return place;
+    let mut behind = 0;
+    'tasks: loop {
+        let Some(id) = rest.next() else {
+            walk.offers.count(behind);
+            return None;
+        };
+        match look(tables, id, person, role, which, best, walk) {
+            Sight::Behind => behind += 1,
+            Sight::Unasked => {}
+            Sight::Open => {
+                walk.offers.count(behind);
+                return Some(id);
+            }
         }
     }
-    ids.len()
 }
 
-// Whether a task is seen not to be one of the first. Then it is counted, if it is asked for.
+// Whether a task is seen not to be one of the first. It isn't counted.
 #[inline(always)]
-fn passes(
+fn look(
     tables: &Tables,
     id: TaskId,
     person: Person,
@@ -198,24 +225,26 @@ fn passes(
     which: Which,
     best: &Best,
     walk: &mut Walk,
-) -> bool
+) -> Sight
     requires person { person < length tables.now.tables.people.persons }
-    requires few { walk.old.offers.total < 2 ^ 32 - 1 }
     requires bounds { Bounds best.now.limit best.now.keys walk.old.offers.bound }
-    ensures offered { result ≡ true → told best.now walk.new.offers.total
-        ≡ fold with_key (told best.now walk.old.offers.total)
+    ensures behind { result ≡ Sight.Behind → (total : ℕ) → told best.now (total + 1)
+        ≡ fold with_key (told best.now total)
         (asked_keys tables.now.tables person role which (id ∷ [])) }
-    ensures left { result ≡ false → walk.new.offers.total ≡ walk.old.offers.total }
-    ensures few { walk.new.offers.total ≤ walk.old.offers.total + 1 }
-    ensures bound { walk.new.offers.bound ≡ walk.old.offers.bound }
+    ensures unasked { result ≡ Sight.Unasked
+        → asked_keys tables.now.tables person role which (id ∷ []) ≡ [] }
+    ensures offers { walk.new.offers ≡ walk.old.offers }
 {
     let Some(row) = tables.row(id) else {
-        return true;
+        return Sight::Unasked;
     };
-    if is_asked(tables, row, person, role, which, &mut walk.place) {
-        best.passes(row, &mut walk.offers)
+    if !is_asked(tables, row, person, role, which, &mut walk.place) {
+        return Sight::Unasked;
+    }
+    if best.passes(row, &walk.offers) {
+        Sight::Behind
     } else {
-        true
+        Sight::Open
     }
 }
 

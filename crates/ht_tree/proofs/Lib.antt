@@ -19,8 +19,6 @@ mod Mapped
 mod Moving
 mod OneByOne
 mod OnlyOne
-mod OpenInStep
-mod OpenMoving
 mod Passed
 mod Places
 mod Planning

@@ -85,6 +85,15 @@ adds_held task was is held a b c stood come go = record {
     at key false true e f gone also = let no : false ≡ true = sym e ∙ stood key (come.whole key f gone) in absurd cc
     at key false false e f gone also = e ∙ sym f
 
+-- the same, said in another way
+pub same_adds : (task : TaskId) (was is was_too is_too : ℕ → Bool) (a b : List Move) → ((key : ℕ) → was key ≡ was_too key) → ((key : ℕ) → is key ≡ is_too key) → Adds task was is a b → Adds task was_too is_too a b
+same_adds task was is was_too is_too a b one two adds = record {
+  news = adds.news;
+  more = adds.more;
+  right = all_of (λ m. (m.task ≡ task) × (m.comes ≡ is m.key)) (λ m. (m.task ≡ task) × (m.comes ≡ is_too m.key)) adds.news (λ m r. (r.0, r.1 ∙ two m.key)) adds.right;
+  whole = λ key none. sym (one key) ∙ adds.whole key none ∙ two key;
+}
+
 -- of the same keys, said in another way
 pub same_adds_of : (task : TaskId) (comes : Bool) (some others some_too others_too : ℕ → Bool) (a b : List Move) → ((key : ℕ) → some key ≡ some_too key) → ((key : ℕ) → others key ≡ others_too key) → AddsOf task comes some others a b → AddsOf task comes some_too others_too a b
 same_adds_of task comes some others some_too others_too a b one two adds = record {

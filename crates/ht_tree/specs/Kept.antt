@@ -1,11 +1,9 @@
 -- How the tables and plans are kept.
 use Rattle.std.specs.Prelude.{◌≡◌, ◌-◌, ◌^◌, ◌≤◌, ℕ, length, min, take, vec_capacity, vec_len}
-use Rattle.ht_index.specs.Short.{short_of}
 use Rattle.ht_tree.specs.declared.plan.Plan.TheInside.{Inside as PlanInside}
 use Rattle.ht_tree.specs.declared.tables.Tables.TheInside.{Inside}
 use Rattle.ht_tree.specs.declared.listed_by.ListedBy.TheVariants as by
 use Rattle.ht_tree.specs.ListedBy.{AreInStep}
-use Rattle.ht_tree.specs.Open.{AreOpen}
 use Rattle.ht_tree.specs.Plans.{PlanOf, changes_of}
 use Rattle.ht_tree.specs.RowDues.{all_dues}
 use Rattle.ht_tree.specs.Sizes.{total_size}
@@ -20,7 +18,7 @@ abbrev pub most_notices : ℕ
 most_notices = 2 ^ 32 - 1
 
 abbrev pub roomy : Inside → RoomyTables
-roomy t = record { tables = tables_in t; room = vec_capacity t.rows - vec_len t.rows; notice_room = min (vec_capacity t.notices) most_notices - vec_len t.notices; slot_room = vec_capacity t.slots - vec_len t.slots; due_room = (t.queue).spare; gone = t.gone.items; news = t.news.items; sub_moves = (t.subs).moves; person_moves = (t.persons).whole.moves; owner_moves = (t.owners).moves }
+roomy t = record { tables = tables_in t; room = vec_capacity t.rows - vec_len t.rows; notice_room = min (vec_capacity t.notices) most_notices - vec_len t.notices; slot_room = vec_capacity t.slots - vec_len t.slots; due_room = (t.queue).spare; gone = t.gone.items; news = t.news.items; sub_moves = (t.subs).moves; person_moves = (t.persons).moves; live_moves = (t.live).moves; owner_moves = (t.owners).moves }
 
 pub record IsKept (t : Inside) : Type 0 where
   pub sound : IsSound (tables_in t)
@@ -30,8 +28,8 @@ pub record IsKept (t : Inside) : Type 0 where
   pub due : (t.queue).dues ≡ all_dues (tables_in t)
   -- and so are the lists of tasks
   pub subs : AreInStep by.Parent t.rows.items t.subs
-  pub persons : AreInStep by.Person t.rows.items (t.persons).whole
-  pub recent : AreOpen t.rows.items (λ person. short_of person t.persons)
+  pub persons : AreInStep by.Person t.rows.items t.persons
+  pub live : AreInStep by.Live t.rows.items t.live
   pub owners : AreInStep by.Owner t.rows.items t.owners
 
 abbrev pub plan_in : PlanInside → PlanOf

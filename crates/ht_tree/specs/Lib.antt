@@ -7,7 +7,6 @@ pub mod Kept
 pub mod KeptIndex
 pub mod ListedBy
 pub mod Moves
-pub mod Open
 pub mod Passed
 pub mod Places
 pub mod Plans

@@ -1,5 +1,5 @@
 -- The lists of tasks that are kept beside the rows: the sub tasks of a task, the tasks in which a person
--- has a role, and those that a person owns.
+-- has a role, those of them that aren't final, and those that a person owns.
 use Rattle.std.specs.Prelude.{◌≡◌, ℕ, ◌==◌, ◌&&◌, ◌||◌, not, Bool, true, false, List, ◌++◌, filter, map, Option, None, Some}
 use Rattle.std.specs.List.{AllByRecursion, list_any}
 use Rattle.std.specs.Option.{option_map_or}
@@ -61,6 +61,7 @@ owned_by person rows = ids_by (λ row. is_person person row.owner) rows
 abbrev pub is_under : ListedBy → ℕ → Row → Bool
 is_under by.Parent key row = is_sub_of key row
 is_under by.Person key row = has_task_role key row
+is_under by.Live key row = is_live_of key row
 is_under by.Owner key row = is_person key row.owner
 
 abbrev pub AreInStep : ListedBy → List Row → IndexOf → Type 0

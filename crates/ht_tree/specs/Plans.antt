@@ -7,7 +7,6 @@ use Rattle.ht_tree.specs.declared.row.Row.{Row}
 use Rattle.ht_tree.specs.declared.slot.Slot.{Slot}
 use Rattle.ht_tree.specs.declared.listed_by.ListedBy.TheVariants as by
 use Rattle.ht_tree.specs.ListedBy.{AreMoves}
-use Rattle.ht_tree.specs.Open.{AreOpenMoves}
 use Rattle.ht_tree.specs.RowDues.{changed_dues}
 use Rattle.ht_tree.specs.Rows.{put_in, row_at}
 use Rattle.ht_tree.specs.Sizes.{top_size, total_size}
@@ -155,7 +154,7 @@ pub record AreDuesPrepared (t : RoomyTables) (p : PlanOf) : Type 0 where
 pub record AreListsPrepared (t : RoomyTables) (p : PlanOf) : Type 0 where
   pub subs : AreMoves by.Parent (t.tables).rows (planned t.tables p).rows t.sub_moves
   pub persons : AreMoves by.Person (t.tables).rows (planned t.tables p).rows t.person_moves
-  pub recent : AreOpenMoves (t.tables).rows (planned t.tables p).rows t.person_moves
+  pub live : AreMoves by.Live (t.tables).rows (planned t.tables p).rows t.live_moves
   pub owners : AreMoves by.Owner (t.tables).rows (planned t.tables p).rows t.owner_moves
 
 -- The tables have all the memory that the plan's commit takes, and know what it changes of the dues and of

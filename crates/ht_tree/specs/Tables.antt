@@ -32,6 +32,7 @@ pub record RoomyTables : Type 0 where
   pub news : List Due
   pub sub_moves : List Move
   pub person_moves : List Move
+  pub live_moves : List Move
   pub owner_moves : List Move
 
 -- no tasks yet

@@ -5,7 +5,6 @@
 mod activating;
 mod assigning;
 mod changed_dues;
-mod clearing;
 mod comments;
 mod creating;
 mod exchanging;

@@ -5,6 +5,8 @@ pub(crate) enum ListedBy {
     Parent,
     /// A task by each person with a generic human role in it (WS-HumanTask 1.1, 3.1).
     Person,
+    /// A task that isn't final by each of these persons.
+    Live,
     /// A task by its actual owner.
     Owner,
 }

@@ -1,21 +1,23 @@
 ghost use Rattle.std.specs.Prelude.{ℕ, ◌≡◌, false, IfOk, IsTrue, OnOk, option_map};
-ghost use Rattle.ht_tree.specs.ListedBy.{Adds, KeepsParent, stands_under};
-ghost use Rattle.ht_tree.specs.Moves.{AddEach, LeadOn, StaysListed};
+ghost use Rattle.ht_tree.specs.ListedBy.{KeepsParent};
+ghost use Rattle.ht_tree.specs.Moves.{AddEach, AddsBy, LeadOn, StaysListed};
 ghost use Rattle.ht_tree.specs.Plans.{IsPlanOf, planned};
 ghost use Rattle.ht_tree.specs.declared.listed_by.ListedBy.TheVariants as by;
 
 use crate::owner_moves::add_owners;
-use crate::person_moves::{add_persons, stays};
+use crate::person_moves::{add_live, add_persons, stays};
 use crate::{Plan, Row, Tables};
 use ht_base::{Memory, TaskId};
 use ht_index::Move;
 use std::alloc::Global;
 
-/// How the lists of tasks change: those by parent, those by person, and those by actual owner.
+/// How the lists of tasks change: those by parent, those by person, the same of tasks that aren't final,
+/// and those by actual owner.
 #[derive(Drop)]
 pub(crate) struct Moves {
     pub(crate) subs: Vec<Move>,
     pub(crate) persons: Vec<Move>,
+    pub(crate) live: Vec<Move>,
     pub(crate) owners: Vec<Move>,
 }
 
@@ -28,6 +30,7 @@ pub(crate) fn moves_of(alloc: Global, tables: &Tables, plan: &Plan) -> Result<Mo
     let mut moves = Moves {
         subs: Vec::new(alloc),
         persons: Vec::new(alloc),
+        live: Vec::new(alloc),
         owners: Vec::new(alloc),
     };
     for put in plan.puts() {
@@ -54,6 +57,7 @@ fn add_moves(
     }
     add_parent(task, was, is, &mut moves.subs)?;
     add_persons(task, was, is, &mut moves.persons)?;
+    add_live(task, was, is, &mut moves.live)?;
     add_owners(task, was, is, &mut moves.owners)
 }
 
@@ -79,10 +83,8 @@ fn add_parent(
     moves: &mut Vec<Move>,
 ) -> Result<(), Memory>
     requires { KeepsParent (option_map (λ r. r.now) was) (option_map (λ r. r.now) is) }
-    ensures { OnOk result (Adds task
-        (λ key. stands_under by.Parent key (option_map (λ r. r.now) was.entry))
-        (λ key. stands_under by.Parent key (option_map (λ r. r.now) is.entry))
-        moves.old.items moves.new.items) }
+    ensures { OnOk result (AddsBy by.Parent task (option_map (λ r. r.now) was.entry)
+        (option_map (λ r. r.now) is.entry) moves.old.items moves.new.items) }
 {
     if was.is_some() {
         return Ok(());

@@ -1,5 +1,6 @@
 ghost use Rattle.std.specs.Prelude.{ℕ, ◌≡◌, ◌==◌, OnOk, option_map};
-ghost use Rattle.ht_tree.specs.ListedBy.{Adds, AddsOf, is_person, stands_under};
+ghost use Rattle.ht_tree.specs.ListedBy.{AddsOf, is_person, stands_under};
+ghost use Rattle.ht_tree.specs.Moves.{AddsBy};
 ghost use Rattle.ht_tree.specs.declared.listed_by.ListedBy.TheVariants as by;
 
 use crate::Row;
@@ -13,10 +14,8 @@ pub(crate) fn add_owners(
     is: Option<&Row>,
     moves: &mut Vec<Move>,
 ) -> Result<(), Memory>
-    ensures { OnOk result (Adds task
-        (λ key. stands_under by.Owner key (option_map (λ r. r.now) was.entry))
-        (λ key. stands_under by.Owner key (option_map (λ r. r.now) is.entry))
-        moves.old.items moves.new.items) }
+    ensures { OnOk result (AddsBy by.Owner task (option_map (λ r. r.now) was.entry)
+        (option_map (λ r. r.now) is.entry) moves.old.items moves.new.items) }
 {
     add_owner(task, is, was, true, moves)?;
     add_owner(task, was, is, false, moves)

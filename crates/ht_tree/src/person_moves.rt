@@ -2,56 +2,55 @@ ghost use Rattle.std.specs.Prelude.{ℕ, ◌≡◌, ◌==◌, ◌&&◌, not, fal
 ghost use Rattle.std.specs.Option.{option_map_or};
 ghost use Rattle.ht_base.specs.Persons.{has};
 ghost use Rattle.ht_tree.specs.ListedBy as spec;
-ghost use Rattle.ht_tree.specs.Moves.{IsHeld, StaysListed, is_over, lives_with};
-ghost use Rattle.ht_tree.specs.Open.{AddsOpen};
-ghost use Rattle.ht_tree.specs.ListedBy.{Adds, AddsOf, HaveSameLists, stands_under};
+ghost use Rattle.ht_tree.specs.Moves.{AddsBy, StaysListed};
+ghost use Rattle.ht_tree.specs.ListedBy.{AddsOf, HaveSameLists, stands_under};
 ghost use Rattle.ht_tree.specs.declared.listed_by.ListedBy.TheVariants as by;
 
 use crate::Row;
 use ht_base::{Memory, Person, Persons, TaskId};
 use ht_index::Move;
 
-/// The moves of a task between the lists of persons, as they had a role in it and as they have. They
-/// lead on those without the tasks that ended long ago too: one that ends stays there.
+/// The moves of a task between the lists of persons, as they had a role in it and as they have.
 pub(crate) fn add_persons(
     task: TaskId,
     was: Option<&Row>,
     is: Option<&Row>,
     moves: &mut Vec<Move>,
 ) -> Result<(), Memory>
-    ensures all { OnOk result (Adds task
-        (λ key. stands_under by.Person key (option_map (λ r. r.now) was.entry))
-        (λ key. stands_under by.Person key (option_map (λ r. r.now) is.entry))
-        moves.old.items moves.new.items) }
-    ensures open_ { OnOk result (AddsOpen task
-        (λ key. stands_under by.Person key (option_map (λ r. r.now) was.entry))
-        (λ key. stands_under by.Person key (option_map (λ r. r.now) is.entry))
-        (λ key. lives_with key (option_map (λ r. r.now) was.entry))
-        (λ key. lives_with key (option_map (λ r. r.now) is.entry))
-        moves.old.items moves.new.items) }
+    ensures { OnOk result (AddsBy by.Person task (option_map (λ r. r.now) was.entry)
+        (option_map (λ r. r.now) is.entry) moves.old.items moves.new.items) }
 {
-    add_those_of(task, is, held(was, is), true, moves)?;
+    add_those_of(task, is, was, true, moves)?;
     add_those_of(task, was, is, false, moves)
 }
 
-// The row as it was, where those who had a role in it have the task among those that haven't ended.
-fn held<'a>(was: Option<&'a Row>, is: Option<&Row>) -> Option<&'a Row>
-    ensures { IsHeld (option_map (λ r. r.now) was.entry) (option_map (λ r. r.now) is.entry)
-        (option_map (λ r. r.now) result) }
+/// Those between the lists of tasks that aren't final.
+pub(crate) fn add_live(
+    task: TaskId,
+    was: Option<&Row>,
+    is: Option<&Row>,
+    moves: &mut Vec<Move>,
+) -> Result<(), Memory>
+    ensures { OnOk result (AddsBy by.Live task (option_map (λ r. r.now) was.entry)
+        (option_map (λ r. r.now) is.entry) moves.old.items moves.new.items) }
 {
-    match was {
-        Some(old) => { if comes_back(old, is) { None } else { Some(old) } }
-        None => None,
-    }
+    add_persons(task, live(was), live(is), moves)
 }
 
-// Whether the task had ended and hasn't.
-fn comes_back(old: &Row, is: Option<&Row>) -> bool
-    ensures { result ≡ is_over (Some old.now) && not (is_over (option_map (λ r. r.now) is.entry)) }
+// The row, where it isn't final.
+fn live(row: Option<&Row>) -> Option<&Row>
+    ensures { (key : ℕ) → stands_under by.Person key (option_map (λ r. r.now) result)
+        ≡ stands_under by.Live key (option_map (λ r. r.now) row.entry) }
 {
-    match is {
-        Some(new) => old.state.is_final() && !new.state.is_final(),
-        None => old.state.is_final(),
+    match row {
+        Some(row) => {
+            if row.state.is_final() {
+                None
+            } else {
+                Some(row)
+            }
+        }
+        None => None,
     }
 }
 
@@ -214,7 +213,7 @@ pub(crate) fn stays(old: &Row, new: &Row) -> bool
     requires { new.now.parent ≡ old.now.parent }
     ensures { IsTrue result → StaysListed (Some old.now) (Some new.now) }
 {
-    if old.state.is_final() && !new.state.is_final() {
+    if old.state.is_final() != new.state.is_final() {
         return false;
     }
     old.owner == new.owner && have_same_lists(old, new)

@@ -2,7 +2,6 @@ ghost use Rattle.std.specs.Prelude.{◌≡◌, ◌≤◌, ◌<◌, ◌+◌, ◌+
 ghost use Rattle.ht_tree.specs.declared.row.Row.{Row};
 ghost use Rattle.ht_tree.specs.Puts.{CanPut};
 ghost use Rattle.ht_tree.specs.ListedBy as lists;
-ghost use Rattle.ht_tree.specs.Open.{is_live_task};
 ghost use Rattle.ht_tree.specs.Plans.{AreDuesPrepared, AreListsPrepared, IsNext, IsPlanOf, IsPrepared, committed};
 ghost use Rattle.ht_tree.specs.RowDues.{all_dues};
 ghost use Rattle.ht_tree.specs.Rows.{put_in, row_at};
@@ -11,14 +10,13 @@ ghost use Rattle.ht_tree.specs.Soundness.{IsSound, IsSoundRow};
 ghost use Rattle.ht_tree.specs.Tables.{device_slot, directory, empty_tables, notice_at, task_row};
 
 use crate::changed_dues::{dues_after, dues_before};
-use crate::clearing::{Ended, are_half, are_many, begin_anew, count_ends, live_of};
 use crate::exchanging::exchange;
 use crate::moves::{Moves, moves_of};
 use crate::slot::{put_slot, slot_of};
 use crate::{Notice, Plan, Row, Slot};
 use ht_base::{Memory, Moment, Person, TaskId};
 use ht_due::{Due, DueQueue};
-use ht_index::{Index, ShortIndex};
+use ht_index::{Index, TaskSets, Tasks};
 use ht_models::Models;
 use ht_people::Directory;
 use std::alloc::Global;
@@ -27,8 +25,8 @@ use std::marker::Model;
 /// The tasks of an office, over its models and its people, its notifications, and the last numbered
 /// command of each device. A contract also sees in `room`, `notice_room`, `slot_room` and `due_room` how
 /// many more tasks, notifications, devices and dues they take without memory, in `gone` and `news` the
-/// dues that go and come with the plan that was prepared last, and in `sub_moves`, `person_moves` and
-/// `owner_moves` the tasks that move with it between the lists of tasks.
+/// dues that go and come with the plan that was prepared last, and in `sub_moves`, `person_moves`,
+/// `live_moves` and `owner_moves` the tasks that move with it between the lists of tasks.
 #[derive(Drop)]
 pub struct Tables {
     models: Models,
@@ -47,12 +45,12 @@ pub struct Tables {
     news: Vec<Due>,
     // The sub tasks of each task.
     subs: Index,
-    // The tasks in which each person has a role, and the same without those that ended long ago.
-    persons: ShortIndex,
+    // The tasks in which each person has a role.
+    persons: TaskSets,
+    // Those of them that aren't final.
+    live: TaskSets,
     // The tasks that each person owns.
-    owners: Index,
-    // How many tasks of each person ended since they were left out of the shorter list.
-    ended: Vec<Ended>,
+    owners: TaskSets,
 }
 
 impl Model for Tables {
@@ -76,7 +74,6 @@ impl Tables {
     pub fn new(alloc: Global, models: Models, people: Directory) -> Result<Tables, Memory>
         ensures { IfOk result (λ t. t.tables ≡ empty_tables models people) }
     {
-        let ended = vec![in alloc; Ended::new(); people.persons() as usize]?;
         Ok(Tables {
             models,
             people,
@@ -89,9 +86,9 @@ impl Tables {
             gone: Vec::new(alloc),
             news: Vec::new(alloc),
             subs: Index::new(alloc),
-            persons: ShortIndex::new(alloc),
-            owners: Index::new(alloc),
-            ended,
+            persons: TaskSets::new(alloc),
+            live: TaskSets::new(alloc),
+            owners: TaskSets::new(alloc),
         })
     }
 
@@ -176,30 +173,27 @@ impl Tables {
 
     /// The tasks of which a person is initiator, stakeholder, potential owner, actual owner or business
     /// administrator (WS-HumanTask 1.1, 3.1), ascending by number.
-    pub fn rows_of(&self, person: Person) -> &[TaskId]
-        ensures value { result.now ≡ lists.rows_of person self.now.tables.rows }
+    pub fn rows_of(&self, person: Person) -> &Tasks
+        ensures value { result.now.tasks ≡ lists.rows_of person self.now.tables.rows }
         ensures sound { IsSound self.now.tables }
     {
-        self.persons.list(person.0)
+        self.persons.tasks(person.0)
     }
 
-    /// Each of them that isn't final, and maybe some that ended not long ago, in two parts.
-    pub fn open_rows_of(&self, person: Person) -> (&[TaskId], &[TaskId])
-        ensures live { filter (is_live_task self.now.tables.rows) (result.0.now ++ result.1.now)
-            ≡ lists.live_rows_of person self.now.tables.rows }
-        ensures few { length result.0.now + length result.1.now
-            ≤ length self.now.tables.rows }
+    /// Those of them that aren't final.
+    pub fn live_rows_of(&self, person: Person) -> &Tasks
+        ensures value { result.now.tasks ≡ lists.live_rows_of person self.now.tables.rows }
         ensures sound { IsSound self.now.tables }
     {
-        self.persons.short(person.0)
+        self.live.tasks(person.0)
     }
 
     /// The tasks of which a person is the actual owner (WS-HumanTask 1.1, 3.1), ascending by number.
-    pub fn owned_by(&self, person: Person) -> &[TaskId]
-        ensures value { result.now ≡ lists.owned_by person self.now.tables.rows }
+    pub fn owned_by(&self, person: Person) -> &Tasks
+        ensures value { result.now.tasks ≡ lists.owned_by person self.now.tables.rows }
         ensures sound { IsSound self.now.tables }
     {
-        self.owners.list(person.0)
+        self.owners.tasks(person.0)
     }
 
     /// The tasks of the trees of all top tasks.
@@ -260,50 +254,16 @@ impl Tables {
         ensures news { self.new.news ≡ self.old.news }
     {
         let alloc = *self.rows.allocator();
-        self.persons.forget();
-        count_ends(alloc, self, plan)?;
         let Moves {
             subs,
             persons,
+            live,
             owners,
         } = moves_of(alloc, self, plan)?;
         self.subs.prepare(subs)?;
         self.persons.prepare(persons)?;
+        self.live.prepare(live)?;
         self.owners.prepare(owners)
-    }
-
-    /// One task more of a person ends. Where half of the shorter list may have, they are left out of it.
-    pub(crate) fn count_end(&mut self, alloc: Global, person: Person) -> Result<(), Memory>
-        requires { self.old.person_moves ≡ [] }
-        ensures { self.new ≡ self.old }
-    {
-        if are_many(&mut self.ended, person) {
-            return self.clear_half(alloc, person);
-        }
-        Ok(())
-    }
-
-    fn clear_half(&mut self, alloc: Global, person: Person) -> Result<(), Memory>
-        requires { self.old.person_moves ≡ [] }
-        ensures { self.new ≡ self.old }
-    {
-        let (front, rest) = self.open_rows_of(person);
-        let tasks = front.len() + rest.len();
-        if are_half(&mut self.ended, person, tasks) {
-            return self.clear(alloc, person.0);
-        }
-        Ok(())
-    }
-
-    fn clear(&mut self, alloc: Global, person: u32) -> Result<(), Memory>
-        requires { self.old.person_moves ≡ [] }
-        ensures { self.new ≡ self.old }
-    {
-        let live = live_of(alloc, self, Person(person))?;
-        let tasks = live.len();
-        self.persons.shorten(person, live)?;
-        begin_anew(&mut self.ended, person, tasks);
-        Ok(())
     }
 
     /// Makes the planned change. It can't be refused, and takes no memory.
@@ -319,6 +279,7 @@ impl Tables {
         exchange(&mut self.queue, &self.gone, &self.news);
         self.subs.make_moves();
         self.persons.make_moves();
+        self.live.make_moves();
         self.owners.make_moves();
         let (rows, notices, slot) = plan.into_changes();
         tell(&mut self.notices, notices);

@@ -6,6 +6,7 @@ ghost use Rattle.ht_tree.specs.Plans.{IsPlanOf, planned};
 ghost use Rattle.ht_tree.specs.Soundness.{KeepsSound};
 
 use ht_base::{Op, Person, State, TaskId, Values};
+use ht_index::Tasks;
 use ht_models::Models;
 use ht_people::Directory;
 use ht_samples::PEOPLE;
@@ -224,16 +225,19 @@ fn the_last_command_of_each_device_is_kept(rt: HostRuntime) -> Result<(), Fail> 
 // ---- the tasks of each person
 
 // Whether these are the tasks of these numbers.
-fn are_tasks(tasks: &[TaskId], numbers: &[u32]) -> bool {
-    if tasks.len() != numbers.len() {
-        return false;
-    }
-    for (task, number) in tasks.iter().zip(numbers) {
-        if task.0 != *number {
-            return false;
+fn are_tasks(tasks: &Tasks, numbers: &[u32]) -> bool {
+    let mut rest = tasks.rest();
+    for number in numbers {
+        match rest.next() {
+            Some(task) => {
+                if task.0 != *number {
+                    return false;
+                }
+            }
+            None => return false,
         }
     }
-    true
+    rest.next().is_none()
 }
 
 // The person may take the first on with another, and nobody the second; the third is for one alone. All
@@ -253,13 +257,13 @@ fn the_tasks_of_each_person_are_listed(rt: HostRuntime) -> Result<(), Fail> {
         created(&rt, rt.alloc(), &mut tables, model)?;
     }
     for (person, numbers) in TASKS {
+        let person = Person(person);
+        assert!(rt; are_tasks(tables.rows_of(person), numbers), "{person:?}");
         assert!(rt;
-            are_tasks(tables.rows_of(Person(person)), numbers),
-            "{person}"
+            are_tasks(tables.live_rows_of(person), numbers),
+            "{person:?}"
         );
-        let (left, rest) = tables.open_rows_of(Person(person));
-        assert!(rt; left.is_empty() && are_tasks(rest, numbers), "{person}");
-        assert!(rt; tables.owned_by(Person(person)).is_empty(), "{person}");
+        assert!(rt; are_tasks(tables.owned_by(person), &[]), "{person:?}");
     }
     assert!(rt; tables.subs(TaskId(1)).is_empty());
     Ok(())

@@ -5,12 +5,11 @@ use Rattle.ht_index.specs.declared.moves.Move.{Move}
 use Rattle.ht_tree.specs.declared.listed_by.ListedBy.{ListedBy}
 use Rattle.ht_tree.specs.declared.listed_by.ListedBy.TheVariants as by
 use Rattle.ht_tree.specs.ListedBy.{Adds, AreMoves, AreMovesOf, stands_under}
-use Rattle.ht_tree.specs.Moves.{LeadOnOf, lives_with}
+use Rattle.ht_tree.specs.Moves.{LeadOnOf}
 use Rattle.ht_tree.specs.Plans.{planned}
 use Rattle.ht_tree.proofs.KnownSubs.{keep_on, keeps_parent}
 use Rattle.ht_tree.proofs.ListsInStep.{not_put}
 use Rattle.ht_tree.proofs.Moving.{all_moves, more_moves}
-use Rattle.ht_tree.proofs.OpenMoving.{all_open, more_open}
 use Rattle.ht_tree.proofs.moves.moves_of.Goals as goal
 
 pub add_moves-requires : goal.add_moves-requires
@@ -42,14 +41,7 @@ loop-put-preserved c =
     subst P (sym (take_more puts i put within)) (record {
       subs = more by.Parent old.subs.items new.subs.items before.subs adds.subs;
       persons = more by.Person old.persons.items new.persons.items before.persons adds.persons;
-      recent =
-          more_open t.rows u (take i puts) row put.task old.persons.items new.persons.items (λ key. stands_under by.Person key (option_map (λ r. r.now) c.row-was.result)) (λ key. stands_under by.Person key (option_map (λ r. r.now) c.row-is.result)) (λ key. lives_with key (option_map (λ r. r.now) c.row-was.result)) (λ key. lives_with key (option_map (λ r. r.now) c.row-is.result))
-          (ap (λ (r : Row). r.task) (sym is))
-          (λ key. ap (λ o. stands_under by.Person key o) c.row-was.ensures.value)
-          (λ key. ap (λ o. stands_under by.Person key o) c.row-is.ensures.value)
-          (λ key. ap (λ o. lives_with key o) c.row-was.ensures.value)
-          (λ key. ap (λ o. lives_with key o) c.row-is.ensures.value)
-          before.recent adds.recent;
+      live = more by.Live old.live.items new.live.items before.live adds.live;
       owners = more by.Owner old.owners.items new.owners.items before.owners adds.owners;
     })
 
@@ -68,6 +60,6 @@ returns c =
     record {
       subs = all by.Parent (c.loop-put.moves).subs.items are.subs;
       persons = all by.Person (c.loop-put.moves).persons.items are.persons;
+      live = all by.Live (c.loop-put.moves).live.items are.live;
       owners = all by.Owner (c.loop-put.moves).owners.items are.owners;
-      recent = all_open t.rows u puts (c.loop-put.moves).persons.items (λ task none. not_put t t.rows puts c.requires.changes_fit task none) are.recent;
     }

@@ -6,14 +6,10 @@ use Rattle.ht_tree.specs.declared.notice.Notice.{Notice}
 use Rattle.ht_tree.specs.declared.row.Row.{Row}
 use Rattle.ht_tree.specs.declared.tables.Tables.TheInside.{Inside}
 use Rattle.ht_tree.specs.Kept.{IsKept, most_notices, roomy, tables_in}
-use Rattle.ht_base.specs.declared.task_id.TaskId.{TaskId}
-use Rattle.ht_index.specs.declared.moves.Move.{Move}
 use Rattle.ht_index.specs.Indexes.{IndexOf, list_of, moved}
-use Rattle.ht_index.specs.Short.{short_of}
 use Rattle.ht_tree.specs.declared.listed_by.ListedBy.{ListedBy}
 use Rattle.ht_tree.specs.declared.listed_by.ListedBy.TheVariants as by
 use Rattle.ht_tree.specs.ListedBy.{AreInStep, AreMoves}
-use Rattle.ht_tree.specs.Open.{AreOpen, AreOpenMoves}
 use Rattle.ht_tree.specs.Plans.{AreDuesPrepared, AreListsPrepared, Follow, IsPlanOf, PlanOf, committed, planned}
 use Rattle.ht_tree.specs.Puts.{CanPut}
 use Rattle.ht_tree.specs.RowDues.{row_dues}
@@ -22,7 +18,6 @@ use Rattle.ht_tree.specs.Soundness.{IsSound}
 use Rattle.ht_tree.specs.Tables.{RoomyTables}
 use Rattle.ht_tree.proofs.DuesInStep.{ChangesDues, changes_dues}
 use Rattle.ht_tree.proofs.ListsInStep.{in_step}
-use Rattle.ht_tree.proofs.OpenInStep.{open_in_step}
 use Rattle.ht_tree.proofs.Putting.{can_put}
 use Rattle.ht_tree.proofs.tables.Tables.commit.Goals as goal
 
@@ -56,11 +51,6 @@ lists kind t now plan at before after rows view kept sound moves step then_ are 
     let S : RoomyTables → Type 0 = λ r. IsSound (committed r.tables plan at) in
     let P : List Row → Type 0 = λ l. AreInStep kind l after in
     subst P (sym are) (in_step kind t.rows.items (planned (tables_in t) plan).rows (kept.sound).numbered (subst S (sym view) sound).numbered before after step moves then_)
-
-opened : (t : Inside) (plan : PlanOf) (before after : ℕ → List TaskId) (moves : List Move) (rows : List Row) → AreOpenMoves t.rows.items (planned (tables_in t) plan).rows moves → AreOpen t.rows.items before → ((key : ℕ) → after key ≡ fold (moved key) (before key) moves) → rows ≡ fold put_in t.rows.items (plan.changes).rows → AreOpen rows after
-opened t plan before after moves rows lead are then_ is =
-    let P : List Row → Type 0 = λ l. AreOpen l after in
-    subst P (sym is) (open_in_step t.rows.items (planned (tables_in t) plan).rows before after moves are lead then_)
 
 prepared : (t : Inside) (now : RoomyTables) (plan : PlanOf) → roomy t ≡ now → AreListsPrepared now plan → AreListsPrepared (roomy t) plan
 prepared t now plan view are = let P : RoomyTables → Type 0 = λ r. AreListsPrepared r plan in subst P (sym view) are
@@ -105,9 +95,9 @@ invariant_of-self c =
           ∙ change.due
           ∙ ap (λ (l : List Row). in_order (flat_map (row_dues c.self.inside.models) l)) (sym rows);
       subs = lists by.Parent c.self.inside c.args.self.now c.args.plan c.args.at.0 c.self.inside.subs c.make_moves.new.self c.put_all.new.rows.items c.self.view_is c.self.invariant c.requires.sound moves.subs c.self.invariant.subs c.make_moves.ensures.lists rows;
-      persons = lists by.Person c.self.inside c.args.self.now c.args.plan c.args.at.0 c.self.inside.persons.whole (c.make_moves-2.new.self).whole c.put_all.new.rows.items c.self.view_is c.self.invariant c.requires.sound moves.persons c.self.invariant.persons c.make_moves-2.ensures.lists rows;
-      recent = opened c.self.inside c.args.plan (λ k. short_of k c.self.inside.persons) (λ k. short_of k c.make_moves-2.new.self) c.self.inside.persons.whole.moves c.put_all.new.rows.items moves.recent c.self.invariant.recent c.make_moves-2.ensures.short rows;
-      owners = lists by.Owner c.self.inside c.args.self.now c.args.plan c.args.at.0 c.self.inside.owners c.make_moves-3.new.self c.put_all.new.rows.items c.self.view_is c.self.invariant c.requires.sound moves.owners c.self.invariant.owners c.make_moves-3.ensures.lists rows;
+      persons = lists by.Person c.self.inside c.args.self.now c.args.plan c.args.at.0 c.self.inside.persons c.make_moves-2.new.self c.put_all.new.rows.items c.self.view_is c.self.invariant c.requires.sound moves.persons c.self.invariant.persons c.make_moves-2.ensures.lists rows;
+      live = lists by.Live c.self.inside c.args.self.now c.args.plan c.args.at.0 c.self.inside.live c.make_moves-3.new.self c.put_all.new.rows.items c.self.view_is c.self.invariant c.requires.sound moves.live c.self.invariant.live c.make_moves-3.ensures.lists rows;
+      owners = lists by.Owner c.self.inside c.args.self.now c.args.plan c.args.at.0 c.self.inside.owners c.make_moves-4.new.self c.put_all.new.rows.items c.self.view_is c.self.invariant c.requires.sound moves.owners c.self.invariant.owners c.make_moves-4.ensures.lists rows;
     }
 
 pub invariant_of-self-in_default : goal.invariant_of-self-in_default
@@ -129,7 +119,7 @@ invariant_of-self-in_default c =
           ∙ change.due
           ∙ ap (λ (l : List Row). in_order (flat_map (row_dues c.self.inside.models) l)) (sym rows);
       subs = lists by.Parent c.self.inside c.args.self.now c.args.plan c.args.at.0 c.self.inside.subs c.make_moves.new.self c.put_all.new.rows.items c.self.view_is c.self.invariant c.requires.sound moves.subs c.self.invariant.subs c.make_moves.ensures.lists rows;
-      persons = lists by.Person c.self.inside c.args.self.now c.args.plan c.args.at.0 c.self.inside.persons.whole (c.make_moves-2.new.self).whole c.put_all.new.rows.items c.self.view_is c.self.invariant c.requires.sound moves.persons c.self.invariant.persons c.make_moves-2.ensures.lists rows;
-      recent = opened c.self.inside c.args.plan (λ k. short_of k c.self.inside.persons) (λ k. short_of k c.make_moves-2.new.self) c.self.inside.persons.whole.moves c.put_all.new.rows.items moves.recent c.self.invariant.recent c.make_moves-2.ensures.short rows;
-      owners = lists by.Owner c.self.inside c.args.self.now c.args.plan c.args.at.0 c.self.inside.owners c.make_moves-3.new.self c.put_all.new.rows.items c.self.view_is c.self.invariant c.requires.sound moves.owners c.self.invariant.owners c.make_moves-3.ensures.lists rows;
+      persons = lists by.Person c.self.inside c.args.self.now c.args.plan c.args.at.0 c.self.inside.persons c.make_moves-2.new.self c.put_all.new.rows.items c.self.view_is c.self.invariant c.requires.sound moves.persons c.self.invariant.persons c.make_moves-2.ensures.lists rows;
+      live = lists by.Live c.self.inside c.args.self.now c.args.plan c.args.at.0 c.self.inside.live c.make_moves-3.new.self c.put_all.new.rows.items c.self.view_is c.self.invariant c.requires.sound moves.live c.self.invariant.live c.make_moves-3.ensures.lists rows;
+      owners = lists by.Owner c.self.inside c.args.self.now c.args.plan c.args.at.0 c.self.inside.owners c.make_moves-4.new.self c.put_all.new.rows.items c.self.view_is c.self.invariant c.requires.sound moves.owners c.self.invariant.owners c.make_moves-4.ensures.lists rows;
     }
