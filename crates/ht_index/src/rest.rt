@@ -1,5 +1,5 @@
-ghost use Rattle.std.specs.Prelude.{◌≡◌, ◌^◌, ◌≤◌, [], ◌∷◌, length, IfNone, IfSome};
-ghost use Rattle.ht_index.specs.Sets.{Mark, tasks_in};
+ghost use Rattle.std.specs.Prelude.{ℕ, ◌≡◌, ◌/◌, ◌%◌, ◌^◌, ◌<◌, ◌≤◌, List, [], ◌∷◌, length, IfNone, IfSome};
+ghost use Rattle.ht_index.specs.Sets.{Mark, tasks_in, words_left};
 
 use crate::words::{first_from, word};
 use ht_base::TaskId;
@@ -60,8 +60,31 @@ impl<'a> Rest<'a> {
                 None => return None,
             }
         }
-        let bit = self.bits.trailing_zeros();
-        self.bits &= !(1u64 << bit);
-        Some(TaskId(self.base + bit))
+        Some(take_lowest(&mut self.bits, self.base))
     }
+
+    /// The next of them, if it stands near the one before. No call is made for it.
+    #[inline(always)]
+    pub fn next_near(&mut self) -> Option<TaskId>
+        ensures some { IfSome result (λ task. self.old ≡ task ∷ self.new) }
+        ensures none { IfNone result (self.new ≡ self.old) }
+    {
+        if self.bits == 0 {
+            return None;
+        }
+        Some(take_lowest(&mut self.bits, self.base))
+    }
+}
+
+// The task of the lowest bit that is set in a word, whose first task has the number `base`. The bit is cleared.
+#[inline(always)]
+fn take_lowest(bits: &mut u64, base: u32) -> TaskId
+    requires some { 0 < bits.old }
+    requires whole { base % 64 ≡ 0 }
+    ensures { (words : List ℕ) → tasks_in (words_left (base / 64) bits.old words)
+        ≡ result ∷ tasks_in (words_left (base / 64) bits.new words) }
+{
+    let bit = bits.trailing_zeros();
+    *bits &= !(1u64 << bit);
+    TaskId(base + bit)
 }

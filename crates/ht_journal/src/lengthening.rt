@@ -1,4 +1,4 @@
-ghost use Rattle.std.specs.Prelude.{◌≡◌, ◌≤◌, List, ℕ, [], None, IsOk, IsTrue, OnOk};
+ghost use Rattle.std.specs.Prelude.{◌≡◌, ◌≤◌, List, ℕ, [], None, Some, IsOk, IsTrue, OnOk};
 ghost use Rattle.ht_outside.specs.Causes.{HasCause};
 ghost use Rattle.ht_outside.specs.Disks.{Both, Holds};
 ghost use Rattle.ht_outside.specs.Moments.{LeavesOnly};
@@ -21,6 +21,7 @@ impl JournalState {
         ensures doubt { (self.new.doubt ≡ self.old.doubt) × (doubt_of self.new ≡ doubt_of self.old) }
         ensures same { (self.new.count ≡ self.old.count) × (self.new.length ≡ self.old.length)
             × (self.new.limit ≡ self.old.limit) }
+        ensures ahead { self.new.ahead ≡ Some 0 }
     {
         self.ahead = Some(0);
     }

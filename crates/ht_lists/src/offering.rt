@@ -198,12 +198,42 @@ fn pass(
         ≤ walk.old.offers.total + length rest.old }
     ensures bound { walk.new.offers.bound ≡ walk.old.offers.bound }
 {
+    'parts: loop {
+        let first = rest.next()?;
+        let found = pass_near(tables, first, rest, person, role, which, best, walk);
+        if found.is_some() {
+            return found;
+        }
+    }
+}
+
+// The same of a task and those near it. A loop that makes no call keeps in registers what it needs.
+#[inline(always)]
+fn pass_near(
+    tables: &Tables,
+    first: TaskId,
+    rest: &mut Rest<'_>,
+    person: Person,
+    role: Option<Role>,
+    which: Which,
+    best: &Best,
+    walk: &mut Walk,
+) -> Option<TaskId>
+    requires person { person < length tables.now.tables.people.persons }
+    requires few { walk.old.offers.total + 1 + length rest.old < 2 ^ 32 }
+    requires bounds { Bounds best.now.limit best.now.keys walk.old.offers.bound }
+    ensures less { length rest.new ≤ length rest.old }
+    ensures offered { fold with_key (told best.now walk.new.offers.total)
+        (asked_keys tables.now.tables person role which (spec.left result rest.new))
+        ≡ fold with_key (told best.now walk.old.offers.total)
+        (asked_keys tables.now.tables person role which (first ∷ rest.old)) }
+    ensures few { walk.new.offers.total + length (spec.left result rest.new)
+        ≤ walk.old.offers.total + 1 + length rest.old }
+    ensures bound { walk.new.offers.bound ≡ walk.old.offers.bound }
+{
+    let mut id = first;
     let mut behind = 0;
-    'tasks: loop {
-        let Some(id) = rest.next() else {
-            walk.offers.count(behind);
-            return None;
-        };
+    'near: loop {
         match look(tables, id, person, role, which, best, walk) {
             Sight::Behind => behind += 1,
             Sight::Unasked => {}
@@ -212,6 +242,11 @@ fn pass(
                 return Some(id);
             }
         }
+        let Some(next) = rest.next_near() else {
+            walk.offers.count(behind);
+            return None;
+        };
+        id = next;
     }
 }
 

@@ -1,8 +1,6 @@
-use Rattle.std.proofs.Common.{◌≡◌, ◌+◌, ◌*◌, ◌/◌, ◌%◌, ◌^◌, ◌<◌, ◌∷◌, ap, sym, subst, ◌∙◌, arith, rules, w64}
-use Rattle.std.specs.Prelude.{bit_and}
-use Rattle.std.specs.Int.{bit_not, trailing_zeros}
+use Rattle.std.proofs.Common.{◌≡◌, ◌+◌, ◌*◌, ◌/◌, ap, sym, subst, ◌∙◌, arith}
 use Rattle.ht_index.specs.Sets.{IsFirst, tasks_in, words_left}
-use Rattle.ht_index.proofs.TasksLeft.{none_left, taken, went_on}
+use Rattle.ht_index.proofs.TasksLeft.{none_left, went_on}
 use Rattle.ht_index.proofs.rest.Rest.next.Goals as goal
 use Rattle.ht_index.proofs.rest.Rest.next.Goals.{then-self-eq0+in-Some, else-self-eq0}
 
@@ -16,25 +14,18 @@ pub returns-clause-some : goal.returns-clause-some
 returns-clause-some c =
     let i = c.self.inside in
     let j = c.if-self-eq0.self-inside in
-    let ready : (0 < j.bits) × (j.base % 64 ≡ 0) × (tasks_in (words_left (j.base / 64) j.bits j.words.now) ≡ c.args.self.now) = elim c.if-self-eq0.branch [
+    let ready : tasks_in (words_left (j.base / 64) j.bits j.words.now) ≡ c.args.self.now = elim c.if-self-eq0.branch [
       | then-self-eq0+in-Some w ↦
           let next = w.in-Some.place in
           let on = went_on i.full.now i.words.now (i.base / 64) next c.self.invariant.marks (subst (IsFirst (i.base / 64 + 1) i.full.now) w.in-Some.is w.first_from.ensures) in
           let place : 64 * next / 64 ≡ next = omega arith in
           rw w.self-inside-is (
-            subst (λ b. 0 < b) (sym w.word-self-inside.ensures) on.0,
-            omega arith,
-            ap (λ p. tasks_in (words_left p w.word-self-inside.result i.words.now)) place
-                ∙ ap (λ b. tasks_in (words_left next b i.words.now)) w.word-self-inside.ensures
-                ∙ on.1
-                ∙ sym (ap (λ b. tasks_in (words_left (i.base / 64) b i.words.now)) w.if-self-eq0.true)
-                ∙ c.self.view_is,
+          ap (λ p. tasks_in (words_left p w.word-self-inside.result i.words.now)) place
+          ∙ ap (λ b. tasks_in (words_left next b i.words.now)) w.word-self-inside.ensures
+          ∙ on.1
+          ∙ sym (ap (λ b. tasks_in (words_left (i.base / 64) b i.words.now)) w.if-self-eq0.true)
+          ∙ c.self.view_is
           )
-      | else-self-eq0 w ↦
-          let bits = w.if-self-eq0.false in
-          rw w.self-inside-is (omega arith, c.self.invariant.whole, c.self.view_is)
+      | else-self-eq0 w ↦ rw w.self-inside-is c.self.view_is
     ] in
-    let base : 64 * (j.base / 64) ≡ j.base = omega (arith, ready.1) in
-    sym ready.2
-    ∙ taken j.words.now (j.base / 64) j.bits ready.0 (search rules)
-    ∙ ap (λ n. record { 0 = n + trailing_zeros w64 j.bits } ∷ tasks_in (words_left (j.base / 64) (bit_and j.bits (bit_not w64 (1 * 2 ^ trailing_zeros w64 j.bits % 2 ^ 64))) j.words.now)) base
+    sym ready ∙ c.take_lowest.ensures j.words.now
